@@ -1,0 +1,15 @@
+-- Every example of the two tables holds, by computation.
+use mathlib.Core.Path.{refl}
+use Rattle.format.specs.Examples.{AllHold, table}
+use Rattle.format.specs.Misreadings.{misreadings}
+use Rattle.format.proofs.Meaning.{meaning}
+
+pub examples-hold : AllHold table
+unfolding meaning
+examples-hold =
+    (refl, (refl, (refl, (refl, (refl, (refl, (refl, (refl, (refl, (refl, (refl, (refl, (refl, (refl, (refl, (refl, (refl, tt)))))))))))))))))
+
+pub misreadings-kept-out : AllHold misreadings
+unfolding meaning
+misreadings-kept-out =
+    (refl, (refl, (refl, (refl, (refl, (refl, (refl, (refl, (refl, (refl, (refl, (refl, (refl, tt)))))))))))))

@@ -1,0 +1,3 @@
+-- Laws over the definitions of the format.
+pub mod Meaning
+pub mod Examples

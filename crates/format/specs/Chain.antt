@@ -1,0 +1,53 @@
+-- The chain of blocks and the tail behind the last of them.
+use Prim.Native.Nat.{ℕ, zero, suc, _+_}
+use mathlib.Core.Bool.{Bool, true, false, _||_}
+use mathlib.Core.List.{List, [], _∷_, map}
+use lib.ListN.{drop}
+use Rattle.format.specs.declared.block.Block.{Block}
+use Rattle.format.specs.Bytes.{Bytes, begins, allZero}
+use Rattle.format.specs.Outcome.{Outcome, accepted, refused, refusal, need, _>>=_, _>>_}
+use Rattle.format.specs.Comments.{indexLine}
+use Rattle.format.specs.Tree.{mark}
+use Rattle.format.specs.Block.{block, isStreamed}
+
+abbrev pub mostBlocks : ℕ
+mostBlocks = 64
+
+-- the blocks of a file and what stands behind the last of them; behind a streamed one nothing does
+pub record Chain : Type 0 where
+  pub blocks : List Block
+  pub tail : Bytes
+
+-- how far the end of a block's allocated space is from its first byte
+abbrev pub extent : Block → ℕ
+extent b = 6 + b .«header_size» + b .allocated
+
+-- nothing, zero bytes only, or an index to be judged
+abbrev pub isTail : Bytes → Bool
+isTail t = allZero t || begins indexLine t
+
+-- no further block, and t behind the last
+abbrev pub ended : Bytes → Chain
+ended t = record { blocks = []; tail = t }
+
+-- b in front of the blocks behind it
+abbrev pub linked : Block → Chain → Chain
+linked b c = record { blocks = b ∷ c .blocks; tail = c .tail }
+
+-- what stands at offset n, where no block begins
+unfoldable pub tail : ℕ → Bytes → Outcome Chain
+tail n t = do
+  need (isTail t) 17 n
+  accepted (ended t)
+
+-- the blocks from offset n on, where t stands: the first is number i, and k of them are allowed
+unfoldable pub chain : ℕ → ℕ → ℕ → Bytes → Outcome Chain
+chain zero i n t = elim (begins mark t) [ true ↦ refused (refusal 16 n) | false ↦ tail n t ]
+chain (suc k) i n t =
+    elim (begins mark t) [
+      | true ↦ do
+        b ← block i n t
+        c ← elim (isStreamed (b .flags)) [ true ↦ accepted (ended []) | false ↦ chain k (i + 1) (n + extent b) (drop (extent b) t) ]
+        accepted (linked b c)
+      | false ↦ tail n t
+    ]

@@ -1,0 +1,72 @@
+-- One file by itself, front to back.
+use Prim.Native.Nat.{ℕ}
+use mathlib.Core.Bool.{Bool, true, false, _||_, not}
+use mathlib.Core.List.{List, [], _∷_, map}
+use mathlib.Core.Option.{Option, none, some}
+use lib.ListN.{length, drop, getElem?}
+use lib.Dec.{leb}
+use Rattle.format.specs.declared.layout.Header.{Header}
+use Rattle.format.specs.declared.layout.Tree.{Tree}
+use Rattle.format.specs.declared.layout.Tree.the-variants.{NoTree, Found}
+use Rattle.format.specs.declared.layout.Verdict.{Verdict}
+use Rattle.format.specs.declared.layout.Layout.{Layout}
+use Rattle.format.specs.declared.block.Block.{Block}
+use Rattle.format.specs.Bytes.{Bytes, begins}
+use Rattle.format.specs.Outcome.{Outcome, accepted, need, _>>=_, _>>_}
+use Rattle.format.specs.Line.{lines}
+use Rattle.format.specs.Header.{header}
+use Rattle.format.specs.Comments.{comments}
+use Rattle.format.specs.Tree.{tree, mark}
+use Rattle.format.specs.Chain.{chain, mostBlocks}
+use Rattle.format.specs.Index.{verdict}
+
+-- the longest file
+abbrev pub mostBytes : ℕ
+mostBytes = 4294967295
+
+-- all that is reported of one file by itself
+pub record File : Type 0 where
+  pub header : Header
+  pub commentsEnd : ℕ
+  pub tree : Tree
+  pub blocks : List Block
+  pub verdict : Verdict
+
+-- where the first block begins, if there is one: behind a tree's room, or where the comments end, at n
+unfoldable pub firstBlock : ℕ → Tree → ℕ
+firstBlock n NoTree = n
+firstBlock n (Found a e m) = m .0
+
+-- t, with which the file goes on where no tree begins, is nothing or begins a block
+unfoldable pub goesOn : Tree → Bytes → Bool
+goesOn (Found a e m) t = true
+goesOn NoTree [] = true
+goesOn NoTree (b ∷ t) = begins mark (b ∷ t)
+
+abbrev pub offsets : List Block → List ℕ
+offsets bs = map (λ (b : Block). b .at .0) bs
+
+unfoldable pub file : Bytes → Outcome File
+file s = do
+  need (leb (length s) mostBytes) 1 0
+  h ← header s
+  n ← comments (h .end .0) (lines (drop (h .end .0) s))
+  t ← tree n s
+  need (goesOn t (drop n s)) 7 n
+  c ← chain mostBlocks 0 (firstBlock n t) (drop (firstBlock n t) s)
+  accepted (record { header = h; commentsEnd = n; tree = t; blocks = c .blocks; verdict = verdict (offsets (c .blocks)) (c .tail) })
+
+-- what is answered of it
+unfoldable pub layoutOf : File → Layout
+layoutOf f = record { header = f .header; «comments_end» = record { 0 = f .commentsEnd }; tree = f .tree; blocks = length (f .blocks); verdict = f .verdict }
+
+unfoldable pub layout : Bytes → Outcome Layout
+layout s = do
+  f ← file s
+  accepted (layoutOf f)
+
+-- the block of an ordinal, if there is one
+unfoldable pub blockAt : Bytes → ℕ → Outcome (Option Block)
+blockAt s i = do
+  f ← file s
+  accepted (getElem? (f .blocks) i)

@@ -1,0 +1,44 @@
+-- The header: `#ASDF`, one space, a version, a line end.
+use Prim.Native.Nat.{ℕ, _+_}
+use mathlib.Core.List.{List, [], _∷_}
+use mathlib.Core.Option.{Option, none, some}
+use lib.ListN.{drop}
+use lib.Dec.{eqb}
+use Rattle.format.specs.declared.layout.Version.{Version}
+use Rattle.format.specs.declared.layout.Header.{Header}
+use Rattle.format.specs.Bytes.{Bytes, text, begins}
+use Rattle.format.specs.Outcome.{Outcome, accepted, refused, refusal, need, _>>_}
+use Rattle.format.specs.Numeral.{numerals, split}
+use Rattle.format.specs.Line.{Lines, unended, line, behind, lines}
+
+-- what a file begins with
+abbrev pub token : Bytes
+token = text "#ASDF "
+
+unfoldable pub versionOf : Option (List ℕ) → Option Version
+versionOf none = none
+versionOf (some []) = none
+versionOf (some (x ∷ [])) = none
+versionOf (some (x ∷ y ∷ [])) = none
+versionOf (some (x ∷ y ∷ z ∷ [])) = some (record { major = x; minor = y; patch = z })
+versionOf (some (x ∷ y ∷ z ∷ w ∷ r)) = none
+
+-- three decimal numbers of 1 to 4 digits, joined by points
+unfoldable pub version : Bytes → Option Version
+version t = versionOf (numerals 4 (split 46 t))
+
+-- the header whose version is v and whose line ends at offset e
+unfoldable pub headerOf : Option Version → ℕ → Outcome Header
+headerOf none e = refused (refusal 3 6)
+headerOf (some v) e = do
+  need (eqb (v .major) 1) 4 6
+  accepted (record { version = v; end = record { 0 = e } })
+
+unfoldable pub versionLine : Lines → Outcome Header
+versionLine (unended t) = refused (refusal 3 6)
+versionLine (line t e l) = headerOf (version t) (behind 6 t e)
+
+unfoldable pub header : Bytes → Outcome Header
+header s = do
+  need (begins token s) 2 0
+  versionLine (lines (drop 6 s))

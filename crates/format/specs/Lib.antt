@@ -1,0 +1,21 @@
+-- The meaning of an ASDF file, front to back.
+pub mod Bytes
+pub mod Numeral
+pub mod Outcome
+pub mod Line
+pub mod Header
+pub mod Comments
+pub mod Tree
+pub mod Block
+pub mod Chain
+pub mod Index
+pub mod File
+pub mod IndexWriter
+pub mod Nest
+pub mod Outline
+pub mod Lent
+pub mod Edit
+pub mod Listing
+pub mod Answer
+pub mod Examples
+pub mod Misreadings

@@ -1,0 +1,51 @@
+-- What a hasty reader would get wrong, as a second table of the same form. proofs/Examples.antt proves that all of it holds.
+use Prim.Native.Nat.{ℕ, zero, suc}
+use mathlib.Core.List.{List, [], _∷_, _++_}
+use lib.ListN.{length, replicate}
+use Rattle.format.specs.declared.block.Inner.the-variants.{Plain, Opened, Refused, TooDeep}
+use Rattle.format.specs.declared.layout.Tree.the-variants.{NoTree}
+use Rattle.format.specs.declared.layout.Verdict.the-variants.{Absent, IgnoredForm, IgnoredList}
+use Rattle.format.specs.Bytes.{Bytes, text}
+use Rattle.format.specs.Outcome.{accepted, refused, refusal}
+use Rattle.format.specs.Tree.{mark}
+use Rattle.format.specs.Examples.{Example, Reads, States, fileA, fileB, blockHeader, emptyBlock, indexWith, layoutWith, treeAt}
+
+-- n copies, one behind another
+abbrev pub copies : ℕ → Bytes → Bytes
+copies zero t = []
+copies (suc n) t = t ++ copies n t
+
+-- a block that holds these bytes
+abbrev pub blockOf : Bytes → Bytes
+blockOf t = blockHeader 48 (length t) (length t) (length t) ++ t
+
+-- B inside so many files
+abbrev pub nested : ℕ → Bytes
+nested zero = fileB
+nested (suc n) = fileA ++ blockOf (nested n)
+
+abbrev pub misreadings : List Example
+misreadings =
+    -- the mark inside a tree begins no block
+    Reads (fileA ++ text "%YAML 1.1\n---\n" ++ mark ++ text "\n...\n") (layoutWith (treeAt 12 35 35) 0 Absent)
+    -- three characters on a line are not the tree's end, and neither is `...` with two 0D behind it
+    ∷ Reads (fileA ++ text "%YAML 1.1\n---\nabc\n...\r\r\n...\r\n ") (layoutWith (treeAt 12 41 42) 0 Absent)
+    -- a size of all FF does not wrap around
+    ∷ Reads (fileA ++ blockHeader 48 0xFFFF_FFFF_FFFF_FFFF 0 0) (refused (refusal 15 12))
+    -- used equal to allocated, and one above
+    ∷ Reads (fileA ++ blockOf (text "x")) (layoutWith NoTree 1 Absent)
+    ∷ Reads (fileA ++ blockHeader 48 1 2 2 ++ text "xy") (refused (refusal 13 12))
+    -- a refused inner file does not refuse the outer one, and its place counts from its own first byte
+    ∷ States (fileA ++ blockOf (text "#ASDF ") ++ emptyBlock) (accepted (Refused (refusal 3 6) ∷ Plain ∷ []))
+    -- eight files deep, and nine
+    ∷ States (nested 7) (accepted (replicate 7 Opened ++ (Plain ∷ [])))
+    ∷ States (nested 8) (accepted (replicate 7 Opened ++ (TooDeep ∷ [])))
+    -- an index line among the comments is no comment
+    ∷ Reads (fileA ++ text "#ASDF BLOCK INDEX\n%YAML 1.1\n--- [12]\n...\n") (refused (refusal 6 12))
+    -- an index of nothing, and a number above 2^32
+    ∷ Reads (fileB ++ indexWith []) (layoutWith NoTree 1 IgnoredForm)
+    ∷ Reads (fileB ++ indexWith (text "4294967308")) (layoutWith NoTree 1 IgnoredList)
+    -- 64 blocks, and the mark of one more
+    ∷ Reads (fileA ++ copies 64 emptyBlock) (layoutWith NoTree 64 Absent)
+    ∷ Reads (fileA ++ copies 64 emptyBlock ++ mark) (refused (refusal 16 3468))
+    ∷ []

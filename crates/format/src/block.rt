@@ -1,0 +1,44 @@
+// What is reported of a block.
+use crate::offset::Offset;
+use crate::offset::OutermostOffset;
+use crate::refusal::Refusal;
+
+// A block of one file by itself.
+pub struct Block {
+    // Its number in its file, from 0.
+    pub ordinal: u8,
+    // Its first byte, in its file.
+    pub at: Offset,
+    pub header_size: u16,
+    // Bit 0 is STREAMED.
+    pub flags: u32,
+    // The four bytes of the name, the first the most significant; 0 for none.
+    pub compression: u32,
+    // The three sizes; of a streamed block each is the length of its content.
+    pub allocated: u64,
+    pub used: u64,
+    pub data_size: u64,
+    // The sixteen bytes of the checksum, in two halves; both 0 for none.
+    pub checksum_high: u64,
+    pub checksum_low: u64,
+}
+
+// The inner state: what a block's content is as a file of its own.
+pub enum Inner {
+    Plain,
+    Opened,
+    // The content begins like a file and is refused. The place counts from its first byte.
+    Refused(Refusal),
+    // The content begins like a file and lies deeper than files are read.
+    TooDeep,
+}
+
+// A block among all blocks of an outermost file, in walking order.
+pub struct Record {
+    // How many files lie around the block's own.
+    pub depth: u8,
+    // Its first byte, in the outermost file.
+    pub at: OutermostOffset,
+    pub block: Block,
+    pub inner: Inner,
+}
