@@ -1,0 +1,238 @@
+//! Blocks: the header of one, the chain of them, and the tail behind the last.
+
+use crate::index::INDEX_LINE;
+use crate::offset::InFile;
+use crate::refusal::*;
+
+/// The four bytes with which every block begins.
+const MARK: [u8; 4] = [0xD3, 0x42, 0x4C, 0x4B];
+/// H counts from this offset in the block.
+const HEADER_SIZE_COUNTS_FROM: usize = 6;
+/// The smallest H.
+pub(crate) const LEAST_HEADER_SIZE: u16 = 48;
+/// The bytes of a block header with the smallest H: all named fields.
+pub(crate) const LEAST_HEADER_BYTES: usize = HEADER_SIZE_COUNTS_FROM + LEAST_HEADER_SIZE as usize;
+/// The most blocks a file may have.
+pub(crate) const MOST_BLOCKS: usize = 64;
+const STREAMED_FLAG: u32 = 1;
+const NO_COMPRESSION: [u8; 4] = [0; 4];
+const NO_CHECKSUM: [u8; 16] = [0; 16];
+
+/// All that is reported of a block in its own file, except its inner state.
+#[derive(Debug, Clone, Copy, PartialEq, Eq)]
+pub struct Block {
+    /// Its place in the file's chain, from 0.
+    pub ordinal: u8,
+    /// Where its mark stands in its own file.
+    pub offset: InFile,
+    /// H, counted from offset 6 of the block.
+    pub header_size: u16,
+    pub flags: u32,
+    /// The compression name, four zeros for none.
+    pub compression: [u8; 4],
+    /// The allocated size; of a streamed block the length to the end of its file.
+    pub allocated: u32,
+    /// The used size; of a streamed block the length to the end of its file.
+    pub used: u32,
+    /// The data size as it is stored.
+    pub data_size: u64,
+    /// The checksum, sixteen zeros for none.
+    pub checksum: [u8; 16],
+}
+
+impl Block {
+    /// Whether the block's content is everything to the end of its file.
+    pub fn is_streamed(&self) -> bool {
+        is_streamed(self.flags)
+    }
+
+    /// Whether the block names a compression.
+    pub fn is_compressed(&self) -> bool {
+        self.compression != NO_COMPRESSION
+    }
+
+    /// Whether the block states a checksum.
+    pub fn has_checksum(&self) -> bool {
+        self.checksum != NO_CHECKSUM
+    }
+
+    /// Where the content begins.
+    pub(crate) fn content_start(&self) -> InFile {
+        let header_bytes = HEADER_SIZE_COUNTS_FROM + usize::from(self.header_size);
+        InFile::at(self.offset.position() + header_bytes)
+    }
+
+    /// Where the allocated space ends.
+    pub(crate) fn end(&self) -> InFile {
+        InFile::at(self.content_start().position() + self.allocated as usize)
+    }
+
+    /// The used part, as a part of the block's own file.
+    pub(crate) fn content<'a>(&self, file: &'a [u8]) -> &'a [u8] {
+        &file[self.content_start().position()..][..self.used as usize]
+    }
+}
+
+/// What stands behind the last block.
+pub(crate) enum Tail {
+    /// No index: nothing, zeros, or a streamed block that leaves no tail.
+    NoIndex,
+    /// Something from this position that begins as an index.
+    Index(usize),
+}
+
+/// A file's own blocks and its tail.
+pub(crate) struct Chain {
+    pub blocks: Vec<Block>,
+    pub tail: Tail,
+}
+
+impl Chain {
+    /// The chain of a file without blocks.
+    pub(crate) fn empty() -> Chain {
+        Chain {
+            blocks: Vec::new(),
+            tail: Tail::NoIndex,
+        }
+    }
+}
+
+/// Whether a block begins at this position.
+pub(crate) fn mark_at(file: &[u8], position: usize) -> bool {
+    file[position..].starts_with(&MARK)
+}
+
+/// The first mark at or behind a position.
+pub(crate) fn find_mark(file: &[u8], from: usize) -> Option<usize> {
+    let mut at = from;
+    loop {
+        at += file[at..].iter().position(|&byte| byte == MARK[0])?;
+        if mark_at(file, at) {
+            return Some(at);
+        }
+        at += 1;
+    }
+}
+
+/// Walks from the first mark to the last block and judges the tail (11 to 17).
+pub(crate) fn walk_chain(file: &[u8], first: usize) -> Result<Chain, Refusal> {
+    let mut blocks = Vec::new();
+    let mut at = first;
+    loop {
+        if blocks.len() == MOST_BLOCKS {
+            return Err(Refusal::at(TOO_MANY_BLOCKS, at));
+        }
+        let block = read_block(file, at, blocks.len() as u8)?;
+        blocks.push(block);
+        if block.is_streamed() {
+            return Ok(Chain {
+                blocks,
+                tail: Tail::NoIndex,
+            });
+        }
+        at = block.end().position();
+        if !mark_at(file, at) {
+            return Ok(Chain {
+                blocks,
+                tail: judge_tail(file, at)?,
+            });
+        }
+    }
+}
+
+/// Judges what stands behind a last block that is not streamed (17).
+fn judge_tail(file: &[u8], start: usize) -> Result<Tail, Refusal> {
+    let tail = &file[start..];
+    if tail.starts_with(INDEX_LINE) {
+        Ok(Tail::Index(start))
+    } else if only_zeros(tail) {
+        Ok(Tail::NoIndex)
+    } else {
+        Err(Refusal::at(STRAY_TAIL, start))
+    }
+}
+
+/// Whether there is nothing but zero bytes, or nothing at all.
+pub(crate) fn only_zeros(bytes: &[u8]) -> bool {
+    bytes.iter().all(|&byte| byte == 0)
+}
+
+/// Reads the block whose mark stands at `start` (11, 12, 11, 13, 14, 15).
+fn read_block(file: &[u8], start: usize, ordinal: u8) -> Result<Block, Refusal> {
+    let refused = |number| Refusal::at(number, start);
+    let bytes = &file[start..];
+    let header_size = header_size(bytes).ok_or(refused(HEADER_PASSES_END))?;
+    if header_size < LEAST_HEADER_SIZE {
+        return Err(refused(HEADER_TOO_SMALL));
+    }
+    let header_bytes = HEADER_SIZE_COUNTS_FROM + usize::from(header_size);
+    let behind_header = bytes
+        .get(header_bytes..)
+        .ok_or(refused(HEADER_PASSES_END))?;
+    // H is at least 48, so every named field lies in these bytes.
+    let fields = bytes.first_chunk().ok_or(refused(HEADER_PASSES_END))?;
+
+    let flags = u32::from_be_bytes(field(fields, 6));
+    let compression = field(fields, 10);
+    let stored = StoredSizes {
+        allocated: u64::from_be_bytes(field(fields, 14)),
+        used: u64::from_be_bytes(field(fields, 22)),
+        data: u64::from_be_bytes(field(fields, 30)),
+    };
+    let (allocated, used) = if is_streamed(flags) {
+        (behind_header.len() as u32, behind_header.len() as u32)
+    } else {
+        stored
+            .judge(compression, behind_header.len())
+            .map_err(refused)?
+    };
+    Ok(Block {
+        ordinal,
+        offset: InFile::at(start),
+        header_size,
+        flags,
+        compression,
+        allocated,
+        used,
+        data_size: stored.data,
+        checksum: field(fields, 38),
+    })
+}
+
+/// H, if the mark and the field are inside the file.
+fn header_size(block: &[u8]) -> Option<u16> {
+    let field = block.get(MARK.len()..)?.first_chunk()?;
+    Some(u16::from_be_bytes(*field))
+}
+
+/// One field of a block header.
+fn field<const N: usize>(header: &[u8; LEAST_HEADER_BYTES], at: usize) -> [u8; N] {
+    std::array::from_fn(|i| header[at + i])
+}
+
+fn is_streamed(flags: u32) -> bool {
+    flags & STREAMED_FLAG != 0
+}
+
+/// The three sizes as they are stored, with all their 64 bits.
+struct StoredSizes {
+    allocated: u64,
+    used: u64,
+    data: u64,
+}
+
+impl StoredSizes {
+    /// The allocated and used sizes, or the number that refuses them (13, 14, 15).
+    /// A size is compared with the bytes that are left, never added to an offset before.
+    fn judge(&self, compression: [u8; 4], left: usize) -> Result<(u32, u32), u8> {
+        if self.used > self.allocated {
+            Err(USED_ABOVE_ALLOCATED)
+        } else if compression == NO_COMPRESSION && self.data != self.used {
+            Err(DATA_SIZE_DIFFERS)
+        } else if self.allocated > left as u64 {
+            Err(ALLOCATED_PASSES_END)
+        } else {
+            Ok((self.allocated as u32, self.used as u32))
+        }
+    }
+}

@@ -1,0 +1,29 @@
+//! The tree edit: another tree in the room of the old one.
+
+use crate::layout::judge;
+use crate::refusal::*;
+use crate::tree::tree_end;
+
+/// Puts `text` in the place of the file's tree and fills the room behind it
+/// with spaces (1 to 17, 18, 19, 20). The file's length stays.
+pub fn edit(file: &mut [u8], text: &[u8]) -> Result<(), Refusal> {
+    let tree = judge(file)?
+        .tree
+        .ok_or(Refusal::of_whole(EDIT_WITHOUT_TREE))?;
+    if !is_exactly_one_tree(text) {
+        return Err(Refusal::of_whole(TEXT_NOT_ONE_TREE));
+    }
+    let room = &mut file[tree.start.position()..tree.room_end.position()];
+    if text.len() > room.len() {
+        return Err(Refusal::of_whole(TEXT_LONGER_THAN_ROOM));
+    }
+    let (new_tree, free_space) = room.split_at_mut(text.len());
+    new_tree.copy_from_slice(text);
+    free_space.fill(b' ');
+    Ok(())
+}
+
+/// Whether a tree begins with the text's first byte and ends with its last.
+fn is_exactly_one_tree(text: &[u8]) -> bool {
+    tree_end(text, 0) == Ok(Some(text.len()))
+}

@@ -1,0 +1,33 @@
+//! An independent second reader of the ASDF file layout.
+//!
+//! It works on plain slices, keeps nothing between calls and exists to be
+//! compared with the verified implementation. Document 01 decides, document
+//! 000 behind it; NOTES.md lists what was decided where both leave room.
+
+#![forbid(unsafe_code)]
+
+mod block;
+mod edit;
+mod header;
+mod index;
+mod layout;
+mod line;
+mod listing;
+mod offset;
+mod outline;
+mod records;
+mod refusal;
+mod tree;
+
+pub use block::Block;
+pub use edit::edit;
+pub use header::Version;
+pub use index::{write_index, Verdict, LONGEST_INDEX};
+pub use layout::{read, Layout, Stretch, Tree};
+pub use listing::{listing, PROGRAM_LIMIT};
+pub use offset::{InFile, Outermost};
+pub use outline::{
+    most_rows, outline, read_outline, rewrite_outline, row_count, rows, InnerKind, Row, ROW_LENGTH,
+};
+pub use records::{records, Inner, Record};
+pub use refusal::Refusal;

@@ -1,0 +1,60 @@
+//! The tree's extent. Its content is not interpreted.
+
+use crate::line::{after_exact_line, line_at, Line};
+use crate::refusal::*;
+
+/// The first line of a tree, and the second of an index.
+pub(crate) const YAML_LINE: &[u8] = b"%YAML 1.1";
+/// The last line of a tree and of an index.
+pub(crate) const END_LINE: &[u8] = b"...";
+
+/// Where the tree that starts at `start` ends; none where no tree starts there (8, 9, 10).
+pub(crate) fn tree_end(bytes: &[u8], start: usize) -> Result<Option<usize>, Refusal> {
+    match after_exact_line(&bytes[start..], YAML_LINE) {
+        None => Ok(None),
+        Some(behind) => {
+            let content_start = behind_start_line(bytes, bytes.len() - behind.len())?;
+            behind_end_line(bytes, content_start).map(Some)
+        }
+    }
+}
+
+/// Passes the lines before the start line and the start line itself.
+fn behind_start_line(bytes: &[u8], from: usize) -> Result<usize, Refusal> {
+    let mut at = from;
+    loop {
+        let line = tree_line(bytes, at)?;
+        if is_start_line(line.text) {
+            return Ok(line.end);
+        }
+        if !matches!(line.text.first(), Some(b'%' | b'#')) {
+            return Err(Refusal::at(WRONG_LINE_BEFORE_START, at));
+        }
+        at = line.end;
+    }
+}
+
+/// Passes the content and the end line.
+fn behind_end_line(bytes: &[u8], from: usize) -> Result<usize, Refusal> {
+    let mut at = from;
+    loop {
+        let line = tree_line(bytes, at)?;
+        if line.text == END_LINE {
+            return Ok(line.end);
+        }
+        if is_start_line(line.text) {
+            return Err(Refusal::at(SECOND_START_LINE, at));
+        }
+        at = line.end;
+    }
+}
+
+/// The next line of a tree, which must be there and be ended.
+fn tree_line(bytes: &[u8], start: usize) -> Result<Line<'_>, Refusal> {
+    line_at(bytes, start).ok_or(Refusal::at(TREE_NOT_ENDED, start))
+}
+
+/// `---` alone, or `---` and a space and anything.
+fn is_start_line(text: &[u8]) -> bool {
+    text == b"---" || text.starts_with(b"--- ")
+}

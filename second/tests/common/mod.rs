@@ -1,0 +1,160 @@
+//! Builds the parts of test files.
+#![allow(dead_code)]
+
+use asdf_second::Refusal;
+
+/// Document 01's A: 12 bytes.
+pub const A: &[u8] = b"#ASDF 1.0.0\n";
+/// The four bytes of a block mark.
+pub const MARK: &[u8] = &[0xD3, 0x42, 0x4C, 0x4B];
+/// The smallest tree: 18 bytes.
+pub const TREE: &[u8] = b"%YAML 1.1\n---\n...\n";
+/// The bytes of a block header with H 48.
+pub const HEADER_BYTES: usize = 54;
+
+/// A block to be changed field by field and then turned to bytes.
+#[derive(Clone)]
+pub struct BlockParts {
+    header_size: u16,
+    flags: u32,
+    compression: [u8; 4],
+    allocated: u64,
+    used: u64,
+    data_size: u64,
+    checksum: [u8; 16],
+    behind_header: Vec<u8>,
+}
+
+/// A block with H 48 and every other field zero.
+pub fn block() -> BlockParts {
+    BlockParts {
+        header_size: 48,
+        flags: 0,
+        compression: [0; 4],
+        allocated: 0,
+        used: 0,
+        data_size: 0,
+        checksum: [0; 16],
+        behind_header: Vec::new(),
+    }
+}
+
+/// A block that holds this content, all three sizes being its length.
+pub fn block_of(content: &[u8]) -> BlockParts {
+    block().sizes(content.len() as u64).behind_header(content)
+}
+
+/// A streamed block with this content and zero sizes.
+pub fn streamed(content: &[u8]) -> BlockParts {
+    block().flags(1).behind_header(content)
+}
+
+impl BlockParts {
+    pub fn header_size(mut self, value: u16) -> Self {
+        self.header_size = value;
+        self
+    }
+    pub fn flags(mut self, value: u32) -> Self {
+        self.flags = value;
+        self
+    }
+    pub fn compression(mut self, name: &[u8; 4]) -> Self {
+        self.compression = *name;
+        self
+    }
+    pub fn sizes(self, value: u64) -> Self {
+        self.allocated(value).used(value).data_size(value)
+    }
+    pub fn allocated(mut self, value: u64) -> Self {
+        self.allocated = value;
+        self
+    }
+    pub fn used(mut self, value: u64) -> Self {
+        self.used = value;
+        self
+    }
+    pub fn data_size(mut self, value: u64) -> Self {
+        self.data_size = value;
+        self
+    }
+    pub fn checksum(mut self, value: [u8; 16]) -> Self {
+        self.checksum = value;
+        self
+    }
+    pub fn behind_header(mut self, bytes: &[u8]) -> Self {
+        self.behind_header = bytes.to_vec();
+        self
+    }
+
+    /// The header, zeros up to 6 + H where H is above 48, and what stands behind.
+    pub fn bytes(&self) -> Vec<u8> {
+        let mut bytes = MARK.to_vec();
+        bytes.extend(self.header_size.to_be_bytes());
+        bytes.extend(self.flags.to_be_bytes());
+        bytes.extend(self.compression);
+        bytes.extend(self.allocated.to_be_bytes());
+        bytes.extend(self.used.to_be_bytes());
+        bytes.extend(self.data_size.to_be_bytes());
+        bytes.extend(self.checksum);
+        bytes.resize(HEADER_BYTES.max(6 + usize::from(self.header_size)), 0);
+        bytes.extend(&self.behind_header);
+        bytes
+    }
+}
+
+/// Parts one behind another.
+pub fn join(parts: &[&[u8]]) -> Vec<u8> {
+    parts.concat()
+}
+
+/// Document 01's B: A and one block with every other field zero, 66 bytes.
+pub fn b() -> Vec<u8> {
+    join(&[A, &block().bytes()])
+}
+
+/// Document 01's T: A, the smallest tree, 10 spaces and that block.
+pub fn t() -> Vec<u8> {
+    join(&[A, TREE, &[b' '; 10], &block().bytes()])
+}
+
+/// A and this one block.
+pub fn file_with(block: BlockParts) -> Vec<u8> {
+    join(&[A, &block.bytes()])
+}
+
+/// A and this many empty blocks.
+pub fn file_of_blocks(count: usize) -> Vec<u8> {
+    join(&[A, &block().bytes().repeat(count)])
+}
+
+/// A tree whose content is this text.
+pub fn tree_of(content: &str) -> Vec<u8> {
+    format!("%YAML 1.1\n---\n{content}...\n").into_bytes()
+}
+
+/// An index in the written form, with this text between the brackets.
+pub fn index_of(list: &str) -> Vec<u8> {
+    format!("#ASDF BLOCK INDEX\n%YAML 1.1\n--- [{list}]\n...\n").into_bytes()
+}
+
+/// The same text with every 0A turned to 0D 0A.
+pub fn with_crlf(text: &[u8]) -> Vec<u8> {
+    text.iter()
+        .flat_map(|&byte| {
+            if byte == b'\n' {
+                b"\r\n".to_vec()
+            } else {
+                vec![byte]
+            }
+        })
+        .collect()
+}
+
+/// A file wrapped `times` over in a file with one block.
+pub fn wrapped(file: &[u8], times: usize) -> Vec<u8> {
+    (0..times).fold(file.to_vec(), |inner, _| file_with(block_of(&inner)))
+}
+
+pub fn refusal(number: u8, place: u64) -> Refusal {
+    Refusal { number, place }
+}
