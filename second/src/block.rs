@@ -30,11 +30,11 @@ pub struct Block {
     pub flags: u32,
     /// The compression name, four zeros for none.
     pub compression: [u8; 4],
-    /// The allocated size; of a streamed block the length to the end of its file.
+    /// The allocated size; of a streamed block the length of its content.
     pub allocated: u32,
-    /// The used size; of a streamed block the length to the end of its file.
+    /// The used size; of a streamed block the length of its content.
     pub used: u32,
-    /// The data size as it is stored.
+    /// The data size, with all its 64 bits; of a streamed block the length of its content.
     pub data_size: u64,
     /// The checksum, sixteen zeros for none.
     pub checksum: [u8; 16],
@@ -174,14 +174,14 @@ fn read_block(file: &[u8], start: usize, ordinal: u8) -> Result<Block, Refusal> 
 
     let flags = u32::from_be_bytes(field(fields, 6));
     let compression = field(fields, 10);
-    let stored = StoredSizes {
-        allocated: u64::from_be_bytes(field(fields, 14)),
-        used: u64::from_be_bytes(field(fields, 22)),
-        data: u64::from_be_bytes(field(fields, 30)),
-    };
-    let (allocated, used) = if is_streamed(flags) {
-        (behind_header.len() as u32, behind_header.len() as u32)
+    let sizes = if is_streamed(flags) {
+        Sizes::of_streamed(behind_header.len())
     } else {
+        let stored = StoredSizes {
+            allocated: u64::from_be_bytes(field(fields, 14)),
+            used: u64::from_be_bytes(field(fields, 22)),
+            data: u64::from_be_bytes(field(fields, 30)),
+        };
         stored
             .judge(compression, behind_header.len())
             .map_err(refused)?
@@ -192,9 +192,9 @@ fn read_block(file: &[u8], start: usize, ordinal: u8) -> Result<Block, Refusal> 
         header_size,
         flags,
         compression,
-        allocated,
-        used,
-        data_size: stored.data,
+        allocated: sizes.allocated,
+        used: sizes.used,
+        data_size: sizes.data,
         checksum: field(fields, 38),
     })
 }
@@ -214,6 +214,24 @@ fn is_streamed(flags: u32) -> bool {
     flags & STREAMED_FLAG != 0
 }
 
+/// The three sizes as they are reported. Only the data size may pass 32 bits.
+struct Sizes {
+    allocated: u32,
+    used: u32,
+    data: u64,
+}
+
+impl Sizes {
+    /// The sizes of a streamed block: its fields are ignored, all three are its content's length.
+    fn of_streamed(content_length: usize) -> Sizes {
+        Sizes {
+            allocated: content_length as u32,
+            used: content_length as u32,
+            data: content_length as u64,
+        }
+    }
+}
+
 /// The three sizes as they are stored, with all their 64 bits.
 struct StoredSizes {
     allocated: u64,
@@ -222,9 +240,9 @@ struct StoredSizes {
 }
 
 impl StoredSizes {
-    /// The allocated and used sizes, or the number that refuses them (13, 14, 15).
+    /// The sizes to report, or the number that refuses them (13, 14, 15).
     /// A size is compared with the bytes that are left, never added to an offset before.
-    fn judge(&self, compression: [u8; 4], left: usize) -> Result<(u32, u32), u8> {
+    fn judge(&self, compression: [u8; 4], left: usize) -> Result<Sizes, u8> {
         if self.used > self.allocated {
             Err(USED_ABOVE_ALLOCATED)
         } else if compression == NO_COMPRESSION && self.data != self.used {
@@ -232,7 +250,11 @@ impl StoredSizes {
         } else if self.allocated > left as u64 {
             Err(ALLOCATED_PASSES_END)
         } else {
-            Ok((self.allocated as u32, self.used as u32))
+            Ok(Sizes {
+                allocated: self.allocated as u32,
+                used: self.used as u32,
+                data: self.data,
+            })
         }
     }
 }

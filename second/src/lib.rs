@@ -1,8 +1,9 @@
 //! An independent second reader of the ASDF file layout.
 //!
 //! It works on plain slices, keeps nothing between calls and exists to be
-//! compared with the verified implementation. Document 01 decides, document
-//! 000 behind it; NOTES.md lists what was decided where both leave room.
+//! compared with the verified implementation. The rules of the order decide,
+//! the ASDF standard 1.1.1 (file layout) behind them; NOTES.md lists what was
+//! decided where both leave room.
 
 #![forbid(unsafe_code)]
 

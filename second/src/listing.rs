@@ -1,4 +1,4 @@
-//! What the program of document 01 prints.
+//! What the program of the rules prints.
 
 use crate::layout::{judge, Tree};
 use crate::outline::rows_of;

@@ -1,4 +1,4 @@
-//! The program: without arguments as document 01 says, with a command the other functions.
+//! The program: without arguments as the rules say, with a command the other functions.
 
 #![forbid(unsafe_code)]
 
@@ -13,7 +13,7 @@ use std::process::ExitCode;
 const USAGE: &str = "\
 usage: asdf-second [COMMAND] < FILE
 
-Without a command: the listing of document 01, for at most 65,536 bytes.
+Without a command: the listing of the rules, for at most 65,536 bytes.
 
 Commands, each for standard input of any length:
   layout         print the file's own layout:

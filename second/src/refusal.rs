@@ -1,4 +1,4 @@
-//! What is turned away: a number of document 01's table and a place.
+//! What is turned away: a number of the rules' table and a place.
 
 use std::fmt;
 

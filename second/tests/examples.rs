@@ -1,4 +1,4 @@
-//! Document 01's examples P1 to P13.
+//! The worked examples P1 to P13.
 
 mod common;
 

@@ -148,24 +148,7 @@ fn refused_file_two_deep_leaves_the_one_around_it_opened() {
 
 #[test]
 fn every_number_from_3_to_17_can_refuse_an_inner_file() {
-    let cases: Vec<(Vec<u8>, Refusal)> = vec![
-        (b"#ASDF x".to_vec(), refusal(3, 6)),
-        (b"#ASDF 0.1.0\n".to_vec(), refusal(4, 6)),
-        (join(&[A, b"#"]), refusal(5, 12)),
-        (join(&[A, &index_of("12")]), refusal(6, 12)),
-        (join(&[A, b"x"]), refusal(7, 12)),
-        (join(&[A, b"%YAML 1.1\n...\n"]), refusal(8, 22)),
-        (join(&[A, b"%YAML 1.1\n---\n---\n"]), refusal(9, 26)),
-        (join(&[A, b"%YAML 1.1\n---\n"]), refusal(10, 26)),
-        (b()[..20].to_vec(), refusal(11, 12)),
-        (file_with(block().header_size(47)), refusal(12, 12)),
-        (file_with(block().used(1)), refusal(13, 12)),
-        (file_with(block().data_size(1)), refusal(14, 12)),
-        (file_with(block().allocated(1)), refusal(15, 12)),
-        (file_of_blocks(65), refusal(16, 12 + 64 * 54)),
-        (join(&[&b(), b"x"]), refusal(17, 66)),
-    ];
-    for (content, expected) in cases {
+    for (content, expected) in refused_files() {
         assert_eq!(read(&content), Err(expected));
         assert_eq!(inner_of(block_of(&content)), Inner::Refused(expected));
         assert_eq!(inner_of(streamed(&content)), Inner::Refused(expected));

@@ -232,7 +232,7 @@ fn commands_take_more_than_the_program_s_limit() {
     let output = run(&["records"], &file);
     assert!(output
         .stdout
-        .starts_with(b"0 0 12 48 00000001 00000000 100000 100000 0 "));
+        .starts_with(b"0 0 12 48 00000001 00000000 100000 100000 100000 "));
 }
 
 #[test]

@@ -3,7 +3,7 @@
 
 use asdf_second::Refusal;
 
-/// Document 01's A: 12 bytes.
+/// The worked example A: 12 bytes.
 pub const A: &[u8] = b"#ASDF 1.0.0\n";
 /// The four bytes of a block mark.
 pub const MARK: &[u8] = &[0xD3, 0x42, 0x4C, 0x4B];
@@ -107,12 +107,12 @@ pub fn join(parts: &[&[u8]]) -> Vec<u8> {
     parts.concat()
 }
 
-/// Document 01's B: A and one block with every other field zero, 66 bytes.
+/// The worked example B: A and one block with every other field zero, 66 bytes.
 pub fn b() -> Vec<u8> {
     join(&[A, &block().bytes()])
 }
 
-/// Document 01's T: A, the smallest tree, 10 spaces and that block.
+/// The worked example T: A, the smallest tree, 10 spaces and that block.
 pub fn t() -> Vec<u8> {
     join(&[A, TREE, &[b' '; 10], &block().bytes()])
 }
@@ -157,4 +157,25 @@ pub fn wrapped(file: &[u8], times: usize) -> Vec<u8> {
 
 pub fn refusal(number: u8, place: u64) -> Refusal {
     Refusal { number, place }
+}
+
+/// A file for each number from 3 to 17, in that order, with its refusal.
+pub fn refused_files() -> Vec<(Vec<u8>, Refusal)> {
+    vec![
+        (b"#ASDF x".to_vec(), refusal(3, 6)),
+        (b"#ASDF 0.1.0\n".to_vec(), refusal(4, 6)),
+        (join(&[A, b"#"]), refusal(5, 12)),
+        (join(&[A, &index_of("12")]), refusal(6, 12)),
+        (join(&[A, b"x"]), refusal(7, 12)),
+        (join(&[A, b"%YAML 1.1\n...\n"]), refusal(8, 22)),
+        (join(&[A, b"%YAML 1.1\n---\n---\n"]), refusal(9, 26)),
+        (join(&[A, b"%YAML 1.1\n---\n"]), refusal(10, 26)),
+        (b()[..20].to_vec(), refusal(11, 12)),
+        (file_with(block().header_size(47)), refusal(12, 12)),
+        (file_with(block().used(1)), refusal(13, 12)),
+        (file_with(block().data_size(1)), refusal(14, 12)),
+        (file_with(block().allocated(1)), refusal(15, 12)),
+        (file_of_blocks(65), refusal(16, 12 + 64 * 54)),
+        (join(&[&b(), b"x"]), refusal(17, 66)),
+    ]
 }
