@@ -2,3 +2,4 @@
 pub mod Meaning
 pub mod Examples
 pub mod PackLaws
+pub mod RowLaws

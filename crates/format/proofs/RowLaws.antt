@@ -1,0 +1,82 @@
+-- A row of an outline and its sixteen bytes give one another.
+use Prim.Native.Nat.{ℕ, zero, suc, _%_, _^_, _<_}
+use mathlib.Core.Path.{_≡_, refl, sym, ap, _∙_}
+use mathlib.Core.Bool.{Bool, true, false}
+use mathlib.Core.List.{List, [], _∷_}
+use native.Mathlib.Nat.{mod-eq-of-lt}
+use native.Mathlib.Omega.{arith}
+use lib.ListN.{length}
+use lib.Dec.{eqb}
+use Rattle.format.specs.declared.row.Row.{Row}
+use Rattle.format.specs.Bytes.{Bytes, IsBytes, bigEndian, toBytes, bit}
+use Rattle.format.specs.Outline.{rowWidths, rowBytes, fieldsOf, rowFrom, sum, packed, unpacked, encodeRow, decodeRow}
+use Rattle.format.proofs.PackLaws.{to-bytes-length, to-bytes-are-bytes, big-endian-to-bytes, big-endian-lt, to-bytes-big-endian, Fits, packed-lt, unpacked-packed, packed-unpacked}
+
+-- each field of a row fits its bits
+pub record RowFits (r : Row) : Type 0 where
+  pub depth : r .depth < 8
+  pub inner : r .inner < 4
+  pub ordinal : r .ordinal < 256
+  pub header-size : r .«header_size» < 65536
+  pub at : r .at .0 < 2 ^ 32
+  pub allocated : r .allocated < 2 ^ 32
+  pub used : r .used < 2 ^ 32
+
+-- a row is encoded in sixteen bytes
+pub encoded-length : (r : Row) → length (encodeRow r) ≡ 16
+unfolding encodeRow
+encoded-length r = to-bytes-length 16 (packed rowWidths (fieldsOf r))
+
+-- and each is a byte
+pub encoded-bytes : (r : Row) → IsBytes (encodeRow r)
+unfolding encodeRow
+encoded-bytes r = to-bytes-are-bytes 16 (packed rowWidths (fieldsOf r))
+
+-- a flag is one bit
+bit-lt : (t : Bool) → bit t < 2
+bit-lt true = omega arith
+bit-lt false = omega arith
+
+-- a flag is read back from its bit
+flag-of-bit : (t : Bool) → eqb (bit t) 1 ≡ t
+flag-of-bit true = refl
+flag-of-bit false = refl
+
+-- a bit is written back from its flag
+bit-of-flag : (x : ℕ) → bit (eqb (x % 2) 1) ≡ x % 2
+bit-of-flag x = small (x % 2) (omega arith)
+  where
+    small : (y : ℕ) → y < 2 → bit (eqb y 1) ≡ y
+    small zero h = refl
+    small (suc zero) h = refl
+    small (suc (suc y)) h = absurd (omega arith)
+
+fields-fit : (r : Row) → RowFits r → Fits rowWidths (fieldsOf r)
+unfolding fieldsOf
+fields-fit r h = omega (arith, bit-lt (r .streamed), bit-lt (r .compressed), bit-lt (r .checksum))
+
+-- the row of a row's fields
+row-from-fields : (r : Row) → rowFrom (fieldsOf r) ≡ r
+unfolding rowFrom fieldsOf
+row-from-fields r = simp flag-of-bit
+
+-- the fields of the row of a number's fields
+fields-of-row : (x : ℕ) → fieldsOf (rowFrom (unpacked rowWidths x)) ≡ unpacked rowWidths x
+unfolding rowFrom fieldsOf unpacked sum
+fields-of-row x = simp bit-of-flag
+
+-- a row that fits is decoded from its bytes
+pub decode-encode : (r : Row) → RowFits r → decodeRow (encodeRow r) ≡ r
+unfolding decodeRow encodeRow sum
+decode-encode r h =
+    rw (big-endian-to-bytes 16 (packed rowWidths (fieldsOf r)), mod-eq-of-lt (packed-lt rowWidths (fieldsOf r)), unpacked-packed rowWidths (fieldsOf r) (fields-fit r h))
+      (row-from-fields r)
+
+-- sixteen bytes are encoded again as they were
+pub encode-decode : (b : Bytes) → IsBytes b → length b ≡ 16 → encodeRow (decodeRow b) ≡ b
+unfolding decodeRow encodeRow sum
+encode-decode b h l =
+    ap (toBytes 16)
+      (ap (packed rowWidths) (fields-of-row (bigEndian b)) ∙ packed-unpacked rowWidths (bigEndian b) ∙ mod-eq-of-lt (rw l at (big-endian-lt b h)))
+    ∙ ap (λ (w : ℕ). toBytes w (bigEndian b)) (sym l)
+    ∙ to-bytes-big-endian b h
