@@ -1,5 +1,8 @@
 -- Laws over the definitions of the format.
 pub mod Meaning
 pub mod Examples
+pub mod OutcomeLaws
 pub mod PackLaws
 pub mod RowLaws
+pub mod BlockLaws
+pub mod OutlineLaws

@@ -2,14 +2,14 @@
 use Prim.Native.Nat.{ℕ, zero, suc, _+_, _*_, _/_, _%_, _^_, _≤_, _<_}
 use mathlib.Core.Path.{_≡_, refl, sym, ap, _∙_}
 use mathlib.Core.List.{List, [], _∷_, _++_}
-use native.Mathlib.Nat.{mod-lt, mod-mod, mod-eq-of-lt, pow-suc, pow-succ', one-le-pow, add-zero, mul-assoc, mul-add-div-right, mul-add-mod-self-right}
+use native.Mathlib.Nat.{lt-of-lt-of-le, pow-le-pow-right, mod-lt, mod-mod, mod-eq-of-lt, pow-suc, pow-succ', one-le-pow, add-zero, mul-assoc, mul-add-div-right, mul-add-mod-self-right}
 use native.Mathlib.Numerals.{add-one}
 use native.Mathlib.Omega.{arith}
-use lib.ListN.{length, take, drop, getD, length-append}
+use lib.ListN.{length, take, drop, getD, length-append, length-take}
 use lib.Seq.{getD-drop}
 use lib.Arith.{digits-lt, digits-div, digits-mod, mod-mul}
 use lib.Pow.{pow-pos, pow-add, high, mod-pow-add}
-use Rattle.format.specs.Bytes.{Bytes, IsBytes, bigEndian, toBytes}
+use Rattle.format.specs.Bytes.{Bytes, IsBytes, bigEndian, number, toBytes}
 use Rattle.format.specs.Outline.{sum, packed, unpacked}
 
 -- the bytes of two byte strings, one behind the other, are bytes
@@ -17,6 +17,17 @@ pub is-bytes-append : (s t : Bytes) → IsBytes s → IsBytes t → IsBytes (s +
 is-bytes-append [] t hs ht i = ht i
 is-bytes-append (b ∷ s) t hs ht zero = hs 0
 is-bytes-append (b ∷ s) t hs ht (suc i) = is-bytes-append s t (λ j. hs (suc j)) ht i
+
+-- the first n bytes are bytes
+pub is-bytes-take : (n : ℕ) (s : Bytes) → IsBytes s → IsBytes (take n s)
+is-bytes-take zero s h i = omega arith
+is-bytes-take (suc n) [] h i = h i
+is-bytes-take (suc n) (b ∷ s) h zero = h 0
+is-bytes-take (suc n) (b ∷ s) h (suc i) = is-bytes-take n s (λ j. h (suc j)) i
+
+-- and so are the others
+pub is-bytes-drop : (n : ℕ) (s : Bytes) → IsBytes s → IsBytes (drop n s)
+is-bytes-drop n s h i = rw getD-drop (h (n + i))
 
 -- a byte alone
 single-byte : (x : ℕ) → x < 256 → IsBytes (x ∷ [])
@@ -48,6 +59,12 @@ big-endian-to-bytes (suc w) x = rw (big-endian-append (toBytes w (x / 256)) (x %
 pub big-endian-lt : (b : Bytes) → IsBytes b → bigEndian b < 256 ^ length b
 big-endian-lt [] h = omega arith
 big-endian-lt (x ∷ b) h = rw pow-succ' (digits-lt (h 0) (big-endian-lt b (λ i. h (suc i))))
+
+-- and so does one that is read in a part of w bytes
+pub number-lt : (n w : ℕ) (s : Bytes) → IsBytes s → number n w s < 256 ^ w
+number-lt n w s h =
+    lt-of-lt-of-le (big-endian-lt (take w (drop n s)) (is-bytes-take w (drop n s) (is-bytes-drop n s h)))
+      (pow-le-pow-right (omega arith) (simp length-take (omega arith)))
 
 -- byte strings of one length that give one number are the same
 big-endian-unique : (a b : Bytes) → IsBytes a → IsBytes b → length a ≡ length b → bigEndian a ≡ bigEndian b → a ≡ b
