@@ -15,7 +15,7 @@ use Rattle.format.specs.Tree.{mark}
 use Rattle.format.specs.Block.{headerSize, flags, leastHeader, isStreamed, contentStart, bytesLeft, blockWith, block}
 use Rattle.format.specs.Chain.{Chain, mostBlocks, extent, ended, linked, tail, chain}
 use Rattle.format.specs.File.{File, mostBytes, file}
-use Rattle.format.proofs.OutcomeLaws.{Accepts, accepted-holds, accepts-bind, accepts-need, accepts-choice}
+use Rattle.format.proofs.OutcomeLaws.{Accepts, accepted-holds, accepts-bind, accepts-need, choice}
 use Rattle.format.proofs.PackLaws.{is-bytes-drop, number-lt}
 
 -- a block that ends inside a file of this size
@@ -49,7 +49,7 @@ module _ (size i n : ℕ) (t : Bytes) (bytes : IsBytes t) (few : i < mostBlocks)
 
   block-sound : Accepts (Sound size) (block i n t)
   unfolding block
-  block-sound = search (accepts-need, accepts-choice (Sound size) (isStreamed (flags t)), with-sound, leb-true, le-refl) depth 12
+  block-sound = search (accepts-need, choice (Accepts (Sound size)) (isStreamed (flags t)), with-sound, leb-true, le-refl) depth 12
 
 -- a chain of sound blocks
 abbrev SoundChain : ℕ → Chain → Type 0
@@ -70,25 +70,21 @@ linked-sound size b false (refused r) h hs = tt
 -- every block of a chain is sound
 chain-sound : (size k i n : ℕ) (t : Bytes) → IsBytes t → i + k ≤ mostBlocks → length t ≤ size - n → Accepts (SoundChain size) (chain k i n t)
 unfolding chain
-chain-sound size zero i n t bytes few room = accepts-choice (SoundChain size) (begins mark t) _ _ (λ e. tt) (λ e. tail-sound size n t)
+chain-sound size zero i n t bytes few room = choice (Accepts (SoundChain size)) (begins mark t) _ _ tt (tail-sound size n t)
 chain-sound size (suc k) i n t bytes few room =
-    accepts-choice (SoundChain size) (begins mark t) _ _
-      (λ e. accepts-bind (SoundChain size) (block i n t) _ λ b q.
+    choice (Accepts (SoundChain size)) (begins mark t) _ _
+      (accepts-bind (SoundChain size) (block i n t) _ λ b q.
         linked-sound size b (isStreamed (b .flags)) (chain k (i + 1) (n + extent b) (drop (extent b) t)) (sound b q)
           (chain-sound size k (i + 1) (n + extent b) (drop (extent b) t) (is-bytes-drop (extent b) t bytes) (omega arith) (simp length-drop (omega arith))))
-      (λ e. tail-sound size n t)
+      (tail-sound size n t)
   where
     sound : (b : Block) → block i n t ≡ accepted b → Sound size b
     sound b = accepted-holds (Sound size) (block i n t) b (block-sound size i n t bytes (omega arith) room)
 
--- what is known of an accepted file
-pub record FileSound (s : Bytes) (f : File) : Type 0 where
-  pub short : length s ≤ mostBytes
-  pub blocks : AllSound (length s) (f .blocks)
-
-pub file-sound : (s : Bytes) → IsBytes s → Accepts (FileSound s) (file s)
+-- every block of an accepted file is sound
+pub file-sound : (s : Bytes) → IsBytes s → Accepts (λ (f : File). AllSound (length s) (f .blocks)) (file s)
 unfolding file
-file-sound s bytes = search (accepts-need, accepts-bind, blocks-sound, leb-true) depth 12
+file-sound s bytes = search (accepts-need, accepts-bind, blocks-sound) depth 12
   where
     blocks-sound : (m : ℕ) (c : Chain) → chain mostBlocks 0 m (drop m s) ≡ accepted c → AllSound (length s) (c .blocks)
     blocks-sound m c =

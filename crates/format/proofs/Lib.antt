@@ -5,4 +5,5 @@ pub mod OutcomeLaws
 pub mod PackLaws
 pub mod RowLaws
 pub mod BlockLaws
+pub mod WalkLaws
 pub mod OutlineLaws

@@ -23,7 +23,7 @@ pub accepts-need : {A : Type 0} (P : A → Type 0) (t : Bool) (n p : ℕ) (o : O
 accepts-need P true n p o h = h refl
 accepts-need P false n p o h = tt
 
--- each way of a choice may count on the test
-pub accepts-choice : {A : Type 0} (P : A → Type 0) (t : Bool) (x y : Outcome A) → (t ≡ true → Accepts P x) → (t ≡ false → Accepts P y) → Accepts P (elim t [ true ↦ x | false ↦ y ])
-accepts-choice P true x y h k = h refl
-accepts-choice P false x y h k = k refl
+-- what holds of both ways of a choice holds of the choice
+pub choice : {A : Type 0} (P : A → Type 0) (t : Bool) (x y : A) → P x → P y → P (elim t [ true ↦ x | false ↦ y ])
+choice P true x y h k = h
+choice P false x y h k = k
