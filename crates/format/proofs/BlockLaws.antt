@@ -1,6 +1,6 @@
 -- Every block of an accepted file lies inside the file, and its numbers keep their bounds.
 use Prim.Native.Nat.{ℕ, zero, suc, _+_, _-_, _≤_, _<_}
-use mathlib.Core.Path.{_≡_, refl}
+use mathlib.Core.Path.{_≡_}
 use mathlib.Core.Bool.{Bool, true, false}
 use mathlib.Core.List.{List, [], _∷_}
 use native.Mathlib.Nat.{le-refl}
@@ -14,7 +14,7 @@ use Rattle.format.specs.Outcome.{Outcome, accepted, refused, _>>=_}
 use Rattle.format.specs.Tree.{mark}
 use Rattle.format.specs.Block.{headerSize, flags, leastHeader, isStreamed, contentStart, bytesLeft, blockWith, block}
 use Rattle.format.specs.Chain.{Chain, mostBlocks, extent, ended, linked, tail, chain}
-use Rattle.format.specs.File.{File, mostBytes, file}
+use Rattle.format.specs.File.{File, file}
 use Rattle.format.proofs.OutcomeLaws.{Accepts, accepted-holds, accepts-bind, accepts-need, choice}
 use Rattle.format.proofs.PackLaws.{is-bytes-drop, number-lt}
 
@@ -47,11 +47,12 @@ module _ (size i n : ℕ) (t : Bytes) (bytes : IsBytes t) (few : i < mostBlocks)
         end = omega arith;
       }
 
+  -- and so do those of an accepted block
   block-sound : Accepts (Sound size) (block i n t)
   unfolding block
   block-sound = search (accepts-need, choice (Accepts (Sound size)) (isStreamed (flags t)), with-sound, leb-true, le-refl) depth 12
 
--- a chain of sound blocks
+-- a chain of such blocks
 abbrev SoundChain : ℕ → Chain → Type 0
 SoundChain size c = AllSound size (c .blocks)
 
@@ -68,25 +69,30 @@ linked-sound size b false (accepted c) h hs = (h, hs)
 linked-sound size b false (refused r) h hs = tt
 
 -- every block of a chain is sound
-chain-sound : (size k i n : ℕ) (t : Bytes) → IsBytes t → i + k ≤ mostBlocks → length t ≤ size - n → Accepts (SoundChain size) (chain k i n t)
+chain-sound : (size k i n : ℕ) (t : Bytes) → IsBytes t → i + k ≤ mostBlocks → length t ≤ size - n
+    → Accepts (SoundChain size) (chain k i n t)
 unfolding chain
 chain-sound size zero i n t bytes few room = choice (Accepts (SoundChain size)) (begins mark t) _ _ tt (tail-sound size n t)
 chain-sound size (suc k) i n t bytes few room =
     choice (Accepts (SoundChain size)) (begins mark t) _ _
-      (accepts-bind (SoundChain size) (block i n t) _ λ b q.
-        linked-sound size b (isStreamed (b .flags)) (chain k (i + 1) (n + extent b) (drop (extent b) t)) (sound b q)
-          (chain-sound size k (i + 1) (n + extent b) (drop (extent b) t) (is-bytes-drop (extent b) t bytes) (omega arith) (simp length-drop (omega arith))))
-      (tail-sound size n t)
+    (accepts-bind (SoundChain size) (block i n t) _ λ b q.
+    linked-sound size b (isStreamed (b .flags)) (chain k (i + 1) (n + extent b) (drop (extent b) t)) (sound b q)
+    (chain-sound size k (i + 1) (n + extent b) (drop (extent b) t) (is-bytes-drop (extent b) t bytes) (omega arith) (simp length-drop (omega arith))))
+    (tail-sound size n t)
   where
     sound : (b : Block) → block i n t ≡ accepted b → Sound size b
     sound b = accepted-holds (Sound size) (block i n t) b (block-sound size i n t bytes (omega arith) room)
 
+-- a file of such blocks
+abbrev pub SoundFile : Bytes → File → Type 0
+SoundFile s f = AllSound (length s) (f .blocks)
+
 -- every block of an accepted file is sound
-pub file-sound : (s : Bytes) → IsBytes s → Accepts (λ (f : File). AllSound (length s) (f .blocks)) (file s)
+pub file-sound : (s : Bytes) → IsBytes s → Accepts (SoundFile s) (file s)
 unfolding file
 file-sound s bytes = search (accepts-need, accepts-bind, blocks-sound) depth 12
   where
     blocks-sound : (m : ℕ) (c : Chain) → chain mostBlocks 0 m (drop m s) ≡ accepted c → AllSound (length s) (c .blocks)
     blocks-sound m c =
         accepted-holds (SoundChain (length s)) (chain mostBlocks 0 m (drop m s)) c
-          (chain-sound (length s) mostBlocks 0 m (drop m s) (is-bytes-drop m s bytes) (omega arith) (simp length-drop (omega arith)))
+        (chain-sound (length s) mostBlocks 0 m (drop m s) (is-bytes-drop m s bytes) (omega arith) (simp length-drop (omega arith)))

@@ -14,12 +14,14 @@ pub accepted-holds : {A : Type 0} (P : A → Type 0) (o : Outcome A) (a : A) →
 accepted-holds P o a h e = rw e at h
 
 -- what follows a step may count on what the step accepted
-pub accepts-bind : {A B : Type 0} (P : B → Type 0) (o : Outcome A) (f : A → Outcome B) → ((a : A) → o ≡ accepted a → Accepts P (f a)) → Accepts P (_>>=_ o f)
+pub accepts-bind : {A B : Type 0} (P : B → Type 0) (o : Outcome A) (f : A → Outcome B)
+    → ((a : A) → o ≡ accepted a → Accepts P (f a)) → Accepts P (_>>=_ o f)
 accepts-bind P (accepted a) f h = h a refl
 accepts-bind P (refused r) f h = tt
 
 -- what follows a test may count on it
-pub accepts-need : {A : Type 0} (P : A → Type 0) (t : Bool) (n p : ℕ) (o : Outcome A) → (t ≡ true → Accepts P o) → Accepts P (_>>_ (need t n p) o)
+pub accepts-need : {A : Type 0} (P : A → Type 0) (t : Bool) (n p : ℕ) (o : Outcome A)
+    → (t ≡ true → Accepts P o) → Accepts P (_>>_ (need t n p) o)
 accepts-need P true n p o h = h refl
 accepts-need P false n p o h = tt
 

@@ -1,6 +1,6 @@
--- Outlines and the rows that they hold.
-use Prim.Native.Nat.{ℕ, zero, suc, _+_, _*_, _/_, _%_, _≤_, _<_}
-use mathlib.Core.Path.{_≡_, refl, sym, ap, _∙_}
+-- Stored outlines: accepted bytes are written again as they were, and an outline of a file is read back to the file's rows.
+use Prim.Native.Nat.{ℕ, zero, suc, _+_, _*_, _/_, _%_, _≤_}
+use mathlib.Core.Path.{_≡_, refl}
 use mathlib.Core.Bool.{Bool, true, false}
 use mathlib.Core.List.{List, [], _∷_, _++_, map, flatMap, append-nil}
 use native.Mathlib.Omega.{arith}
@@ -18,17 +18,22 @@ use Rattle.format.specs.Outline.{rowOf, encodeRow, decodeRow, outlineOf,
 use Rattle.format.proofs.OutcomeLaws.{Accepts, accepted-holds, accepts-bind, accepts-need}
 use Rattle.format.proofs.PackLaws.{is-bytes-take, is-bytes-drop}
 use Rattle.format.proofs.RowLaws.{encoded-length, decode-encode, encode-decode}
-use Rattle.format.proofs.WalkLaws.{RowKept, Kept, Leads, records-lead}
+use Rattle.format.proofs.WalkLaws.{Kept, Leads, records-lead}
+
+-- rows that are written as these bytes
+abbrev Writes : Bytes → List Row → Type 0
+Writes b rs = outlineOf rs ≡ b
 
 -- a row and the rows behind it are written as they were read
-same-step : (b : Bytes) (o : Outcome (List Row)) → IsBytes b → 16 ≤ length b → Accepts (λ (rs : List Row). outlineOf rs ≡ drop 16 b) o
-    → (rs : List Row) → o ≡ accepted rs → outlineOf (decodeRow (take 16 b) ∷ rs) ≡ b
+same-step : (b : Bytes) (o : Outcome (List Row)) (rs : List Row) → IsBytes b → 16 ≤ length b → Accepts (Writes (drop 16 b)) o
+    → o ≡ accepted rs → Writes b (decodeRow (take 16 b) ∷ rs)
 unfolding outlineOf flatMap
-same-step b o h l behind rs e =
-    rw (encode-decode (take 16 b) (is-bytes-take 16 b h) (length-take-le 16 b l), accepted-holds (λ (rs : List Row). outlineOf rs ≡ drop 16 b) o rs behind e)
-      (take-append-drop 16 b)
+same-step b o rs h l behind e =
+    rw (encode-decode (take 16 b) (is-bytes-take 16 b h) (length-take-le 16 b l), accepted-holds (Writes (drop 16 b)) o rs behind e)
+    (take-append-drop 16 b)
 
-same-from : (k n most : ℕ) (b : Bytes) → IsBytes b → length b ≡ k * 16 → Accepts (λ (rs : List Row). outlineOf rs ≡ b) (storedFrom k n most b)
+-- k rows are written as they were read
+same-from : (k n most : ℕ) (b : Bytes) → IsBytes b → length b ≡ k * 16 → Accepts (Writes b) (storedFrom k n most b)
 unfolding storedFrom outlineOf flatMap
 same-from zero n most [] h l = refl
 same-from zero n most (x ∷ b) h l = absurd (omega arith)
@@ -41,8 +46,9 @@ same-from (suc k) n most b h l =
 pub same-bytes : (b : Bytes) (rs : List Row) → IsBytes b → stored b ≡ accepted rs → outlineOf rs ≡ b
 unfolding stored
 same-bytes b rs h =
-    accepted-holds (λ (rs : List Row). outlineOf rs ≡ b) (stored b) rs
-      (accepts-need _ _ 23 0 _ (λ (e : eqb (length b % 16) 0 ≡ true). same-from (length b / 16) 0 0 b h (omega (arith, eqb-true (length b % 16) 0 e))))
+    accepted-holds (Writes b) (stored b) rs
+    (accepts-need _ _ 23 0 _
+    λ (e : eqb (length b % 16) 0 ≡ true). same-from (length b / 16) 0 0 b h (omega (arith, eqb-true (length b % 16) 0 e)))
 
 -- a refused file has no rows
 pub refused-no-rows : (s : Bytes) (r : Refusal) → file s ≡ refused r → rows s ≡ refused r
@@ -66,8 +72,9 @@ rows-kept s bytes = by-length (leb (length s) mostBytes) refl
   where
     by-length : (t : Bool) → leb (length s) mostBytes ≡ t → Accepts (Kept 0) (rows s)
     by-length true e =
+        let lead = records-lead deepest 0 0 s bytes (omega (arith, leb-true (length s) mostBytes e)) (omega arith) in
         accepts-bind (Kept 0) (recordsFrom deepest 0 0 s) _
-          λ rs q. rw append-nil at (accepted-holds (Leads 0) _ rs (records-lead deepest 0 0 s bytes (omega (arith, leb-true (length s) mostBytes e)) (omega arith)) q [] (λ m h. tt) 0 (omega arith))
+        λ rs q. rw append-nil at (accepted-holds (Leads 0) _ rs lead q [] (λ m h. tt) 0 (omega arith))
     by-length false e = rw (refused-no-rows s (refusal 1 0) (too-long s e)) tt
 
 -- an outline has sixteen bytes for each row
@@ -81,12 +88,14 @@ read-from : (rs : List Row) (n most : ℕ) → Kept most rs → storedFrom (leng
 unfolding storedFrom outlineOf flatMap
 read-from [] n most h = refl
 read-from (r ∷ rs) n most h =
-    rw (take-at (encodeRow r) (outlineOf rs) 16 (encoded-length r), drop-at (encodeRow r) (outlineOf rs) 16 (encoded-length r), decode-encode r (h .0 .fits), h .0 .rule, read-from rs (n + 16) (r .depth + 1) (h .1))
+    let first : take 16 (encodeRow r ++ outlineOf rs) ≡ encodeRow r = take-at (encodeRow r) _ 16 (encoded-length r) in
+    let others : drop 16 (encodeRow r ++ outlineOf rs) ≡ outlineOf rs = drop-at (encodeRow r) _ 16 (encoded-length r) in
+    rw (first, others, decode-encode r (h .0 .fits), h .0 .rule, read-from rs (n + 16) (r .depth + 1) (h .1))
 
 -- and from an outline
 read-rows : (rs : List Row) → Kept 0 rs → stored (outlineOf rs) ≡ accepted rs
 unfolding stored
-read-rows rs h = 
+read-rows rs h =
     let whole : length (outlineOf rs) % 16 ≡ 0 = omega (arith, outline-length rs) in
     let count : length (outlineOf rs) / 16 ≡ length rs = omega (arith, outline-length rs) in
     rw (whole, count) (read-from rs 0 0 h)

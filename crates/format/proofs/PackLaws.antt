@@ -1,19 +1,20 @@
 -- Numbers in bytes and in fields of any widths: what is written is read back, and what is read is written back.
-use Prim.Native.Nat.{ℕ, zero, suc, _+_, _*_, _/_, _%_, _^_, _≤_, _<_}
+use Prim.Native.Nat.{ℕ, zero, suc, _+_, _*_, _/_, _%_, _^_, _<_}
 use mathlib.Core.Path.{_≡_, refl, sym, ap, _∙_}
 use mathlib.Core.List.{List, [], _∷_, _++_}
-use native.Mathlib.Nat.{lt-of-lt-of-le, pow-le-pow-right, mod-lt, mod-mod, mod-eq-of-lt, pow-suc, pow-succ', one-le-pow, add-zero, mul-assoc, mul-add-div-right, mul-add-mod-self-right}
+use native.Mathlib.Nat.{lt-of-lt-of-le, mul-assoc, mul-add-div-right, mul-add-mod-self-right, mod-lt, mod-mod, mod-eq-of-lt}
+use native.Mathlib.Nat.{pow-suc, pow-succ', pow-le-pow-right, one-le-pow}
 use native.Mathlib.Numerals.{add-one}
 use native.Mathlib.Omega.{arith}
-use lib.ListN.{length, take, drop, getD, length-append, length-take}
+use lib.ListN.{length, take, drop, length-append, length-take}
 use lib.Seq.{getD-drop}
 use lib.Arith.{digits-lt, digits-div, digits-mod, mod-mul}
 use lib.Pow.{pow-pos, pow-add, high, mod-pow-add}
 use Rattle.format.specs.Bytes.{Bytes, IsBytes, bigEndian, number, toBytes}
 use Rattle.format.specs.Outline.{sum, packed, unpacked}
 
--- the bytes of two byte strings, one behind the other, are bytes
-pub is-bytes-append : (s t : Bytes) → IsBytes s → IsBytes t → IsBytes (s ++ t)
+-- two byte strings of bytes, one behind the other, are one
+is-bytes-append : (s t : Bytes) → IsBytes s → IsBytes t → IsBytes (s ++ t)
 is-bytes-append [] t hs ht i = ht i
 is-bytes-append (b ∷ s) t hs ht zero = hs 0
 is-bytes-append (b ∷ s) t hs ht (suc i) = is-bytes-append s t (λ j. hs (suc j)) ht i
@@ -37,8 +38,7 @@ single-byte x h (suc i) = omega arith
 -- the number of two byte strings, one behind the other
 big-endian-append : (s t : Bytes) → bigEndian (s ++ t) ≡ bigEndian s * 256 ^ length t + bigEndian t
 big-endian-append [] t = omega arith
-big-endian-append (b ∷ s) t =
-    rw (big-endian-append s t, length-append s t, pow-add 256 (length s) (length t)) (omega arith)
+big-endian-append (b ∷ s) t = rw (big-endian-append s t, length-append s t, pow-add 256 (length s) (length t)) (omega arith)
 
 -- w bytes are written
 pub to-bytes-length : (w x : ℕ) → length (toBytes w x) ≡ w
@@ -48,12 +48,15 @@ to-bytes-length (suc w) x = rw (length-append, to-bytes-length w (x / 256)) (add
 -- and each is a byte
 pub to-bytes-are-bytes : (w x : ℕ) → IsBytes (toBytes w x)
 to-bytes-are-bytes zero x i = omega arith
-to-bytes-are-bytes (suc w) x i = is-bytes-append (toBytes w (x / 256)) _ (to-bytes-are-bytes w (x / 256)) (single-byte (x % 256) (omega arith)) i
+to-bytes-are-bytes (suc w) x i =
+    is-bytes-append (toBytes w (x / 256)) _ (to-bytes-are-bytes w (x / 256)) (single-byte (x % 256) (omega arith)) i
 
 -- the bytes of a number give the number again, without what w bytes cannot hold
 pub big-endian-to-bytes : (w x : ℕ) → bigEndian (toBytes w x) ≡ x % 256 ^ w
 big-endian-to-bytes zero x = omega arith
-big-endian-to-bytes (suc w) x = rw (big-endian-append (toBytes w (x / 256)) (x % 256 ∷ []), big-endian-to-bytes w (x / 256), pow-suc 256 w, mod-mul x {m = 256 ^ w} {c = 256} (one-le-pow w 256 (omega arith)) (omega arith)) (omega arith)
+big-endian-to-bytes (suc w) x =
+    let low : x % (256 ^ w * 256) ≡ x / 256 % 256 ^ w * 256 + x % 256 = mod-mul x (one-le-pow w 256 (omega arith)) (omega arith) in
+    rw (big-endian-append (toBytes w (x / 256)) (x % 256 ∷ []), big-endian-to-bytes w (x / 256), pow-suc 256 w) (omega arith)
 
 -- a number that is read in bytes fits in as many
 pub big-endian-lt : (b : Bytes) → IsBytes b → bigEndian b < 256 ^ length b
@@ -64,7 +67,7 @@ big-endian-lt (x ∷ b) h = rw pow-succ' (digits-lt (h 0) (big-endian-lt b (λ i
 pub number-lt : (n w : ℕ) (s : Bytes) → IsBytes s → number n w s < 256 ^ w
 number-lt n w s h =
     lt-of-lt-of-le (big-endian-lt (take w (drop n s)) (is-bytes-take w (drop n s) (is-bytes-drop n s h)))
-      (pow-le-pow-right (omega arith) (simp length-take (omega arith)))
+    (pow-le-pow-right (omega arith) (simp length-take (omega arith)))
 
 -- byte strings of one length that give one number are the same
 big-endian-unique : (a b : Bytes) → IsBytes a → IsBytes b → length a ≡ length b → bigEndian a ≡ bigEndian b → a ≡ b
@@ -84,7 +87,7 @@ big-endian-unique (x ∷ a) (y ∷ b) ha hb l e =
 pub to-bytes-big-endian : (b : Bytes) → IsBytes b → toBytes (length b) (bigEndian b) ≡ b
 to-bytes-big-endian b h =
     big-endian-unique _ b (to-bytes-are-bytes (length b) (bigEndian b)) h (to-bytes-length _ _)
-      (big-endian-to-bytes (length b) (bigEndian b) ∙ mod-eq-of-lt (big-endian-lt b h))
+    (big-endian-to-bytes (length b) (bigEndian b) ∙ mod-eq-of-lt (big-endian-lt b h))
 
 -- there are as many fields as widths, and each field fits its width
 abbrev pub Fits : List ℕ → List ℕ → Type 0
@@ -112,7 +115,8 @@ pub unpacked-packed : (ws fs : List ℕ) → Fits ws fs → unpacked ws (packed 
 unfolding packed unpacked
 unpacked-packed [] [] h = refl
 unpacked-packed (w ∷ ws) (x ∷ fs) h =
-    rw (unpacked-above ws (x % 2 ^ w) (packed ws fs), high (x % 2 ^ w) (sum ws) (packed-lt ws fs), mod-mod, mod-eq-of-lt (h .0), unpacked-packed ws fs (h .1))
+    let first : (x % 2 ^ w * 2 ^ sum ws + packed ws fs) / 2 ^ sum ws ≡ x % 2 ^ w = high (x % 2 ^ w) (sum ws) (packed-lt ws fs) in
+    rw (unpacked-above ws (x % 2 ^ w) (packed ws fs), first, mod-mod, mod-eq-of-lt (h .0), unpacked-packed ws fs (h .1))
 
 -- a number that is read in fields is packed again as it was, without what the fields cannot hold
 pub packed-unpacked : (ws : List ℕ) (x : ℕ) → packed ws (unpacked ws x) ≡ x % 2 ^ sum ws

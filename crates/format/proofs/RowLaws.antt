@@ -2,15 +2,15 @@
 use Prim.Native.Nat.{ℕ, zero, suc, _%_, _^_, _<_}
 use mathlib.Core.Path.{_≡_, refl, sym, ap, _∙_}
 use mathlib.Core.Bool.{Bool, true, false}
-use mathlib.Core.List.{List, [], _∷_}
 use native.Mathlib.Nat.{mod-eq-of-lt}
 use native.Mathlib.Omega.{arith}
 use lib.ListN.{length}
 use lib.Dec.{eqb}
 use Rattle.format.specs.declared.row.Row.{Row}
 use Rattle.format.specs.Bytes.{Bytes, IsBytes, bigEndian, toBytes, bit}
-use Rattle.format.specs.Outline.{rowWidths, rowBytes, fieldsOf, rowFrom, sum, packed, unpacked, encodeRow, decodeRow}
-use Rattle.format.proofs.PackLaws.{to-bytes-length, to-bytes-are-bytes, big-endian-to-bytes, big-endian-lt, to-bytes-big-endian, Fits, packed-lt, unpacked-packed, packed-unpacked}
+use Rattle.format.specs.Outline.{rowWidths, fieldsOf, rowFrom, sum, packed, unpacked, encodeRow, decodeRow}
+use Rattle.format.proofs.PackLaws.{to-bytes-length, to-bytes-are-bytes, big-endian-to-bytes, big-endian-lt, to-bytes-big-endian}
+use Rattle.format.proofs.PackLaws.{Fits, packed-lt, unpacked-packed, packed-unpacked}
 
 -- each field of a row fits its bits
 pub record RowFits (r : Row) : Type 0 where
@@ -51,6 +51,7 @@ bit-of-flag x = small (x % 2) (omega arith)
     small (suc zero) h = refl
     small (suc (suc y)) h = absurd (omega arith)
 
+-- the fields of a row that fits fit their widths
 fields-fit : (r : Row) → RowFits r → Fits rowWidths (fieldsOf r)
 unfolding fieldsOf
 fields-fit r h = omega (arith, bit-lt (r .streamed), bit-lt (r .compressed), bit-lt (r .checksum))
@@ -62,21 +63,22 @@ row-from-fields r = simp flag-of-bit
 
 -- the fields of the row of a number's fields
 fields-of-row : (x : ℕ) → fieldsOf (rowFrom (unpacked rowWidths x)) ≡ unpacked rowWidths x
-unfolding rowFrom fieldsOf unpacked sum
+unfolding rowFrom fieldsOf unpacked
 fields-of-row x = simp bit-of-flag
 
 -- a row that fits is decoded from its bytes
 pub decode-encode : (r : Row) → RowFits r → decodeRow (encodeRow r) ≡ r
 unfolding decodeRow encodeRow sum
 decode-encode r h =
-    rw (big-endian-to-bytes 16 (packed rowWidths (fieldsOf r)), mod-eq-of-lt (packed-lt rowWidths (fieldsOf r)), unpacked-packed rowWidths (fieldsOf r) (fields-fit r h))
-      (row-from-fields r)
+    let fs = fieldsOf r in
+    rw (big-endian-to-bytes 16 (packed rowWidths fs), mod-eq-of-lt (packed-lt rowWidths fs), unpacked-packed rowWidths fs (fields-fit r h))
+    (row-from-fields r)
 
 -- sixteen bytes are encoded again as they were
 pub encode-decode : (b : Bytes) → IsBytes b → length b ≡ 16 → encodeRow (decodeRow b) ≡ b
 unfolding decodeRow encodeRow sum
 encode-decode b h l =
-    ap (toBytes 16)
-      (ap (packed rowWidths) (fields-of-row (bigEndian b)) ∙ packed-unpacked rowWidths (bigEndian b) ∙ mod-eq-of-lt (rw l at (big-endian-lt b h)))
-    ∙ ap (λ (w : ℕ). toBytes w (bigEndian b)) (sym l)
-    ∙ to-bytes-big-endian b h
+    let x = bigEndian b in
+    let same : packed rowWidths (fieldsOf (rowFrom (unpacked rowWidths x))) ≡ x
+    = ap (packed rowWidths) (fields-of-row x) ∙ packed-unpacked rowWidths x ∙ mod-eq-of-lt (rw l at (big-endian-lt b h)) in
+    ap (toBytes 16) same ∙ ap (λ (w : ℕ). toBytes w x) (sym l) ∙ to-bytes-big-endian b h

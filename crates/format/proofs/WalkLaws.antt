@@ -1,30 +1,28 @@
--- The rows of a file keep the rules of stored rows.
-use Prim.Native.Nat.{ℕ, zero, suc, _+_, _^_, _≤_, _<_}
-use mathlib.Core.Path.{_≡_, refl}
-use mathlib.Core.Bool.{Bool, true, false, _&&_}
-use mathlib.Core.List.{List, [], _∷_, _++_, map, append-assoc, append-nil}
+-- The records of a file give rows that fit and keep the rules of stored rows.
+use Prim.Native.Nat.{ℕ, zero, suc, _+_, _≤_, _<_}
+use mathlib.Core.Path.{_≡_}
+use mathlib.Core.Bool.{true}
+use mathlib.Core.List.{List, [], _∷_, _++_, map, append-assoc}
 use native.Mathlib.Nat.{le-refl}
 use native.Mathlib.Omega.{arith}
-use lib.ListN.{length, take, drop, length-take, length-drop}
-use lib.Dec.{leb}
-use borrow.Author.Tests.{le-leb, leb-true}
+use lib.ListN.{length, length-take, length-drop}
+use borrow.Author.Tests.{le-leb}
 use Rattle.format.specs.declared.block.Block.{Block}
 use Rattle.format.specs.declared.block.Record.{Record}
 use Rattle.format.specs.declared.block.Inner.{Inner}
 use Rattle.format.specs.declared.block.Inner.the-variants.{Plain, Opened, Refused, TooDeep}
 use Rattle.format.specs.declared.row.Row.{Row}
-use Rattle.format.specs.declared.refusal.Refusal.{Refusal}
 use Rattle.format.specs.Bytes.{Bytes, IsBytes}
-use Rattle.format.specs.Outcome.{Outcome, accepted, refused, refusal, _>>=_}
+use Rattle.format.specs.Outcome.{Outcome, accepted, refused}
 use Rattle.format.specs.Block.{leastHeader}
 use Rattle.format.specs.Chain.{mostBlocks}
-use Rattle.format.specs.File.{File, mostBytes, file}
-use Rattle.format.specs.Nest.{contentAt, contentOf, isFile, Inside, closed, opened, inside, walked, walk, walkFile, recordsFrom, records, deepest}
-use Rattle.format.specs.Outline.{innerNumber, rowOf, isRow, rows}
+use Rattle.format.specs.File.{mostBytes, file}
+use Rattle.format.specs.Nest.{contentAt, contentOf, isFile, Inside, opened, inside, walked, walk, walkFile, recordsFrom, deepest}
+use Rattle.format.specs.Outline.{innerNumber, rowOf, isRow}
 use Rattle.format.proofs.OutcomeLaws.{Accepts, accepted-holds, accepts-bind, choice}
 use Rattle.format.proofs.PackLaws.{is-bytes-take, is-bytes-drop}
 use Rattle.format.proofs.RowLaws.{RowFits}
-use Rattle.format.proofs.BlockLaws.{Sound, AllSound, file-sound}
+use Rattle.format.proofs.BlockLaws.{Sound, AllSound, SoundFile, file-sound}
 
 -- a row that fits its bytes and keeps the rules of a stored row, at most so deep
 pub record RowKept (most : ℕ) (r : Row) : Type 0 where
@@ -36,9 +34,10 @@ abbrev pub Kept : ℕ → List Row → Type 0
 Kept most [] = Unit {0}
 Kept most (r ∷ rs) = RowKept most r × Kept (r .depth + 1) rs
 
--- records whose rows are kept in front of all rows that are kept from this depth on
+-- records that may stand in front of all rows that are kept from this depth on
 abbrev pub Leads : ℕ → List Record → Type 0
-Leads depth rs = (zs : List Record) → ((m : ℕ) → depth ≤ m → Kept m (map rowOf zs)) → (m : ℕ) → depth ≤ m → Kept m (map rowOf (rs ++ zs))
+Leads depth rs =
+    (zs : List Record) → ((m : ℕ) → depth ≤ m → Kept m (map rowOf zs)) → (m : ℕ) → depth ≤ m → Kept m (map rowOf (rs ++ zs))
 
 -- an inner state is one of four
 inner-lt : (i : Inner) → innerNumber i < 4
@@ -48,45 +47,49 @@ inner-lt Opened = omega arith
 inner-lt (Refused r) = omega arith
 inner-lt TooDeep = omega arith
 
--- no records lead any rows
+-- no records may
 none-lead : (depth : ℕ) → Leads depth []
 none-lead depth zs h = h
 
 -- a row that keeps the rules passes the test
-is-row : (most : ℕ) (r : Row) → r .ordinal < mostBlocks → leastHeader ≤ r .«header_size» → r .used ≤ r .allocated → r .depth ≤ most → isRow most r ≡ true
+is-row : (most : ℕ) (r : Row) → r .ordinal < mostBlocks → leastHeader ≤ r .«header_size» → r .used ≤ r .allocated → r .depth ≤ most
+    → isRow most r ≡ true
 unfolding isRow
 is-row most r o h u d = simp le-leb
 
 module _ (reads : ℕ → Bytes → Inside) (depth start : ℕ) (s : Bytes) (bytes : IsBytes s) (room : start + length s ≤ mostBytes) (deep : depth ≤ deepest)
-  (inner : (n : ℕ) (t : Bytes) → IsBytes t → n + length t ≤ mostBytes → Leads (depth + 1) (reads n t .records)) where
-
+    (inner : (n : ℕ) (t : Bytes) → IsBytes t → n + length t ≤ mostBytes → Leads (depth + 1) (reads n t .records)) where
   -- a sound block's row is kept
   row-kept : (b : Block) (i : Inner) (m : ℕ) → Sound (length s) b → depth ≤ m
       → RowKept m (rowOf (record { depth = depth; at = record { 0 = start + b .at .0 }; block = b; inner = i }))
   unfolding rowOf
   row-kept b i m h le = record { fits = omega (arith, inner-lt i); rule = is-row m _ (h .ordinal) (h .header-least) (h .used) le }
 
+  -- what is found inside a sound block leads
   inside-leads : (b : Block) → Sound (length s) b → Leads (depth + 1) (inside reads start s b .records)
   unfolding inside
   inside-leads b h =
       choice (λ (i : Inside). Leads (depth + 1) (i .records)) (isFile b (contentOf b s)) _ _
-        (inner (start + contentAt b) (contentOf b s) (is-bytes-take (b .used) (drop (contentAt b) s) (is-bytes-drop (contentAt b) s bytes)) (simp (length-take, length-drop) (omega arith)))
-        (none-lead (depth + 1))
+      (inner (start + contentAt b) (contentOf b s) (is-bytes-take (b .used) _ (is-bytes-drop (contentAt b) s bytes))
+      (simp (length-take, length-drop) (omega arith)))
+      (none-lead (depth + 1))
 
+  -- the records of sound blocks lead: a block's row, what is inside it, and the blocks behind it
   walk-leads : (bs : List Block) → AllSound (length s) bs → Leads depth (walk reads depth start s bs)
   unfolding walk walked rowOf
   walk-leads [] hs zs h m le = h m le
-  walk-leads (b ∷ bs) hs zs h m le = 
-      (row-kept b (inside reads start s b .state) m (hs .0) le,
-        rw (append-assoc (inside reads start s b .records) (walk reads depth start s bs) zs)
-          (inside-leads b (hs .0) (walk reads depth start s bs ++ zs) (λ m le. walk-leads bs (hs .1) zs h m (omega arith)) (depth + 1) (le-refl (depth + 1))))
+  walk-leads (b ∷ bs) hs zs h m le = (
+    row-kept b (inside reads start s b .state) m (hs .0) le,
+    rw (append-assoc (inside reads start s b .records) (walk reads depth start s bs) zs)
+        (inside-leads b (hs .0) (walk reads depth start s bs ++ zs) (λ m le. walk-leads bs (hs .1) zs h m (omega arith)) (depth + 1) (le-refl (depth + 1))),
+  )
 
   -- the records of an accepted file lead
   walk-file-leads : Accepts (Leads depth) (walkFile reads depth start s)
   unfolding walkFile
   walk-file-leads =
       accepts-bind (Leads depth) (file s) _
-        λ f e. walk-leads (f .blocks) (accepted-holds (λ (f : File). AllSound (length s) (f .blocks)) (file s) f (file-sound s bytes) e)
+      λ f e. walk-leads (f .blocks) (accepted-holds (SoundFile s) (file s) f (file-sound s bytes) e)
 
 -- what is found in an opened block leads
 opened-leads : (depth : ℕ) (o : Outcome (List Record)) → Accepts (Leads depth) o → Leads depth (opened o .records)
@@ -95,9 +98,10 @@ opened-leads depth (accepted rs) h = h
 opened-leads depth (refused r) h = none-lead depth
 
 -- the records of a file at any depth lead
-pub records-lead : (levels depth start : ℕ) (s : Bytes) → IsBytes s → start + length s ≤ mostBytes → depth + levels ≤ deepest → Accepts (Leads depth) (recordsFrom levels depth start s)
+pub records-lead : (levels depth start : ℕ) (s : Bytes) → IsBytes s → start + length s ≤ mostBytes → depth + levels ≤ deepest
+    → Accepts (Leads depth) (recordsFrom levels depth start s)
 unfolding recordsFrom
 records-lead zero depth start s bytes room deep = walk-file-leads _ depth start s bytes room (omega arith) (λ n t h k. none-lead (depth + 1))
 records-lead (suc levels) depth start s bytes room deep =
     walk-file-leads _ depth start s bytes room (omega arith)
-      (λ n t h k. opened-leads (depth + 1) _ (records-lead levels (depth + 1) n t h k (omega arith)))
+    (λ n t h k. opened-leads (depth + 1) _ (records-lead levels (depth + 1) n t h k (omega arith)))
