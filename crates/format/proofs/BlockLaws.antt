@@ -56,7 +56,7 @@ module _ (size i n : ℕ) (t : Bytes) (bytes : IsBytes t) (few : i < mostBlocks)
 abbrev SoundChain : ℕ → Chain → Type 0
 SoundChain size c = AllSound size (c .blocks)
 
--- behind the last block there is none
+-- where no block begins, no block follows
 tail-sound : (size n : ℕ) (t : Bytes) → Accepts (SoundChain size) (tail n t)
 unfolding tail
 tail-sound size n t = search accepts-need

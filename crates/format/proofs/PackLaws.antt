@@ -13,13 +13,13 @@ use lib.Pow.{pow-pos, pow-add, high, mod-pow-add}
 use Rattle.format.specs.Bytes.{Bytes, IsBytes, bigEndian, number, toBytes}
 use Rattle.format.specs.Outline.{sum, packed, unpacked}
 
--- two byte strings of bytes, one behind the other, are one
+-- two byte strings, one behind the other, hold bytes only where each of them does
 is-bytes-append : (s t : Bytes) → IsBytes s → IsBytes t → IsBytes (s ++ t)
 is-bytes-append [] t hs ht i = ht i
 is-bytes-append (b ∷ s) t hs ht zero = hs 0
 is-bytes-append (b ∷ s) t hs ht (suc i) = is-bytes-append s t (λ j. hs (suc j)) ht i
 
--- the first n bytes are bytes
+-- the first n of bytes are bytes
 pub is-bytes-take : (n : ℕ) (s : Bytes) → IsBytes s → IsBytes (take n s)
 is-bytes-take zero s h i = omega arith
 is-bytes-take (suc n) [] h i = h i
@@ -30,7 +30,7 @@ is-bytes-take (suc n) (b ∷ s) h (suc i) = is-bytes-take n s (λ j. h (suc j)) 
 pub is-bytes-drop : (n : ℕ) (s : Bytes) → IsBytes s → IsBytes (drop n s)
 is-bytes-drop n s h i = rw getD-drop (h (n + i))
 
--- a byte alone
+-- one byte alone is a byte string
 single-byte : (x : ℕ) → x < 256 → IsBytes (x ∷ [])
 single-byte x h zero = h
 single-byte x h (suc i) = omega arith
@@ -63,7 +63,7 @@ pub big-endian-lt : (b : Bytes) → IsBytes b → bigEndian b < 256 ^ length b
 big-endian-lt [] h = omega arith
 big-endian-lt (x ∷ b) h = rw pow-succ' (digits-lt (h 0) (big-endian-lt b (λ i. h (suc i))))
 
--- and so does one that is read in a part of w bytes
+-- and so does one that is read in w bytes of many
 pub number-lt : (n w : ℕ) (s : Bytes) → IsBytes s → number n w s < 256 ^ w
 number-lt n w s h =
     lt-of-lt-of-le (big-endian-lt (take w (drop n s)) (is-bytes-take w (drop n s) (is-bytes-drop n s h)))

@@ -47,7 +47,7 @@ inner-lt Opened = omega arith
 inner-lt (Refused r) = omega arith
 inner-lt TooDeep = omega arith
 
--- no records may
+-- no records at all lead
 none-lead : (depth : ℕ) → Leads depth []
 none-lead depth zs h = h
 
