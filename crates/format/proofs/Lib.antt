@@ -7,3 +7,5 @@ pub mod RowLaws
 pub mod BlockLaws
 pub mod WalkLaws
 pub mod OutlineLaws
+pub mod ByteLaws
+pub mod LineLaws

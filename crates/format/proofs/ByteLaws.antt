@@ -1,0 +1,78 @@
+-- The tests on byte strings say what they are named for.
+use Prim.Native.Nat.{ℕ, zero, suc}
+use mathlib.Core.Path.{_≡_, refl, ap, _∙_}
+use mathlib.Core.Bool.{Bool, true, false, _&&_, not}
+use mathlib.Core.List.{[], _∷_, _++_}
+use lib.ListN.{length, drop, replicate}
+use lib.Dec.{eqb}
+use borrow.Author.Tests.{eqb-true, eq-eqb, not-true}
+use Rattle.format.specs.Bytes.{Bytes, begins, same, allZero}
+
+-- both tests of two that hold together hold
+pub and-left : (a b : Bool) → (a && b) ≡ true → a ≡ true
+and-left true b h = refl
+and-left false b h = h
+
+pub and-right : (a b : Bool) → (a && b) ≡ true → b ≡ true
+and-right true b h = h
+and-right false b h = cc
+
+-- two tests that hold hold together
+pub and-both : (a b : Bool) → a ≡ true → b ≡ true → (a && b) ≡ true
+and-both a b p q = rw p q
+
+-- byte strings that are found the same are equal
+pub same-true : (s t : Bytes) → same s t ≡ true → s ≡ t
+same-true [] [] h = refl
+same-true [] (b ∷ t) h = cc
+same-true (a ∷ s) [] h = cc
+same-true (a ∷ s) (b ∷ t) h = cc (eqb-true a b (and-left _ _ h), same-true s t (and-right (eqb a b) _ h))
+
+-- equal byte strings are found the same
+pub eq-same : (s t : Bytes) → s ≡ t → same s t ≡ true
+eq-same s t e = rw e (itself t)
+  where
+    itself : (t : Bytes) → same t t ≡ true
+    itself [] = refl
+    itself (b ∷ t) = and-both (eqb b b) (same t t) (eq-eqb b b refl) (itself t)
+
+-- what begins with p is p and something
+pub begins-true : (p s : Bytes) → begins p s ≡ true → s ≡ p ++ drop (length p) s
+begins-true [] s h = refl
+begins-true (a ∷ p) [] h = cc
+begins-true (a ∷ p) (b ∷ s) h = cc (eqb-true a b (and-left _ _ h), begins-true p s (and-right (eqb a b) _ h))
+
+-- p and something begins with p
+pub begins-append : (p s : Bytes) → begins p (p ++ s) ≡ true
+begins-append [] s = refl
+begins-append (a ∷ p) s = and-both (eqb a a) (begins p (p ++ s)) (eq-eqb a a refl) (begins-append p s)
+
+-- bytes that are found all zero are so many zeros
+pub all-zero-true : (z : Bytes) → allZero z ≡ true → z ≡ replicate (length z) 0
+all-zero-true [] h = refl
+all-zero-true (b ∷ z) h = cc (eqb-true b 0 (and-left _ _ h), all-zero-true z (and-right (eqb b 0) _ h))
+
+-- zeros are found all zero
+pub zeros-all-zero : (n : ℕ) → allZero (replicate n 0) ≡ true
+zeros-all-zero zero = refl
+zeros-all-zero (suc n) = zeros-all-zero n
+
+-- so many zeros as there are bytes are found all zero
+pub eq-all-zero : (z : Bytes) → z ≡ replicate (length z) 0 → allZero z ≡ true
+eq-all-zero z e = ap allZero e ∙ zeros-all-zero (length z)
+
+-- whether t has no byte b
+abbrev pub lacks : ℕ → Bytes → Bool
+lacks b [] = true
+lacks b (a ∷ t) = not (eqb a b) && lacks b t
+
+-- the first byte is another, and the rest has none
+pub lacks-head : (b a : ℕ) (t : Bytes) → lacks b (a ∷ t) ≡ true → eqb a b ≡ false
+lacks-head b a t h = not-true (eqb a b) (and-left _ _ h)
+
+pub lacks-tail : (b a : ℕ) (t : Bytes) → lacks b (a ∷ t) ≡ true → lacks b t ≡ true
+lacks-tail b a t h = and-right (not (eqb a b)) _ h
+
+-- another byte in front of a text that has none
+pub lacks-cons : (b a : ℕ) (t : Bytes) → eqb a b ≡ false → lacks b t ≡ true → lacks b (a ∷ t) ≡ true
+lacks-cons b a t h q = rw h q
