@@ -9,3 +9,4 @@ pub mod WalkLaws
 pub mod OutlineLaws
 pub mod ByteLaws
 pub mod LineLaws
+pub mod NumeralLaws
