@@ -2,7 +2,7 @@
 use Prim.Native.Nat.{ℕ, zero, suc}
 use mathlib.Core.Path.{_≡_, refl, ap, _∙_}
 use mathlib.Core.Bool.{Bool, true, false, _&&_, not}
-use mathlib.Core.List.{[], _∷_, _++_}
+use mathlib.Core.List.{[], _∷_, _++_, reverse, reverse-cons}
 use lib.ListN.{length, drop, replicate}
 use lib.Dec.{eqb}
 use borrow.Author.Tests.{eqb-true, eq-eqb, not-true}
@@ -76,3 +76,19 @@ lacks-tail b a t h = and-right (not (eqb a b)) _ h
 -- another byte in front of a text that has none
 pub lacks-cons : (b a : ℕ) (t : Bytes) → eqb a b ≡ false → lacks b t ≡ true → lacks b (a ∷ t) ≡ true
 lacks-cons b a t h q = rw h q
+
+-- texts that have none, one behind the other, have none
+pub lacks-append : (b : ℕ) (s t : Bytes) → lacks b s ≡ true → lacks b t ≡ true → lacks b (s ++ t) ≡ true
+lacks-append b [] t h k = k
+lacks-append b (a ∷ s) t h k = lacks-cons b a (s ++ t) (lacks-head b a s h) (lacks-append b s t (lacks-tail b a s h) k)
+
+-- a text that has none has none the other way round
+pub lacks-reverse : (b : ℕ) (t : Bytes) → lacks b t ≡ true → lacks b (reverse t) ≡ true
+lacks-reverse b [] h = refl
+lacks-reverse b (a ∷ t) h =
+    rw reverse-cons (lacks-append b (reverse t) (a ∷ []) (lacks-reverse b t (lacks-tail b a t h)) (lacks-cons b a [] (lacks-head b a t h) refl))
+
+-- so many of another byte have none
+pub lacks-replicate : (b a : ℕ) (n : ℕ) → eqb a b ≡ false → lacks b (replicate n a) ≡ true
+lacks-replicate b a zero e = refl
+lacks-replicate b a (suc n) e = lacks-cons b a (replicate n a) e (lacks-replicate b a n e)

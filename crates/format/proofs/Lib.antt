@@ -10,3 +10,4 @@ pub mod OutlineLaws
 pub mod ByteLaws
 pub mod LineLaws
 pub mod NumeralLaws
+pub mod SpaceLaws
