@@ -11,3 +11,4 @@ pub mod ByteLaws
 pub mod LineLaws
 pub mod NumeralLaws
 pub mod SpaceLaws
+pub mod IndexLaws

@@ -1,0 +1,218 @@
+-- An index is good exactly when it is a rendering of the blocks' offsets; and the index that is written here is one.
+use Prim.Native.Nat.{ℕ, zero, suc, _+_, _-_, _*_, _^_, _≤_, _<_}
+use mathlib.Core.Path.{_≡_, refl, sym, ap, ap₂, _∙_}
+use mathlib.Core.Bool.{Bool, true, false, _&&_}
+use mathlib.Core.List.{List, [], _∷_, _++_, map, reverse, reverse-cons, reverse-append, reverse-reverse, append-assoc}
+use mathlib.Core.Option.{Option, none, some, Option·none-ne-some}
+use native.Mathlib.Omega.{arith}
+use lib.ListN.{length, replicate, getD, length-append, length-map}
+use lib.Dec.{eqb}
+use borrow.Author.Tests.{eqb-true, eq-eqb}
+use Rattle.format.specs.declared.layout.Verdict.{Verdict}
+use Rattle.format.specs.declared.layout.Verdict.the-variants.{Absent, Good, IgnoredForm, IgnoredList}
+use Rattle.format.specs.Bytes.{Bytes, text, same, allZero}
+use Rattle.format.specs.Numeral.{numeral, both, numerals, split, decimal}
+use Rattle.format.specs.Line.{LineEnd, lf, Lines, unended, line, lines}
+use Rattle.format.specs.Comments.{indexLine}
+use Rattle.format.specs.Tree.{yamlLine, endLine}
+use Rattle.format.specs.Index.{without, trim, inBrackets, listed, indexed, judged, verdict, Entry, entry, entries, rendering, spaced, indexText, IsIndex}
+use Rattle.format.proofs.ByteLaws.{and-left, and-right, same-true, eq-same, all-zero-true, zeros-all-zero}
+use Rattle.format.proofs.LineLaws.{joinLines, join-lines, AreLines, lines-join}
+use Rattle.format.proofs.NumeralLaws.{numeral-decimal, numeral-text, joined, AllLack, split-joined, split-parts}
+use Rattle.format.proofs.SpaceLaws.{trim-padded, trim-text}
+
+-- what is behind p is behind p
+without-some : (p s u : Bytes) → without p s ≡ some u → s ≡ p ++ u
+unfolding without
+without-some [] s u h = cc
+without-some (a ∷ p) [] u h = cc
+without-some (a ∷ p) (b ∷ s) u h = go (eqb a b) refl (without-some p s u)
+  where
+    go : (x : Bool) → eqb a b ≡ x → (without p s ≡ some u → s ≡ p ++ u) → b ∷ s ≡ a ∷ (p ++ u)
+    go true e i = cc (eqb-true a b e, i (rw (e, without) at h))
+    go false e i = let n : none ≡ some u = rw (e, without) at h in cc
+
+-- the list's line
+abbrev listLine : Bytes → Bytes
+listLine u = text "--- [" ++ (u ++ text "]")
+
+-- what stands between the brackets stands between them
+brackets-some : (c u : Bytes) → inBrackets c ≡ some u → c ≡ listLine u
+unfolding inBrackets
+brackets-some c u h = outer (without (text "--- [") c) refl
+  where
+    inner : (w : Bytes) (o : Option Bytes) → without (text "]") (reverse w) ≡ o → without (text "--- [") c ≡ some w → c ≡ listLine u
+    inner w none e k = let n : none ≡ some u = rw (k, e, inBrackets) at h in cc
+    inner w (some v) e k =
+        let found : some (reverse v) ≡ some u = rw (k, e, inBrackets) at h in
+        let back : w ≡ reverse (93 ∷ v) = sym (reverse-reverse w) ∙ ap reverse (without-some (text "]") (reverse w) v e) in
+        cc (without-some (text "--- [") c w k, reverse-cons 93 v)
+
+    outer : (o : Option Bytes) → without (text "--- [") c ≡ o → c ≡ listLine u
+    outer none e = let n : none ≡ some u = rw (e, inBrackets) at h in cc
+    outer (some w) e = inner w (without (text "]") (reverse w)) refl e
+
+-- what is between the brackets is found there
+brackets-of : (u : Bytes) → inBrackets (listLine u) ≡ some u
+unfolding inBrackets without
+brackets-of u = rw (reverse-append u (text "]"), inBrackets) (ap some (reverse-reverse u))
+
+-- the numbers of entries
+abbrev numbers : List Entry → List ℕ
+numbers es = map (λ (e : Entry). e .number) es
+
+-- entries are written with commas between
+entries-joined : (es : List Entry) → entries es ≡ joined 44 (map entry es)
+unfolding entries joined
+entries-joined [] = refl
+entries-joined (e ∷ []) = refl
+entries-joined (e ∷ f ∷ es) = append-assoc (entry e) (text ",") (entries (f ∷ es)) ∙ ap (λ (t : Bytes). entry e ++ (44 ∷ t)) (entries-joined (f ∷ es))
+
+-- ps are entries of these numbers
+record AreEntries (ps : List Bytes) (ns : List ℕ) : Type 0 where
+  list : List Entry
+  written : map entry list ≡ ps
+  same-numbers : numbers list ≡ ns
+
+-- a part that is read as a number, trimmed, is an entry of that number
+entry-of : (p : Bytes) → ℕ → Entry
+entry-of p n = record { before = trim-padded p .before; number = n; after = trim-padded p .after }
+
+entry-written : (p : Bytes) (n : ℕ) → numeral 10 (trim p) ≡ some n → entry (entry-of p n) ≡ p
+unfolding entry entry-of
+entry-written p n h = rw (← numeral-text 10 (trim p) n h) (sym (trim-padded p .padded))
+
+-- numbers that are read together are read one by one
+both-some : (x : Option ℕ) (y : Option (List ℕ)) (ns : List ℕ) → both x y ≡ some ns
+    → (n : ℕ) × (ms : List ℕ) × (x ≡ some n) × (y ≡ some ms) × (n ∷ ms ≡ ns)
+unfolding both
+both-some none y ns h = absurd (Option·none-ne-some ns h)
+both-some (some n) none ns h = absurd (Option·none-ne-some ns h)
+both-some (some n) (some ms) ns h = (n, ms, refl, refl, cc)
+
+-- parts that are read as numbers, trimmed, are entries of those numbers
+all-entries : (ps : List Bytes) (ns : List ℕ) → numerals 10 (map trim ps) ≡ some ns → AreEntries ps ns
+unfolding numerals entry-of
+all-entries [] ns h = record { list = []; written = refl; same-numbers = cc }
+all-entries (p ∷ ps) ns h =
+    let (n, ms, first, others, whole) = both-some (numeral 10 (trim p)) (numerals 10 (map trim ps)) ns h in
+    let rest = all-entries ps ms others in
+    record {
+      list = entry-of p n ∷ rest .list;
+      written = ap₂ (λ (q : Bytes) (qs : List Bytes). q ∷ qs) (entry-written p n first) (rest .written);
+      same-numbers = ap (λ (ks : List ℕ). n ∷ ks) (rest .same-numbers) ∙ whole;
+    }
+
+-- a list that is read is that of entries
+record IsList (t : Bytes) (ns : List ℕ) : Type 0 where
+  list : List Entry
+  written : entries list ≡ t
+  same-numbers : numbers list ≡ ns
+  some-number : 1 ≤ length list
+
+list-read : (t : Bytes) (ns : List ℕ) → listed (some t) ≡ some ns → IsList t ns
+unfolding listed
+list-read t ns h =
+    let parts = split-parts 44 t in
+    let es = all-entries (split 44 t) ns h in
+    record {
+      list = es .list;
+      written = entries-joined (es .list) ∙ ap (joined 44) (es .written) ∙ parts .whole;
+      same-numbers = es .same-numbers;
+      some-number = omega (arith, parts .some-part, ap length (es .written), length-map (es .list) entry);
+    }
+
+-- the lines of an index, with the list's bytes u between the brackets
+abbrev indexLines : LineEnd → LineEnd → LineEnd → LineEnd → Bytes → ℕ → Lines
+indexLines a b c d u zeros = line indexLine a (line yamlLine b (line (listLine u) c (line endLine d (unended (replicate zeros 0)))))
+
+-- a rendering is the bytes of those lines
+rendering-join : (a b c d : LineEnd) (es : List Entry) (zeros : ℕ) → rendering a b c d es zeros ≡ joinLines (indexLines a b c d (entries es) zeros)
+unfolding rendering joinLines
+rendering-join a b c d es zeros = simp append-assoc
+
+-- the list's line is read by what is between its brackets
+line-read : (c : Bytes) (ns : List ℕ) → listed (inBrackets c) ≡ some ns → (u : Bytes) × (c ≡ listLine u) × (listed (some u) ≡ some ns)
+unfolding listed
+line-read c ns h = go (inBrackets c) refl
+  where
+    go : (o : Option Bytes) → inBrackets c ≡ o → (u : Bytes) × (c ≡ listLine u) × (listed (some u) ≡ some ns)
+    go none e = absurd (Option·none-ne-some ns (rw (e, listed) at h))
+    go (some u) e = (u, brackets-some c u e, rw e at h)
+
+-- lines that are read as an index
+record ReadIndex (l : Lines) (ns : List ℕ) : Type 0 where
+  first : LineEnd
+  second : LineEnd
+  third : LineEnd
+  fourth : LineEnd
+  list : Bytes
+  zeros : ℕ
+  lined : l ≡ indexLines first second third fourth list zeros
+  read : listed (some list) ≡ some ns
+
+-- only the four lines of an index, and zeros behind, are read as one
+index-read : (l : Lines) (ns : List ℕ) → indexed l ≡ some ns → ReadIndex l ns
+unfolding indexed
+index-read (unended t) ns h = absurd (Option·none-ne-some ns h)
+index-read (line a _ (unended t)) ns h = absurd (Option·none-ne-some ns h)
+index-read (line a _ (line b _ (unended t))) ns h = absurd (Option·none-ne-some ns h)
+index-read (line a _ (line b _ (line c _ (unended t)))) ns h = absurd (Option·none-ne-some ns h)
+index-read (line a _ (line b _ (line c _ (line d _ (line t _ l))))) ns h = absurd (Option·none-ne-some ns h)
+index-read (line a e (line b f (line c g (line d k (unended z))))) ns h = go (same a indexLine && same b yamlLine && same d endLine && allZero z) refl
+  where
+    go : (x : Bool) → (same a indexLine && same b yamlLine && same d endLine && allZero z) ≡ x
+        → ReadIndex (line a e (line b f (line c g (line d k (unended z))))) ns
+    go false q = absurd (Option·none-ne-some ns (rw (q, indexed) at h))
+    go true q =
+        let (u, third, read) = line-read c ns (rw (q, indexed) at h) in
+        let texts = and-left (same a indexLine && same b yamlLine && same d endLine) _ q in
+        let heads = and-left (same a indexLine && same b yamlLine) _ texts in
+        let one = same-true a indexLine (and-left _ _ heads) in
+        let two = same-true b yamlLine (and-right (same a indexLine) _ heads) in
+        let four = same-true d endLine (and-right (same a indexLine && same b yamlLine) _ texts) in
+        let tail = all-zero-true z (and-right (same a indexLine && same b yamlLine && same d endLine) _ q) in
+        record { first = e; second = f; third = g; fourth = k; list = u; zeros = length z; lined = cc; read = read }
+
+-- numbers are good if they are the offsets
+judged-good : (offsets : List ℕ) (o : Option (List ℕ)) → judged offsets o ≡ Good → o ≡ some offsets
+unfolding judged
+judged-good offsets none h = cc
+judged-good offsets (some ns) h = go (same ns offsets) refl
+  where
+    go : (x : Bool) → same ns offsets ≡ x → some ns ≡ some offsets
+    go true e = ap some (same-true ns offsets e)
+    go false e = let z : IgnoredList ≡ Good = rw (e, judged) at h in cc
+
+-- what is good is read as the offsets
+good-read : (offsets : List ℕ) (t : Bytes) → verdict offsets t ≡ Good → indexed (lines t) ≡ some offsets
+unfolding verdict
+good-read offsets t h = go (allZero t) refl
+  where
+    go : (x : Bool) → allZero t ≡ x → indexed (lines t) ≡ some offsets
+    go true e = let z : Absent ≡ Good = rw (e, verdict) at h in cc
+    go false e = judged-good offsets (indexed (lines t)) (rw (e, verdict) at h)
+
+-- what is read as the offsets is a rendering of them
+read-is-index : (offsets : List ℕ) (t : Bytes) → ReadIndex (lines t) offsets → IsIndex offsets t
+read-is-index offsets t i =
+    let l = list-read (i .list) offsets (i .read) in
+    record {
+      first = i .first;
+      second = i .second;
+      third = i .third;
+      fourth = i .fourth;
+      list = l .list;
+      zeros = i .zeros;
+      written =
+          sym (join-lines t)
+          ∙ ap joinLines (i .lined)
+          ∙ ap (λ (u : Bytes). joinLines (indexLines (i .first) (i .second) (i .third) (i .fourth) u (i .zeros))) (sym (l .written))
+          ∙ sym (rendering-join (i .first) (i .second) (i .third) (i .fourth) (l .list) (i .zeros));
+      same-numbers = l .same-numbers;
+      some-number = l .some-number;
+    }
+
+-- a good index is a rendering of the offsets
+pub good-is-index : (offsets : List ℕ) (t : Bytes) → verdict offsets t ≡ Good → IsIndex offsets t
+good-is-index offsets t h = read-is-index offsets t (index-read (lines t) offsets (good-read offsets t h))
