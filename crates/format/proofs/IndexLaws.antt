@@ -2,23 +2,23 @@
 use Prim.Native.Nat.{ℕ, zero, suc, _+_, _-_, _*_, _^_, _≤_, _<_}
 use mathlib.Core.Path.{_≡_, refl, sym, ap, ap₂, _∙_}
 use mathlib.Core.Bool.{Bool, true, false, _&&_}
-use mathlib.Core.List.{List, [], _∷_, _++_, map, reverse, reverse-cons, reverse-append, reverse-reverse, append-assoc}
+use mathlib.Core.List.{List, [], _∷_, _++_, map, map-map, map-id, reverse, reverse-cons, reverse-append, reverse-reverse, append-assoc}
 use mathlib.Core.Option.{Option, none, some, Option·none-ne-some}
 use native.Mathlib.Omega.{arith}
-use lib.ListN.{length, replicate, getD, length-append, length-map}
+use lib.ListN.{length, replicate, getD, length-append, length-map, length-replicate}
 use lib.Dec.{eqb}
 use borrow.Author.Tests.{eqb-true, eq-eqb}
 use Rattle.format.specs.declared.layout.Verdict.{Verdict}
 use Rattle.format.specs.declared.layout.Verdict.the-variants.{Absent, Good, IgnoredForm, IgnoredList}
 use Rattle.format.specs.Bytes.{Bytes, text, same, allZero}
-use Rattle.format.specs.Numeral.{numeral, both, numerals, split, decimal}
+use Rattle.format.specs.Numeral.{isDigit, numeral, both, numerals, split, decimal}
 use Rattle.format.specs.Line.{LineEnd, lf, Lines, unended, line, lines}
 use Rattle.format.specs.Comments.{indexLine}
 use Rattle.format.specs.Tree.{yamlLine, endLine}
 use Rattle.format.specs.Index.{without, trim, inBrackets, listed, indexed, judged, verdict, Entry, entry, entries, rendering, spaced, indexText, IsIndex}
-use Rattle.format.proofs.ByteLaws.{and-left, and-right, same-true, eq-same, all-zero-true, zeros-all-zero}
-use Rattle.format.proofs.LineLaws.{joinLines, join-lines, AreLines, lines-join}
-use Rattle.format.proofs.NumeralLaws.{numeral-decimal, numeral-text, joined, AllLack, split-joined, split-parts}
+use Rattle.format.proofs.ByteLaws.{and-left, and-right, same-true, eq-same, all-zero-true, zeros-all-zero, lacks, lacks-append, lacks-replicate}
+use Rattle.format.proofs.LineLaws.{joinLines, join-lines, IsLine, ends-snoc, lines-join}
+use Rattle.format.proofs.NumeralLaws.{decimal-is, decimal-lacks, joined-lacks, numeral-decimal, numeral-text, joined, AllLack, split-joined, split-parts}
 use Rattle.format.proofs.SpaceLaws.{trim-padded, trim-text}
 
 -- what is behind p is behind p
@@ -216,3 +216,141 @@ read-is-index offsets t i =
 -- a good index is a rendering of the offsets
 pub good-is-index : (offsets : List ℕ) (t : Bytes) → verdict offsets t ≡ Good → IsIndex offsets t
 good-is-index offsets t h = read-is-index offsets t (index-read (lines t) offsets (good-read offsets t h))
+
+-- an entry has digits and spaces only
+entries-lack : (b : ℕ) → eqb 32 b ≡ false → isDigit b ≡ false → (es : List Entry) → AllLack b (map entry es)
+unfolding entry
+entries-lack b h k [] = tt
+entries-lack b h k (e ∷ es) =
+    let before = lacks-replicate b 32 (e .before) h in
+    let after = lacks-replicate b 32 (e .after) h in
+    let number = lacks-append b (replicate (e .before) 32) (decimal (e .number)) before (decimal-lacks b (e .number) k) in
+    (lacks-append b (replicate (e .before) 32 ++ decimal (e .number)) (replicate (e .after) 32) number after, entries-lack b h k es)
+
+-- the list's line is a line
+list-is-line : (es : List Entry) (e : LineEnd) → IsLine (listLine (entries es)) e
+list-is-line es e =
+    let u = entries es in
+    let lack : lacks 10 u ≡ true = rw entries-joined (joined-lacks 10 44 (map entry es) refl (entries-lack 10 refl refl es)) in
+    record { no-feed = lacks-append 10 (text "--- [") (u ++ text "]") refl (lacks-append 10 u (text "]") lack refl); no-return = λ q. ends-snoc 13 93 (text "--- [" ++ u) }
+
+-- a rendering has the lines of an index
+lines-rendering : (a b c d : LineEnd) (es : List Entry) (zeros : ℕ) → lines (rendering a b c d es zeros) ≡ indexLines a b c d (entries es) zeros
+lines-rendering a b c d es zeros =
+    ap lines (rendering-join a b c d es zeros)
+    ∙ lines-join (indexLines a b c d (entries es) zeros) (
+      record { no-feed = refl; no-return = λ q. refl },
+      (
+        record { no-feed = refl; no-return = λ q. refl },
+        (
+          list-is-line es c,
+          (
+            record { no-feed = refl; no-return = λ q. refl },
+            lacks-replicate 10 0 zeros refl,
+          ),
+        ),
+      ),
+    )
+
+-- entries are split at their commas
+split-entries : (es : List Entry) → 1 ≤ length es → split 44 (entries es) ≡ map entry es
+split-entries [] h = absurd (omega arith)
+split-entries (e ∷ es) h = ap (split 44) (entries-joined (e ∷ es)) ∙ split-joined 44 (entry e) (map entry es) (entries-lack 44 refl refl (e ∷ es))
+
+-- an entry, trimmed, is its number in decimal
+trim-entry : (e : Entry) → trim (entry e) ≡ decimal (e .number)
+unfolding entry
+trim-entry e = trim-text (e .before) (decimal (e .number)) (e .after) (decimal-is (e .number) .some-digit) (decimal-lacks 32 (e .number) refl)
+
+-- entries are read as their numbers
+read-entries : (es : List Entry) → ((i : ℕ) → getD (numbers es) i 0 < 10 ^ 10) → numerals 10 (map trim (map entry es)) ≡ some (numbers es)
+unfolding numerals both
+read-entries [] h = refl
+read-entries (e ∷ es) h = rw (trim-entry e, numeral-decimal 10 (e .number) (omega arith) (h 0), read-entries es (λ i. h (suc i)))
+
+-- the lines of an index are read as its numbers
+read-lines : (a b c d : LineEnd) (es : List Entry) (zeros : ℕ) → 1 ≤ length es → ((i : ℕ) → getD (numbers es) i 0 < 10 ^ 10)
+    → indexed (indexLines a b c d (entries es) zeros) ≡ some (numbers es)
+unfolding indexed listed
+read-lines a b c d es zeros p h =
+    rw (zeros-all-zero zeros, indexed, brackets-of (entries es), split-entries es p) (read-entries es h)
+
+-- what is read as the offsets is good
+read-good : (offsets : List ℕ) (t : Bytes) → allZero t ≡ false → indexed (lines t) ≡ some offsets → verdict offsets t ≡ Good
+unfolding verdict judged
+read-good offsets t z h = rw (z, verdict, h, eq-same offsets offsets refl, judged)
+
+-- a rendering of numbers of at most ten digits is a good index of them
+rendering-good : (a b c d : LineEnd) (es : List Entry) (zeros : ℕ) → 1 ≤ length es → ((i : ℕ) → getD (numbers es) i 0 < 10 ^ 10)
+    → verdict (numbers es) (rendering a b c d es zeros) ≡ Good
+unfolding rendering
+rendering-good a b c d es zeros p h =
+    read-good (numbers es) (rendering a b c d es zeros) refl (ap indexed (lines-rendering a b c d es zeros) ∙ read-lines a b c d es zeros p h)
+
+-- a rendering of the offsets, where they have at most ten digits, is a good index
+pub index-is-good : (offsets : List ℕ) (t : Bytes) → ((i : ℕ) → getD offsets i 0 < 10 ^ 10) → IsIndex offsets t → verdict offsets t ≡ Good
+index-is-good offsets t h i =
+    ap₂ verdict (sym (i .same-numbers)) (i .written)
+    ∙ rendering-good (i .first) (i .second) (i .third) (i .fourth) (i .list) (i .zeros) (i .some-number) (λ k. rw (i .same-numbers) (h k))
+
+-- a number after a comma, as it is written here
+abbrev next : ℕ → Entry
+next m = record { before = 1; number = m; after = 0 }
+
+-- the numbers of the entries that are written are the offsets
+spaced-numbers : (offsets : List ℕ) → numbers (spaced offsets) ≡ offsets
+unfolding spaced
+spaced-numbers [] = refl
+spaced-numbers (n ∷ ns) = ap (λ (ms : List ℕ). n ∷ ms) (map-map (λ (e : Entry). e .number) next ns ∙ map-id ns)
+
+-- the index that is written is an index of the offsets
+pub text-is-index : (offsets : List ℕ) → 1 ≤ length offsets → IsIndex offsets (indexText offsets)
+unfolding indexText
+text-is-index offsets h = record {
+  first = lf;
+  second = lf;
+  third = lf;
+  fourth = lf;
+  list = spaced offsets;
+  zeros = 0;
+  written = refl;
+  same-numbers = spaced-numbers offsets;
+  some-number = omega (arith, length-map (spaced offsets) (λ (e : Entry). e .number), ap length (spaced-numbers offsets));
+}
+
+-- how many digits numbers have together
+unfoldable pub digitCount : List ℕ → ℕ
+digitCount [] = 0
+digitCount (n ∷ ns) = length (decimal n) + digitCount ns
+
+-- an entry is as long as its spaces and its digits
+entry-length : (e : Entry) → length (entry e) ≡ e .before + length (decimal (e .number)) + e .after
+unfolding entry
+entry-length e = simp (length-append, length-replicate)
+
+-- each number after the first takes its digits, a comma and a space
+entries-length : (e : Entry) (ns : List ℕ) → length (entries (e ∷ map next ns)) ≡ length (entry e) + digitCount ns + 2 * length ns
+unfolding entries digitCount
+entries-length e [] = omega arith
+entries-length e (n ∷ ns) = simp length-append (omega (arith, entry-length (next n), entries-length (next n) ns))
+
+-- the index that is written is as long as its fixed bytes, its digits, and a comma and a space between each two numbers
+pub text-length : (offsets : List ℕ) → 1 ≤ length offsets → length (indexText offsets) ≡ 39 + digitCount offsets + 2 * (length offsets - 1)
+unfolding indexText rendering spaced digitCount
+text-length [] h = absurd (omega arith)
+text-length (n ∷ ns) h =
+    let e : Entry = record { before = 0; number = n; after = 0 } in
+    simp length-append (omega (arith, entry-length e, entries-length e ns))
+
+-- numbers below 2 ^ 32 have at most ten digits each
+digits-at-most : (ns : List ℕ) → ((i : ℕ) → getD ns i 0 < 2 ^ 32) → digitCount ns ≤ 10 * length ns
+unfolding digitCount
+digits-at-most [] h = omega arith
+digits-at-most (n ∷ ns) h =
+    omega (arith, decimal-is n .few 10 (omega arith) (omega (arith, h 0)), digits-at-most ns (λ i. h (suc i)))
+
+-- the index of at most 64 offsets below 2 ^ 32 takes at most 805 bytes
+pub text-at-most : (offsets : List ℕ) → length offsets ≤ 64 → ((i : ℕ) → getD offsets i 0 < 2 ^ 32) → length (indexText offsets) ≤ 805
+unfolding indexText rendering spaced entries
+text-at-most [] h k = omega arith
+text-at-most (n ∷ ns) h k = omega (arith, text-length (n ∷ ns) (omega arith), digits-at-most (n ∷ ns) k)

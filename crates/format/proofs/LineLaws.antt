@@ -22,6 +22,12 @@ endsIn b [] = false
 endsIn b (a ∷ []) = eqb a b
 endsIn b (a ∷ c ∷ t) = endsIn b (c ∷ t)
 
+-- the last byte of a text with one byte more at its end is that byte
+pub ends-snoc : (b a : ℕ) (s : Bytes) → endsIn b (s ++ (a ∷ [])) ≡ eqb a b
+ends-snoc b a [] = refl
+ends-snoc b a (c ∷ []) = refl
+ends-snoc b a (c ∷ d ∷ s) = ends-snoc b a (d ∷ s)
+
 -- t is the text of a line that ends in e: it has no 0A, and no 0D at its end that would belong to the line end
 pub record IsLine (t : Bytes) (e : LineEnd) : Type 0 where
   pub no-feed : lacks 10 t ≡ true

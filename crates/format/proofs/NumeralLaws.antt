@@ -1,7 +1,7 @@
 -- Writing and reading a decimal number undo each other, and so do joining parts and splitting.
 use Prim.Native.Nat.{ℕ, zero, suc, _+_, _-_, _*_, _/_, _%_, _^_, _≤_, _<_}
 use mathlib.Core.Path.{_≡_, refl, sym, ap, ap₂, _∙_}
-use mathlib.Core.Bool.{Bool, true, false, _&&_, _||_, not, and-assoc, and-true, or-true}
+use mathlib.Core.Bool.{Bool, true, false, _&&_, _||_, not, and-assoc, and-true, or-true, true≢false}
 use mathlib.Core.List.{List, [], _∷_, _++_, append-nil}
 use mathlib.Core.Option.{some}
 use native.Mathlib.Nat.{pow-suc, pow-succ', one-le-mul, one-le-pow, lt-of-lt-of-le, pow-le-pow-right}
@@ -13,7 +13,7 @@ use lib.Arith.{digits-lt, digits-div, digits-mod}
 use borrow.Author.Tests.{ltb-true, ltb-false, lt-ltb, le-ltb, leb-true, le-leb, lt-leb, eqb-false, ne-eqb, not-true, eqb-true, eq-eqb}
 use Rattle.format.specs.Bytes.{Bytes, text, begins}
 use Rattle.format.specs.Numeral.{isDigit, allDigits, decimalValue, isNumeral, numeral, split, leadFirst, digitsOf, decimal}
-use Rattle.format.proofs.ByteLaws.{and-left, and-right, and-both, lacks, lacks-head, lacks-tail, lacks-cons}
+use Rattle.format.proofs.ByteLaws.{and-left, and-right, and-both, lacks, lacks-head, lacks-tail, lacks-cons, lacks-append}
 
 -- t is x in decimal: digits, one or more and no more than it takes, that give x, with no leading zero but in a lone 0
 pub record IsDecimal (x : ℕ) (t : Bytes) : Type 0 where
@@ -87,6 +87,17 @@ digits-are (suc n) x h = go (ltb x 10) refl (digits-are n (x / 10))
 -- a number in decimal is that number
 pub decimal-is : (x : ℕ) → IsDecimal x (decimal x)
 decimal-is x = digits-are (suc x) x (omega arith)
+
+-- digits lack what is no digit
+digits-lack : (b : ℕ) (t : Bytes) → isDigit b ≡ false → allDigits t ≡ true → lacks b t ≡ true
+digits-lack b [] n h = refl
+digits-lack b (a ∷ t) n h =
+    let other : a ≡ b → ⊥ = λ e. true≢false (sym (and-left _ _ h) ∙ ap isDigit e ∙ n) in
+    lacks-cons b a t (ne-eqb a b other) (digits-lack b t n (and-right (isDigit a) _ h))
+
+-- a number in decimal lacks what is no digit
+pub decimal-lacks : (b n : ℕ) → isDigit b ≡ false → lacks b (decimal n) ≡ true
+decimal-lacks b n h = digits-lack b (decimal n) h (decimal-is n .digits)
 
 -- what holds of the empty text, and of a text with a byte more at its end, holds of every text
 by-last : (P : Bytes → Type 0) → P [] → ((s : Bytes) (d : ℕ) → P s → P (s ++ (d ∷ []))) → (t : Bytes) → P t
@@ -275,3 +286,11 @@ split-parts b (a ∷ s) = go (eqb a b) refl (split-parts b s)
     go : (x : Bool) → eqb a b ≡ x → AreParts b s (split b s) → AreParts b (a ∷ s) (split b (a ∷ s))
     go true e i = rw (e, split, eqb-true a b e) (cut-parts b s (split b s) i)
     go false e i = rw (e, split) (lead-parts b a s (split b s) e i)
+
+-- parts without b, joined by another byte, have no b
+pub joined-lacks : (b a : ℕ) (ps : List Bytes) → eqb a b ≡ false → AllLack b ps → lacks b (joined a ps) ≡ true
+unfolding joined
+joined-lacks b a [] e h = refl
+joined-lacks b a (p ∷ []) e h = h .0
+joined-lacks b a (p ∷ q ∷ ps) e h =
+    lacks-append b p (a ∷ joined a (q ∷ ps)) (h .0) (lacks-cons b a (joined a (q ∷ ps)) e (joined-lacks b a (q ∷ ps) e (h .1)))
