@@ -8,11 +8,12 @@ use lib.Dec.{eqb}
 use borrow.Author.Tests.{eqb-true, eq-eqb, not-true}
 use Rattle.format.specs.Bytes.{Bytes, begins, same, allZero}
 
--- both tests of two that hold together hold
+-- of two tests that hold together the first holds
 pub and-left : (a b : Bool) → (a && b) ≡ true → a ≡ true
 and-left true b h = refl
 and-left false b h = h
 
+-- of two tests that hold together the second holds
 pub and-right : (a b : Bool) → (a && b) ≡ true → b ≡ true
 and-right true b h = h
 and-right false b h = cc
@@ -66,29 +67,30 @@ abbrev pub lacks : ℕ → Bytes → Bool
 lacks b [] = true
 lacks b (a ∷ t) = not (eqb a b) && lacks b t
 
--- the first byte is another, and the rest has none
+-- the first byte of a text that has no b is another
 pub lacks-head : (b a : ℕ) (t : Bytes) → lacks b (a ∷ t) ≡ true → eqb a b ≡ false
 lacks-head b a t h = not-true (eqb a b) (and-left _ _ h)
 
+-- a text that has no b has none behind its first byte
 pub lacks-tail : (b a : ℕ) (t : Bytes) → lacks b (a ∷ t) ≡ true → lacks b t ≡ true
 lacks-tail b a t h = and-right (not (eqb a b)) _ h
 
--- another byte in front of a text that has none
+-- a text that has no b, with another byte in front, has none
 pub lacks-cons : (b a : ℕ) (t : Bytes) → eqb a b ≡ false → lacks b t ≡ true → lacks b (a ∷ t) ≡ true
 lacks-cons b a t h q = rw h q
 
--- texts that have none, one behind the other, have none
+-- two texts that have no b, one behind the other, have none
 pub lacks-append : (b : ℕ) (s t : Bytes) → lacks b s ≡ true → lacks b t ≡ true → lacks b (s ++ t) ≡ true
 lacks-append b [] t h k = k
 lacks-append b (a ∷ s) t h k = lacks-cons b a (s ++ t) (lacks-head b a s h) (lacks-append b s t (lacks-tail b a s h) k)
 
--- a text that has none has none the other way round
+-- a text that has no b has none the other way round
 pub lacks-reverse : (b : ℕ) (t : Bytes) → lacks b t ≡ true → lacks b (reverse t) ≡ true
 lacks-reverse b [] h = refl
 lacks-reverse b (a ∷ t) h =
     rw reverse-cons (lacks-append b (reverse t) (a ∷ []) (lacks-reverse b t (lacks-tail b a t h)) (lacks-cons b a [] (lacks-head b a t h) refl))
 
--- so many of another byte have none
-pub lacks-replicate : (b a : ℕ) (n : ℕ) → eqb a b ≡ false → lacks b (replicate n a) ≡ true
+-- so many of another byte have no b
+pub lacks-replicate : (b a n : ℕ) → eqb a b ≡ false → lacks b (replicate n a) ≡ true
 lacks-replicate b a zero e = refl
 lacks-replicate b a (suc n) e = lacks-cons b a (replicate n a) e (lacks-replicate b a n e)

@@ -1,5 +1,5 @@
 -- An index is good exactly when it is a rendering of the blocks' offsets; and the index that is written here is one.
-use Prim.Native.Nat.{ℕ, zero, suc, _+_, _-_, _*_, _^_, _≤_, _<_}
+use Prim.Native.Nat.{ℕ, suc, _+_, _-_, _*_, _^_, _≤_, _<_}
 use mathlib.Core.Path.{_≡_, refl, sym, ap, ap₂, _∙_}
 use mathlib.Core.Bool.{Bool, true, false, _&&_}
 use mathlib.Core.List.{List, [], _∷_, _++_, map, map-map, map-id, reverse, reverse-cons, reverse-append, reverse-reverse, append-assoc}
@@ -7,9 +7,8 @@ use mathlib.Core.Option.{Option, none, some, Option·none-ne-some}
 use native.Mathlib.Omega.{arith}
 use lib.ListN.{length, replicate, getD, length-append, length-map, length-replicate}
 use lib.Dec.{eqb}
-use borrow.Author.Tests.{eqb-true, eq-eqb}
-use Rattle.format.specs.declared.layout.Verdict.{Verdict}
-use Rattle.format.specs.declared.layout.Verdict.the-variants.{Absent, Good, IgnoredForm, IgnoredList}
+use borrow.Author.Tests.{eqb-true}
+use Rattle.format.specs.declared.layout.Verdict.the-variants.{Absent, Good, IgnoredList}
 use Rattle.format.specs.Bytes.{Bytes, text, same, allZero}
 use Rattle.format.specs.Numeral.{isDigit, numeral, both, numerals, split, decimal}
 use Rattle.format.specs.Line.{LineEnd, lf, Lines, unended, line, lines}
@@ -17,11 +16,11 @@ use Rattle.format.specs.Comments.{indexLine}
 use Rattle.format.specs.Tree.{yamlLine, endLine}
 use Rattle.format.specs.Index.{without, trim, inBrackets, listed, indexed, judged, verdict, Entry, entry, entries, rendering, spaced, indexText, IsIndex}
 use Rattle.format.proofs.ByteLaws.{and-left, and-right, same-true, eq-same, all-zero-true, zeros-all-zero, lacks, lacks-append, lacks-replicate}
-use Rattle.format.proofs.LineLaws.{joinLines, join-lines, IsLine, ends-snoc, lines-join}
+use Rattle.format.proofs.LineLaws.{joinLines, join-lines, IsLine, plain-line, AreLines, ends-snoc, lines-join}
 use Rattle.format.proofs.NumeralLaws.{decimal-is, decimal-lacks, joined-lacks, numeral-decimal, numeral-text, joined, AllLack, split-joined, split-parts}
 use Rattle.format.proofs.SpaceLaws.{trim-padded, trim-text}
 
--- what is behind p is behind p
+-- a byte string is p and what is left of it behind p
 without-some : (p s u : Bytes) → without p s ≡ some u → s ≡ p ++ u
 unfolding without
 without-some [] s u h = cc
@@ -32,11 +31,11 @@ without-some (a ∷ p) (b ∷ s) u h = go (eqb a b) refl (without-some p s u)
     go true e i = cc (eqb-true a b e, i (rw (e, without) at h))
     go false e i = let n : none ≡ some u = rw (e, without) at h in cc
 
--- the list's line
+-- the list's line, with u between the brackets
 abbrev listLine : Bytes → Bytes
 listLine u = text "--- [" ++ (u ++ text "]")
 
--- what stands between the brackets stands between them
+-- a line is that of what is found between its brackets
 brackets-some : (c u : Bytes) → inBrackets c ≡ some u → c ≡ listLine u
 unfolding inBrackets
 brackets-some c u h = outer (without (text "--- [") c) refl
@@ -52,7 +51,7 @@ brackets-some c u h = outer (without (text "--- [") c) refl
     outer none e = let n : none ≡ some u = rw (e, inBrackets) at h in cc
     outer (some w) e = inner w (without (text "]") (reverse w)) refl e
 
--- what is between the brackets is found there
+-- what stands between the brackets is found there
 brackets-of : (u : Bytes) → inBrackets (listLine u) ≡ some u
 unfolding inBrackets without
 brackets-of u = rw (reverse-append u (text "]"), inBrackets) (ap some (reverse-reverse u))
@@ -74,12 +73,13 @@ record AreEntries (ps : List Bytes) (ns : List ℕ) : Type 0 where
   written : map entry list ≡ ps
   same-numbers : numbers list ≡ ns
 
--- a part that is read as a number, trimmed, is an entry of that number
-entry-of : (p : Bytes) → ℕ → Entry
+-- a number with the spaces around it that a part has
+abbrev entry-of : Bytes → ℕ → Entry
 entry-of p n = record { before = trim-padded p .before; number = n; after = trim-padded p .after }
 
+-- a part that is read as a number, trimmed, is that number's entry
 entry-written : (p : Bytes) (n : ℕ) → numeral 10 (trim p) ≡ some n → entry (entry-of p n) ≡ p
-unfolding entry entry-of
+unfolding entry
 entry-written p n h = rw (← numeral-text 10 (trim p) n h) (sym (trim-padded p .padded))
 
 -- numbers that are read together are read one by one
@@ -92,7 +92,7 @@ both-some (some n) (some ms) ns h = (n, ms, refl, refl, cc)
 
 -- parts that are read as numbers, trimmed, are entries of those numbers
 all-entries : (ps : List Bytes) (ns : List ℕ) → numerals 10 (map trim ps) ≡ some ns → AreEntries ps ns
-unfolding numerals entry-of
+unfolding numerals
 all-entries [] ns h = record { list = []; written = refl; same-numbers = cc }
 all-entries (p ∷ ps) ns h =
     let (n, ms, first, others, whole) = both-some (numeral 10 (trim p)) (numerals 10 (map trim ps)) ns h in
@@ -103,13 +103,14 @@ all-entries (p ∷ ps) ns h =
       same-numbers = ap (λ (ks : List ℕ). n ∷ ks) (rest .same-numbers) ∙ whole;
     }
 
--- a list that is read is that of entries
+-- t is a list of entries of these numbers
 record IsList (t : Bytes) (ns : List ℕ) : Type 0 where
   list : List Entry
   written : entries list ≡ t
   same-numbers : numbers list ≡ ns
   some-number : 1 ≤ length list
 
+-- a list that is read as numbers is one of entries of them
 list-read : (t : Bytes) (ns : List ℕ) → listed (some t) ≡ some ns → IsList t ns
 unfolding listed
 list-read t ns h =
@@ -122,7 +123,7 @@ list-read t ns h =
       some-number = omega (arith, parts .some-part, ap length (es .written), length-map (es .list) entry);
     }
 
--- the lines of an index, with the list's bytes u between the brackets
+-- the lines of an index, with u between the brackets
 abbrev indexLines : LineEnd → LineEnd → LineEnd → LineEnd → Bytes → ℕ → Lines
 indexLines a b c d u zeros = line indexLine a (line yamlLine b (line (listLine u) c (line endLine d (unended (replicate zeros 0)))))
 
@@ -140,7 +141,7 @@ line-read c ns h = go (inBrackets c) refl
     go none e = absurd (Option·none-ne-some ns (rw (e, listed) at h))
     go (some u) e = (u, brackets-some c u e, rw e at h)
 
--- lines that are read as an index
+-- l are the lines of an index that is read as these numbers
 record ReadIndex (l : Lines) (ns : List ℕ) : Type 0 where
   first : LineEnd
   second : LineEnd
@@ -227,30 +228,24 @@ entries-lack b h k (e ∷ es) =
     let number = lacks-append b (replicate (e .before) 32) (decimal (e .number)) before (decimal-lacks b (e .number) k) in
     (lacks-append b (replicate (e .before) 32 ++ decimal (e .number)) (replicate (e .after) 32) number after, entries-lack b h k es)
 
--- the list's line is a line
+-- the list's line has the text of a line
 list-is-line : (es : List Entry) (e : LineEnd) → IsLine (listLine (entries es)) e
 list-is-line es e =
     let u = entries es in
     let lack : lacks 10 u ≡ true = rw entries-joined (joined-lacks 10 44 (map entry es) refl (entries-lack 10 refl refl es)) in
-    record { no-feed = lacks-append 10 (text "--- [") (u ++ text "]") refl (lacks-append 10 u (text "]") lack refl); no-return = λ q. ends-snoc 13 93 (text "--- [" ++ u) }
+    let whole = lacks-append 10 (text "--- [") (u ++ text "]") refl (lacks-append 10 u (text "]") lack refl) in
+    plain-line (listLine u) e whole (ends-snoc 13 93 (text "--- [" ++ u))
+
+-- the lines of an index have texts of lines
+index-are-lines : (a b c d : LineEnd) (es : List Entry) (zeros : ℕ) → AreLines (indexLines a b c d (entries es) zeros)
+index-are-lines a b c d es zeros =
+    let end : AreLines (line endLine d (unended (replicate zeros 0))) = (plain-line endLine d refl refl, lacks-replicate 10 0 zeros refl) in
+    (plain-line indexLine a refl refl, (plain-line yamlLine b refl refl, (list-is-line es c, end)))
 
 -- a rendering has the lines of an index
 lines-rendering : (a b c d : LineEnd) (es : List Entry) (zeros : ℕ) → lines (rendering a b c d es zeros) ≡ indexLines a b c d (entries es) zeros
 lines-rendering a b c d es zeros =
-    ap lines (rendering-join a b c d es zeros)
-    ∙ lines-join (indexLines a b c d (entries es) zeros) (
-      record { no-feed = refl; no-return = λ q. refl },
-      (
-        record { no-feed = refl; no-return = λ q. refl },
-        (
-          list-is-line es c,
-          (
-            record { no-feed = refl; no-return = λ q. refl },
-            lacks-replicate 10 0 zeros refl,
-          ),
-        ),
-      ),
-    )
+    ap lines (rendering-join a b c d es zeros) ∙ lines-join (indexLines a b c d (entries es) zeros) (index-are-lines a b c d es zeros)
 
 -- entries are split at their commas
 split-entries : (es : List Entry) → 1 ≤ length es → split 44 (entries es) ≡ map entry es

@@ -33,7 +33,7 @@ pub record IsLine (t : Bytes) (e : LineEnd) : Type 0 where
   pub no-feed : lacks 10 t ≡ true
   pub no-return : e ≡ lf → endsIn 13 t ≡ false
 
--- every line's text is one, and the bytes behind the last line have no 0A
+-- every text is that of a line with its line end, and the bytes behind the last line have no 0A
 abbrev pub AreLines : Lines → Type 0
 AreLines (unended t) = lacks 10 t ≡ true
 AreLines (line t e l) = IsLine t e × AreLines l
@@ -60,19 +60,19 @@ join-lines (b ∷ s) = go (eqb b 10) refl (join-lines s)
     go true h i = rw (h, lines) (cc (eqb-true b 10 h))
     go false h i = rw (h, lines) (cc (join-lead b (lines s)))
 
--- bytes with no 0A are no line
+-- bytes with no 0A have no line
 pub lines-unended : (z : Bytes) → lacks 10 z ≡ true → lines z ≡ unended z
 unfolding lines lead
 lines-unended [] h = refl
 lines-unended (b ∷ z) h = rw (lacks-head 10 b z h, lines, lines-unended z (lacks-tail 10 b z h))
 
--- an empty text is one, before any line end
-empty-line : (e : LineEnd) → IsLine [] e
-empty-line e = record { no-feed = refl; no-return = λ q. refl }
+-- a text with no 0A, that does not end in 0D, is that of a line with any line end
+pub plain-line : (t : Bytes) (e : LineEnd) → lacks 10 t ≡ true → endsIn 13 t ≡ false → IsLine t e
+plain-line t e h k = record { no-feed = h; no-return = λ q. k }
 
--- the text of a line is one without its first byte
+-- the text of a line is that of a line without its first byte
 line-tail : (b : ℕ) (t : Bytes) (e : LineEnd) → IsLine (b ∷ t) e → IsLine t e
-line-tail b [] e h = empty-line e
+line-tail b [] e h = plain-line [] e refl refl
 line-tail b (a ∷ t) e h = record { no-feed = lacks-tail 10 b (a ∷ t) (h .no-feed); no-return = h .no-return }
 
 -- a byte in front of a line becomes its text's first
@@ -90,30 +90,30 @@ lines-line [] crlf s h = refl
 lines-line (b ∷ t) e s h =
     rw (lacks-head 10 b t (h .no-feed), lines, lines-line t e s (line-tail b t e h)) (lead-line b t e (lines s) h)
 
--- lines with a byte in front that is no 0A are lines
+-- lines with texts of lines have them with one more byte in front, that is no 0A
 lead-are-lines : (b : ℕ) (l : Lines) → eqb b 10 ≡ false → AreLines l → AreLines (lead b l)
 unfolding lead
 lead-are-lines b (unended t) h a = lacks-cons 10 b t h a
 lead-are-lines b (line [] lf l) h a = go (eqb b 13) refl
   where
     go : (x : Bool) → eqb b 13 ≡ x → AreLines (lead b (line [] lf l))
-    go true r = rw (r, lead) (empty-line crlf, a .1)
-    go false r = rw (r, lead) (record { no-feed = lacks-cons 10 b [] h refl; no-return = λ q. r }, a .1)
+    go true r = rw (r, lead) (plain-line [] crlf refl refl, a .1)
+    go false r = rw (r, lead) (plain-line (b ∷ []) lf (lacks-cons 10 b [] h refl) r, a .1)
 lead-are-lines b (line [] crlf l) h a = (record { no-feed = lacks-cons 10 b [] h refl; no-return = λ q. cc }, a .1)
 lead-are-lines b (line (c ∷ t) e l) h a =
     (record { no-feed = lacks-cons 10 b (c ∷ t) h (a .0 .no-feed); no-return = a .0 .no-return }, a .1)
 
--- every byte string's lines are lines
+-- the lines of a byte string have texts of lines: none has a 0A
 pub are-lines : (s : Bytes) → AreLines (lines s)
 unfolding lines
 are-lines [] = refl
 are-lines (b ∷ s) = go (eqb b 10) refl (are-lines s)
   where
     go : (x : Bool) → eqb b 10 ≡ x → AreLines (lines s) → AreLines (lines (b ∷ s))
-    go true h i = rw (h, lines) (empty-line lf, i)
+    go true h i = rw (h, lines) (plain-line [] lf refl refl, i)
     go false h i = rw (h, lines) (lead-are-lines b (lines s) h i)
 
--- lines are the lines of their bytes
+-- lines with texts of lines are the lines of their bytes
 pub lines-join : (l : Lines) → AreLines l → lines (joinLines l) ≡ l
 unfolding joinLines
 lines-join (unended t) h = lines-unended t h

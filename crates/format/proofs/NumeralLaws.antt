@@ -23,12 +23,12 @@ pub record IsDecimal (x : ℕ) (t : Bytes) : Type 0 where
   pub value : decimalValue t ≡ x
   pub no-zero : 1 ≤ x → begins (text "0") t ≡ false
 
--- digits behind digits are digits
+-- all of two texts are digits if all of each are
 digits-append : (s t : Bytes) → allDigits (s ++ t) ≡ (allDigits s && allDigits t)
 digits-append [] t = refl
 digits-append (b ∷ s) t = ap (λ (x : Bool). isDigit b && x) (digits-append s t) ∙ sym (and-assoc (isDigit b) (allDigits s) (allDigits t))
 
--- one byte more at the end
+-- a text with one byte more at its end is one longer
 length-snoc : (t : Bytes) (d : ℕ) → length (t ++ (d ∷ [])) ≡ suc (length t)
 length-snoc t d = omega (arith, length-append t (d ∷ []))
 
@@ -61,8 +61,7 @@ more-few : (x : ℕ) (t : Bytes) (d : ℕ) → 10 ≤ x → ((k : ℕ) → 1 ≤
     → (k : ℕ) → x < 10 ^ k → length (t ++ (d ∷ [])) ≤ k
 more-few x t d h few zero p = absurd (omega arith)
 more-few x t d h few (suc zero) p = absurd (omega arith)
-more-few x t d h few (suc (suc j)) p =
-    omega (arith, length-snoc t d, few (suc j) (omega arith) (omega arith))
+more-few x t d h few (suc (suc j)) p = omega (arith, length-snoc t d, few (suc j) (omega arith) (omega arith))
 
 -- a tenth in decimal, and behind it the digit of what is left, is the number
 more-digits : (x : ℕ) (t : Bytes) → 10 ≤ x → IsDecimal (x / 10) t → IsDecimal x (t ++ ((48 + x % 10) ∷ []))
@@ -136,12 +135,12 @@ digits-more : (n q r : ℕ) → 1 ≤ q → r < 10 → digitsOf (suc n) (q * 10 
 unfolding digitsOf
 digits-more n q r h k = rw (le-ltb (q * 10 + r) 10 (omega arith), digitsOf, digits-div q k, digits-mod q k)
 
--- digits with no leading zero are their number in decimal
+-- if t has digits with no leading zero, it is its number in decimal
 abbrev ReadsBack : Bytes → Type 0
 ReadsBack t = 1 ≤ length t → allDigits t ≡ true → (2 ≤ length t → begins (text "0") t ≡ false)
     → (n : ℕ) → decimalValue t < n → digitsOf n (decimalValue t) ≡ t
 
--- so if the text without its last digit reads back, the text does
+-- where a text is its number in decimal, it is so with one digit more
 reads-more : (s : Bytes) (d : ℕ) → ReadsBack s → ReadsBack (s ++ (d ∷ []))
 reads-more s d i p ds z zero h = absurd (omega arith)
 reads-more [] d i p ds z (suc n) h =
@@ -157,12 +156,7 @@ reads-more (b ∷ s) d i p ds z (suc n) h =
     ∙ digits-more n (decimalValue (b ∷ s)) (d - 48) tens (omega arith)
     ∙ ap₂ (λ (t : Bytes) (x : ℕ). t ++ (x ∷ [])) (i (omega arith) front (λ k. z (omega (arith, length-snoc s d))) n (omega arith)) (omega arith)
 
--- one of two tests holds, and not the first
-or-second : (a b : Bool) → (a || b) ≡ true → a ≡ false → b ≡ true
-or-second true b h e = cc
-or-second false b h e = h
-
--- digits with no leading zero read back
+-- digits with no leading zero are their number in decimal
 reads-back : (t : Bytes) → ReadsBack t
 reads-back = by-last _ (λ h. absurd (omega arith)) reads-more
 
@@ -184,6 +178,11 @@ numeral-decimal most n p h =
     let good = and-both _ _ (and-both _ (allDigits (decimal n)) sized (d .digits)) (no-leading-zero n (decimal n) d) in
     rw (good, numeral) (ap some (d .value))
 
+-- of two tests of which one holds, and not the first, the second holds
+or-second : (a b : Bool) → (a || b) ≡ true → a ≡ false → b ≡ true
+or-second true b h e = cc
+or-second false b h e = h
+
 module _ (most : ℕ) (t : Bytes) (n : ℕ) (h : numeral most t ≡ some n) where
   -- what is read as a number is a numeral, and gives the number
   numeral-value : (isNumeral most t ≡ true) × (decimalValue t ≡ n)
@@ -204,7 +203,9 @@ module _ (most : ℕ) (t : Bytes) (n : ℕ) (h : numeral most t ≡ some n) wher
 
   -- it has no leading zero, but a lone one
   numeral-lead : 2 ≤ length t → begins (text "0") t ≡ false
-  numeral-lead k = not-true _ (or-second (leb (length t) 1) _ (and-right (leb 1 (length t) && leb (length t) most && allDigits t) _ (numeral-value .0)) (lt-leb (length t) 1 k))
+  numeral-lead k =
+      let lead = and-right (leb 1 (length t) && leb (length t) most && allDigits t) _ (numeral-value .0) in
+      not-true _ (or-second (leb (length t) 1) _ lead (lt-leb (length t) 1 k))
 
   -- what is read as a number is the number in decimal
   pub numeral-text : t ≡ decimal n

@@ -25,7 +25,7 @@ reverse-spaces (suc n) =
     ∙ replicate-append-replicate n 1 32
     ∙ ap spaces (add-one n)
 
--- spaces are taken away in front
+-- what is taken away in front are spaces
 start-spaces : (s : Bytes) → (n : ℕ) × (s ≡ spaces n ++ trimStart s)
 unfolding trimStart
 start-spaces [] = (0, refl)
@@ -35,7 +35,7 @@ start-spaces (b ∷ s) = go (eqb b 32) refl (start-spaces s)
     go true e i = (suc (i .0), rw (e, trimStart) (cc (eqb-true b 32 e)))
     go false e i = (0, rw (e, trimStart))
 
--- and at the end
+-- what is taken away at the end are spaces
 end-spaces : (s : Bytes) → (n : ℕ) × (s ≡ reverse (trimStart (reverse s)) ++ spaces n)
 end-spaces s =
     let i = start-spaces (reverse s) in
