@@ -12,3 +12,4 @@ pub mod LineLaws
 pub mod NumeralLaws
 pub mod SpaceLaws
 pub mod IndexLaws
+pub mod ReadLaws

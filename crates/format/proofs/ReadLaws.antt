@@ -1,0 +1,277 @@
+-- What is read of a file is a front part of what stands there: it ends inside it, and reads the same elsewhere and with other bytes behind.
+use Prim.Native.Nat.{ℕ, suc, _+_, _≤_}
+use mathlib.Core.Path.{_≡_, refl, sym, ap, subst, _∙_}
+use mathlib.Core.Bool.{Bool, true, false}
+use mathlib.Core.List.{[], _∷_, _++_, append-assoc}
+use mathlib.Core.Option.{Option, none, some}
+use native.Mathlib.Nat.{add-zero, add-assoc}
+use native.Mathlib.Omega.{arith}
+use lib.ListN.{length, drop, length-append, length-drop}
+use Rattle.format.specs.declared.layout.Version.{Version}
+use Rattle.format.specs.declared.layout.Header.{Header}
+use Rattle.format.specs.declared.layout.Tree.{Tree}
+use Rattle.format.specs.Bytes.{Bytes, text, begins, same}
+use Rattle.format.specs.Outcome.{Outcome, accepted, refused}
+use Rattle.format.specs.Line.{LineEnd, lf, crlf, lineEnd, Lines, unended, line, behind, lines}
+use Rattle.format.specs.Header.{token, version, headerOf, versionLine, header}
+use Rattle.format.specs.Comments.{indexLine, comments}
+use Rattle.format.specs.Tree.{yamlLine, endLine, isStart, isDirective, content, directives, treeEnd, mark, freeSpace, withRoom, tree}
+use Rattle.format.specs.File.{firstBlock}
+use Rattle.format.proofs.OutcomeLaws.{Accepts, accepted-holds, accepts-bind, accepts-need, choice}
+use Rattle.format.proofs.ByteLaws.{begins-true}
+use Rattle.format.proofs.LineLaws.{joinLines, join-lines, IsLine, AreLines, lines-line, are-lines}
+
+-- what follows a choice may count on its test
+accepts-choice : {A : Type 0} (P : A → Type 0) (t : Bool) (x y : Outcome A) → (t ≡ true → Accepts P x) → (t ≡ false → Accepts P y)
+    → Accepts P (elim t [ true ↦ x | false ↦ y ])
+accepts-choice P true x y h k = h refl
+accepts-choice P false x y h k = k refl
+
+-- what holds of each value that can be accepted
+accepts-each : {A : Type 0} (P : A → Type 0) (o : Outcome A) → ((a : A) → o ≡ accepted a → P a) → Accepts P o
+accepts-each P (accepted a) h = h a refl
+accepts-each P (refused r) h = tt
+
+-- a way to read: it begins at this offset, where these bytes stand, and ends at that offset
+abbrev pub Reading : Type 1
+Reading = ℕ → Bytes → ℕ → Type 0
+
+-- what is read of s from offset n on ends at m; it is a front part of s, and reads the same from any offset with anything behind that may come next
+pub record Front (Next : Bytes → Type 0) (reads : Reading) (n : ℕ) (s : Bytes) (m : ℕ) : Type 0 where
+  pub front : Bytes
+  pub rest : Bytes
+  pub whole : s ≡ front ++ rest
+  pub end : m ≡ n + length front
+  pub next : Next rest
+  pub local : (k : ℕ) (z : Bytes) → Next z → reads k (front ++ z) (k + length front)
+
+-- an offset from low to high
+pub record Between (low high m : ℕ) : Type 0 where
+  pub above : low ≤ m
+  pub below : m ≤ high
+
+-- what is read ends where it begins or behind, and inside the bytes
+pub front-bounds : {Next : Bytes → Type 0} {reads : Reading} {n : ℕ} {s : Bytes} {m : ℕ} → Front Next reads n s m → Between n (n + length s) m
+front-bounds f = omega (arith, f .end, simp length-append at (ap length (f .whole)))
+
+module _ (Next : Bytes → Type 0) (reads : Reading) (n : ℕ) where
+  -- nothing is read
+  front-none : (s : Bytes) → Next s → ((k : ℕ) (z : Bytes) → Next z → reads k z k) → Front Next reads n s n
+  front-none s h here = record { front = []; rest = s; whole = refl; end = omega arith; next = h; local = λ k z q. rw add-zero (here k z q) }
+
+  -- p is read, and then something behind it
+  front-behind : (then : Reading) (p s : Bytes) (m : ℕ) → ((k : ℕ) (z : Bytes) (j : ℕ) → then (k + length p) z j → reads k (p ++ z) j)
+      → Front Next then (n + length p) s m → Front Next reads n (p ++ s) m
+  front-behind then p s m step f = record {
+    front = p ++ f .front;
+    rest = f .rest;
+    whole = rw (append-assoc, ← f .whole);
+    end = simp length-append (omega (arith, f .end));
+    next = f .next;
+    local = λ k z q. rw (append-assoc, length-append, ← add-assoc) (step k (f .front ++ z) _ (f .local (k + length p) z q));
+  }
+
+-- a way to read lines
+abbrev pub LineReading : Type 1
+LineReading = ℕ → Lines → ℕ → Type 0
+
+abbrev pub OnLines : LineReading → Reading
+OnLines reads k s j = reads k (lines s) j
+
+module _ (Next : Bytes → Type 0) (reads then : LineReading) (n : ℕ) (t : Bytes) (e : LineEnd) (s : Bytes) (h : IsLine t e)
+    (step : (k : ℕ) (l : Lines) (j : ℕ) → then (behind k t e) l j → reads k (line t e l) j) where
+  -- a line is read, and then something behind it
+  front-line : (m : ℕ) → Front Next (OnLines then) (behind n t e) s m → Front Next (OnLines reads) n (t ++ (lineEnd e ++ s)) m
+  front-line m f =
+      rw append-assoc at (front-behind Next (OnLines reads) n (OnLines then) (t ++ lineEnd e) s m read (rw (length-append, ← add-assoc) f))
+    where
+      read : (k : ℕ) (z : Bytes) (j : ℕ) → then (k + length (t ++ lineEnd e)) (lines z) j → reads k (lines (t ++ lineEnd e ++ z)) j
+      read k z j q = rw (append-assoc, lines-line t e z h) (step k (lines z) j (rw (length-append, ← add-assoc) at q))
+
+  -- and so for all that can be accepted
+  accepts-line : (o : Outcome ℕ) → Accepts (Front Next (OnLines then) (behind n t e) s) o
+      → Accepts (Front Next (OnLines reads) n (t ++ (lineEnd e ++ s))) o
+  accepts-line (accepted m) f = front-line m f
+  accepts-line (refused r) f = tt
+
+-- a way to read that ends where it begins
+abbrev Stops : LineReading
+Stops n l m = n ≡ m
+
+-- to read what is accepted up to offset m
+abbrev pub Ends : (ℕ → Lines → Outcome ℕ) → LineReading
+Ends reader n l m = reader n l ≡ accepted m
+
+-- to read a tree that ends at offset m
+abbrev pub TreeEnds : LineReading
+TreeEnds n l m = treeEnd n l ≡ accepted (some m)
+
+-- anything may come next
+abbrev pub Any : Bytes → Type 0
+Any z = Unit {0}
+
+-- no comment comes next
+abbrev pub NoComment : Bytes → Type 0
+NoComment z = begins (text "#") z ≡ false
+
+-- nothing is read behind a line
+stopped : (n : ℕ) (t : Bytes) (e : LineEnd) (l : Lines) → Front Any (OnLines Stops) (behind n t e) (joinLines l) (behind n t e)
+stopped n t e l = front-none Any (OnLines Stops) (behind n t e) (joinLines l) tt (λ k z h. refl)
+
+-- behind a tree's start line its content is read as a front part
+content-lines : (n : ℕ) (l : Lines) → AreLines l → Accepts (Front Any (OnLines (Ends content)) n (joinLines l)) (content n l)
+unfolding content joinLines
+content-lines n (unended t) a = tt
+content-lines n (line t e l) a =
+    accepts-choice _ (same t endLine) _ _
+    (λ q. front-line Any (Ends content) Stops n t e (joinLines l) (a .0) (λ k z j h. rw (q, content) (ap accepted h)) _ (stopped n t e l))
+    λ q. accepts-choice _ (isStart t) _ _ (λ r. tt)
+    λ r. accepts-line Any (Ends content) (Ends content) n t e (joinLines l) (a .0) (λ k z j h. rw (q, content, r) h) (content (behind n t e) l)
+    (content-lines (behind n t e) l (a .1))
+
+-- behind a tree's first line its directives and content are read as a front part
+directives-lines : (n : ℕ) (l : Lines) → AreLines l → Accepts (Front Any (OnLines (Ends directives)) n (joinLines l)) (directives n l)
+unfolding directives joinLines
+directives-lines n (unended t) a = tt
+directives-lines n (line t e l) a =
+    accepts-choice _ (isStart t) _ _
+    (λ q. accepts-line Any (Ends directives) (Ends content) n t e (joinLines l) (a .0) (λ k z j h. rw (q, directives) h) (content (behind n t e) l)
+    (content-lines (behind n t e) l (a .1)))
+    λ q. accepts-choice _ (isDirective t) _ _
+    (λ r. accepts-line Any (Ends directives) (Ends directives) n t e (joinLines l) (a .0) (λ k z j h. rw (q, directives, r) h)
+    (directives (behind n t e) l) (directives-lines (behind n t e) l (a .1)))
+    (λ r. tt)
+
+-- a tree, if there is one, is read as a front part
+abbrev TreeFront : ℕ → Bytes → Option ℕ → Type 0
+TreeFront n s none = Unit {0}
+TreeFront n s (some m) = Front Any (OnLines TreeEnds) n s m
+
+tree-lines : (n : ℕ) (l : Lines) → AreLines l → Accepts (TreeFront n (joinLines l)) (treeEnd n l)
+unfolding treeEnd joinLines
+tree-lines n (unended t) a = tt
+tree-lines n (line t e l) a =
+    accepts-choice _ (same t yamlLine) _ _
+    (λ q. accepts-bind _ (directives (behind n t e) l) _
+    λ m h. front-line Any TreeEnds (Ends directives) n t e (joinLines l) (a .0) (λ k z j r. rw (q, treeEnd, r)) m
+    (accepted-holds _ _ m (directives-lines (behind n t e) l (a .1)) h))
+    (λ q. tt)
+
+-- a line begins with a `#` exactly if its text does
+hash-line : (t : Bytes) (e : LineEnd) (s : Bytes) → begins (text "#") (t ++ (lineEnd e ++ s)) ≡ begins (text "#") t
+hash-line [] lf s = refl
+hash-line [] crlf s = refl
+hash-line (b ∷ t) e s = refl
+
+-- where no `#` stands there are no comments
+pub no-comments : (n : ℕ) (s : Bytes) → begins (text "#") s ≡ false → comments n (lines s) ≡ accepted n
+unfolding comments joinLines
+no-comments n s h = on-lines (lines s) (rw join-lines h)
+  where
+    on-lines : (l : Lines) → begins (text "#") (joinLines l) ≡ false → comments n l ≡ accepted n
+    on-lines (unended t) q = rw (q, comments)
+    on-lines (line t e l) q = rw (sym (hash-line t e (joinLines l)) ∙ q, comments)
+
+-- comments are read as a front part, and none comes next
+comments-lines : (n : ℕ) (l : Lines) → AreLines l → Accepts (Front NoComment (OnLines (Ends comments)) n (joinLines l)) (comments n l)
+unfolding comments joinLines
+comments-lines n (unended t) a = accepts-choice _ (begins (text "#") t) _ _ (λ q. tt) (λ q. front-none NoComment _ _ _ q no-comments)
+comments-lines n (line t e l) a =
+    accepts-choice _ (begins (text "#") t) _ _
+    (λ q. accepts-choice _ (same t indexLine) _ _ (λ r. tt)
+    λ r. accepts-line NoComment (Ends comments) (Ends comments) n t e (joinLines l) (a .0) (λ k z j h. rw (q, comments, r) h) (comments (behind n t e) l)
+    (comments-lines (behind n t e) l (a .1)))
+    (λ q. front-none NoComment _ _ _ (hash-line t e (joinLines l) ∙ q) no-comments)
+
+module _ (n : ℕ) (s : Bytes) (m : ℕ) where
+  -- what holds of the lines of a byte string, joined, holds of it
+  of-lines : (Next : Bytes → Type 0) (reader : ℕ → Lines → Outcome ℕ)
+      → Accepts (Front Next (OnLines (Ends reader)) n (joinLines (lines s))) (reader n (lines s))
+      → reader n (lines s) ≡ accepted m → Front Next (OnLines (Ends reader)) n s m
+  of-lines Next reader h = accepted-holds (Front Next (OnLines (Ends reader)) n s) (reader n (lines s)) m (rw join-lines at h)
+
+  -- content of a tree is a front part
+  pub content-front : content n (lines s) ≡ accepted m → Front Any (OnLines (Ends content)) n s m
+  content-front = of-lines Any content (content-lines n (lines s) (are-lines s))
+
+  -- directives and content of a tree are a front part
+  pub directives-front : directives n (lines s) ≡ accepted m → Front Any (OnLines (Ends directives)) n s m
+  directives-front = of-lines Any directives (directives-lines n (lines s) (are-lines s))
+
+  -- comments are a front part, and no comment comes next
+  pub comments-front : comments n (lines s) ≡ accepted m → Front NoComment (OnLines (Ends comments)) n s m
+  comments-front = of-lines NoComment comments (comments-lines n (lines s) (are-lines s))
+
+  -- a tree is a front part
+  pub tree-front : treeEnd n (lines s) ≡ accepted (some m) → Front Any (OnLines TreeEnds) n s m
+  tree-front = accepted-holds (TreeFront n s) (treeEnd n (lines s)) (some m) (rw join-lines at (tree-lines n (lines s) (are-lines s)))
+
+  -- where content of a tree ends
+  pub content-bounds : content n (lines s) ≡ accepted m → Between n (n + length s) m
+  content-bounds h = front-bounds (content-front h)
+
+  -- where directives and content of a tree end
+  pub directives-bounds : directives n (lines s) ≡ accepted m → Between n (n + length s) m
+  directives-bounds h = front-bounds (directives-front h)
+
+  -- where comments end
+  pub comments-bounds : comments n (lines s) ≡ accepted m → Between n (n + length s) m
+  comments-bounds h = front-bounds (comments-front h)
+
+  -- where a tree ends
+  pub tree-bounds : treeEnd n (lines s) ≡ accepted (some m) → Between n (n + length s) m
+  tree-bounds h = front-bounds (tree-front h)
+
+-- a header ends where its line ends
+header-end : (v : Option Version) (e : ℕ) → Accepts (λ h. h .end .0 ≡ e) (headerOf v e)
+unfolding headerOf
+header-end none e = tt
+header-end (some v) e = search accepts-need
+
+-- to read the line of the header h
+abbrev IsVersion : Header → LineReading
+IsVersion h n l m = versionLine l ≡ accepted h
+
+-- the header's line is read as a front part
+version-lines : (h : Header) (l : Lines) → AreLines l → versionLine l ≡ accepted h → Front Any (OnLines (IsVersion h)) 6 (joinLines l) (h .end .0)
+unfolding versionLine joinLines
+version-lines h (unended t) a q = let z : _≡_ {A = ℕ} 0 1 = cc in absurd (omega arith)
+version-lines h (line t e l) a q =
+    subst (Front Any (OnLines (IsVersion h)) 6 _) (sym (accepted-holds _ _ h (header-end (version t) (behind 6 t e)) q))
+    (front-line Any (IsVersion h) Stops 6 t e (joinLines l) (a .0) (λ k z j r. q) (behind 6 t e) (stopped 6 t e l))
+
+-- to read the header h
+abbrev pub IsHeader : Header → Reading
+IsHeader h n s m = header s ≡ accepted h
+
+-- the header is read as a front part
+pub header-front : (s : Bytes) (h : Header) → header s ≡ accepted h → Front Any (IsHeader h) 0 s (h .end .0)
+unfolding header
+header-front s h = accepted-holds (λ g. Front Any (IsHeader g) 0 s (g .end .0)) (header s) h (search (accepts-need, accepts-each, behind-token))
+  where
+    behind-token : (g : Header) → begins token s ≡ true → versionLine (lines (drop 6 s)) ≡ accepted g → Front Any (IsHeader g) 0 s (g .end .0)
+    behind-token g r q =
+        rw (begins-true token s r)
+        (front-behind Any (IsHeader g) 0 (OnLines (IsVersion g)) token (drop 6 s) _ (λ k z j h. h)
+        (rw join-lines at (version-lines g (lines (drop 6 s)) (are-lines _) q)))
+
+-- the header ends inside the file
+pub header-bounds : (s : Bytes) (h : Header) → header s ≡ accepted h → h .end .0 ≤ length s
+header-bounds s h q = omega (arith, front-bounds (header-front s h q))
+
+-- free space is no longer than the bytes it stands in
+pub free-space-bounds : (s : Bytes) → freeSpace s ≤ length s
+unfolding freeSpace
+free-space-bounds [] = omega arith
+free-space-bounds (b ∷ s) = choice (λ n. n ≤ suc (length s)) (begins mark (b ∷ s)) _ _ (omega arith) (omega (arith, free-space-bounds s))
+
+-- the first block, or the tail, begins where the comments end or behind, and inside the file
+pub first-block-bounds : (n : ℕ) (s : Bytes) (t : Tree) → n ≤ length s → tree n s ≡ accepted t → Between n (length s) (firstBlock n t)
+unfolding tree withRoom firstBlock
+first-block-bounds n s t inside =
+    accepted-holds (λ u. Between n (length s) (firstBlock n u)) (tree n s) t (accepts-bind _ (treeEnd n (lines (drop n s))) _ with-room)
+  where
+    with-room : (m : Option ℕ) → treeEnd n (lines (drop n s)) ≡ accepted m → Between n (length s) (firstBlock n (withRoom n s m))
+    with-room none h = omega arith
+    with-room (some m) h =
+        omega (arith, simp length-drop at (tree-bounds n (drop n s) m h), simp length-drop at (free-space-bounds (drop m s)))
