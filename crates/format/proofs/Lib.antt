@@ -13,3 +13,5 @@ pub mod NumeralLaws
 pub mod SpaceLaws
 pub mod IndexLaws
 pub mod ReadLaws
+pub mod LocalLaws
+pub mod ChainLaws

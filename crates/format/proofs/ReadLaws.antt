@@ -22,7 +22,7 @@ use Rattle.format.proofs.ByteLaws.{begins-true}
 use Rattle.format.proofs.LineLaws.{joinLines, join-lines, IsLine, AreLines, lines-line, are-lines}
 
 -- what follows a choice may count on its test
-accepts-choice : {A : Type 0} (P : A → Type 0) (t : Bool) (x y : Outcome A) → (t ≡ true → Accepts P x) → (t ≡ false → Accepts P y)
+pub accepts-choice : {A : Type 0} (P : A → Type 0) (t : Bool) (x y : Outcome A) → (t ≡ true → Accepts P x) → (t ≡ false → Accepts P y)
     → Accepts P (elim t [ true ↦ x | false ↦ y ])
 accepts-choice P true x y h k = h refl
 accepts-choice P false x y h k = k refl

@@ -1,0 +1,233 @@
+-- The blocks of a chain are the same with another tail behind the last of them.
+use Prim.Native.Nat.{ℕ, zero, suc, _+_, _≤_}
+use mathlib.Core.Path.{_≡_, refl, sym, ap, subst, _∙_}
+use mathlib.Core.Bool.{Bool, true, false, not, _&&_, _||_, true≢false}
+use mathlib.Core.List.{List, [], _∷_, _++_, append-nil, append-assoc}
+use native.Mathlib.Omega.{arith}
+use lib.ListN.{length, take, drop, length-append, length-drop, take-append-drop}
+use lib.Seq.{length-take-le, take-append-seam, drop-append-seam, take-append-le, drop-append-le, take-at, drop-at, drop-drop}
+use lib.Dec.{eqb, leb}
+use borrow.Author.Tests.{leb-true, le-leb, eqb-true}
+use Rattle.format.specs.declared.block.Block.{Block}
+use Rattle.format.specs.Bytes.{Bytes, begins}
+use Rattle.format.specs.Outcome.{Outcome, accepted, refused, _>>=_}
+use Rattle.format.specs.Block.{headerSize, flags, compression, allocatedSize, usedSize, dataSize, leastHeader, isStreamed, contentStart, bytesLeft, blockWith, block}
+use Rattle.format.specs.Tree.{mark}
+use Rattle.format.specs.Chain.{Chain, extent, isTail, ended, linked, tail, chain}
+use Rattle.format.specs.IndexWriter.{mayHaveIndex}
+use Rattle.format.proofs.OutcomeLaws.{Accepts, accepted-holds, accepts-bind, accepts-need}
+use Rattle.format.proofs.ReadLaws.{accepts-choice, Between}
+
+-- the first 54 bytes' fields are the same with anything behind
+header-field : (p y z : Bytes) → 54 ≤ length p → (n w : ℕ) → leb (n + w) 54 ≡ true → take w (drop n (p ++ y)) ≡ take w (drop n (p ++ z))
+header-field p y z h n w q =
+    let inside : n + w ≤ 54 = leb-true _ _ q in
+    let before : n ≤ length p = omega arith in
+    let room : w ≤ length (drop n p) = simp length-drop (omega arith) in
+    rw (drop-append-le n p y, drop-append-le n p z, take-append-le w (drop n p) y, take-append-le w (drop n p) z)
+
+-- t begins with the block b, and it is not streamed
+record Plain (i n : ℕ) (t : Bytes) (b : Block) : Type 0 where
+  header-least : leb leastHeader (headerSize t) ≡ true
+  streamed : isStreamed (flags t) ≡ false
+  used : leb (usedSize t) (allocatedSize t) ≡ true
+  data-size : (not (eqb (compression t) 0) || eqb (dataSize t) (usedSize t)) ≡ true
+  inside : contentStart t + allocatedSize t ≤ length t
+  numbers : blockWith i n t (allocatedSize t) (usedSize t) (dataSize t) ≡ b
+
+module _ {i n : ℕ} {t : Bytes} {b : Block} (h : Plain i n t b) where
+  -- a block that is not streamed ends behind its allocated space
+  plain-extent : extent b ≡ contentStart t + allocatedSize t
+  unfolding blockWith
+  plain-extent = ap extent (sym (h .numbers))
+
+  -- and is at least as long as its header
+  plain-least : 54 ≤ extent b
+  plain-least = omega (arith, leb-true leastHeader (headerSize t) (h .header-least), plain-extent)
+
+-- and so does t's front part of the block's length with anything behind
+plain-again : (i n : ℕ) (p y z : Bytes) (b : Block) → length p ≡ extent b → Plain i n (p ++ z) b → Plain i n (p ++ y) b
+unfolding blockWith
+plain-again i n p y z b size h =
+    let same-fields = header-field p y z (omega (arith, plain-least h)) in
+    record {
+      header-least = simp same-fields (h .header-least);
+      streamed = simp same-fields (h .streamed);
+      used = simp same-fields (h .used);
+      data-size = simp same-fields (h .data-size);
+      inside = simp (same-fields, length-append) (omega (arith, plain-extent h));
+      numbers = simp same-fields (h .numbers);
+    }
+
+-- such a block is accepted
+plain-block : (i n : ℕ) (t : Bytes) (b : Block) → Plain i n t b → block i n t ≡ accepted b
+unfolding block
+plain-block i n t b h =
+    rw (
+      le-leb 6 (length t) (omega (arith, h .inside)),
+      h .header-least,
+      le-leb (contentStart t) (length t) (omega (arith, h .inside)),
+      h .streamed,
+      h .used,
+      h .data-size,
+      le-leb (allocatedSize t) (bytesLeft t) (omega (arith, h .inside)),
+    ) (ap accepted (h .numbers))
+
+-- t begins with the block b: all of t belongs to it if it is streamed
+record Begun (i n : ℕ) (t : Bytes) (b : Block) : Type 0 where
+  at : b .at .0 ≡ n
+  streamed : isStreamed (b .flags) ≡ true → extent b ≡ length t
+  plain : isStreamed (b .flags) ≡ false → Plain i n t b
+
+module _ (i n : ℕ) (t : Bytes) (least : leb leastHeader (headerSize t) ≡ true) (content : leb (contentStart t) (length t) ≡ true) where
+  -- a streamed block, where its tests hold
+  streamed-begun : isStreamed (flags t) ≡ true → Begun i n t (blockWith i n t (bytesLeft t) (bytesLeft t) (bytesLeft t))
+  unfolding blockWith
+  streamed-begun h = record {
+    at = refl;
+    streamed = λ q. omega (arith, leb-true (contentStart t) (length t) content);
+    plain = λ q. absurd (true≢false (sym h ∙ q));
+  }
+
+  -- a block that is not streamed, where its tests hold
+  plain-begun : isStreamed (flags t) ≡ false → leb (usedSize t) (allocatedSize t) ≡ true
+      → (not (eqb (compression t) 0) || eqb (dataSize t) (usedSize t)) ≡ true → leb (allocatedSize t) (bytesLeft t) ≡ true
+      → Begun i n t (blockWith i n t (allocatedSize t) (usedSize t) (dataSize t))
+  unfolding blockWith
+  plain-begun h used size allocated =
+      let before : contentStart t ≤ length t = leb-true _ _ content in
+      let room : allocatedSize t ≤ bytesLeft t = leb-true _ _ allocated in
+      record {
+        at = refl;
+        streamed = λ q. absurd (true≢false (sym q ∙ h));
+        plain = λ q. record { header-least = least; streamed = h; used = used; data-size = size; inside = omega arith; numbers = refl };
+      }
+
+-- where a block is accepted, t begins with it
+block-begun : (i n : ℕ) (t : Bytes) → Accepts (Begun i n t) (block i n t)
+unfolding block
+block-begun i n t = search (accepts-need, accepts-choice (Begun i n t) (isStreamed (flags t)), streamed-begun, plain-begun) depth 12
+
+-- where the last block's allocated space ends, and n where there is no block
+unfoldable pub blocksEnd : ℕ → List Block → ℕ
+blocksEnd n [] = n
+blocksEnd n (b ∷ bs) = blocksEnd (b .at .0 + extent b) bs
+
+-- the blocks of the chain c are a front part of t, and the tail is the rest; if the last block, or the block b before them, is not streamed, the blocks are the same with another tail
+record ChainFront (k i n : ℕ) (t : Bytes) (c : Chain) : Type 0 where
+  front : Bytes
+  whole : t ≡ front ++ c .tail
+  end : blocksEnd n (c .blocks) ≡ n + length front
+  local : (b : Block) → mayHaveIndex (b ∷ c .blocks) ≡ true → (y : Bytes) → isTail y ≡ true → chain k i n (front ++ y) ≡ accepted (record { blocks = c .blocks; tail = y })
+
+-- no block begins where a tail stands
+tail-no-mark : (y : Bytes) → isTail y ≡ true → begins mark y ≡ false
+tail-no-mark [] h = refl
+tail-no-mark (b ∷ y) h = go (eqb 0xD3 b) refl
+  where
+    go : (x : Bool) → eqb 0xD3 b ≡ x → begins mark (b ∷ y) ≡ false
+    go true e = let z : false ≡ true = ap (λ (a : ℕ). isTail (a ∷ y)) (eqb-true 0xD3 b e) ∙ h in cc
+    go false e = rw e
+
+-- a tail is a chain of no blocks
+no-blocks : (k i n : ℕ) (y : Bytes) → isTail y ≡ true → chain k i n y ≡ accepted (ended y)
+unfolding chain tail
+no-blocks zero i n y h = rw (tail-no-mark y h, chain, h)
+no-blocks (suc k) i n y h = rw (tail-no-mark y h, chain, h)
+
+tail-front : (k i n : ℕ) (t : Bytes) → Accepts (ChainFront k i n t) (tail n t)
+unfolding tail blocksEnd
+tail-front k i n t = search (accepts-need, nothing)
+  where
+    nothing : ChainFront k i n t (ended t)
+    nothing = record { front = []; whole = refl; end = omega arith; local = λ b h. no-blocks k i n }
+
+-- a streamed block is all that is left
+streamed-front : (k i n : ℕ) (t : Bytes) (b : Block) → Begun i n t b → isStreamed (b .flags) ≡ true → ChainFront (suc k) i n t (linked b (ended []))
+unfolding blocksEnd mayHaveIndex
+streamed-front k i n t b h s = record {
+  front = t;
+  whole = sym (append-nil t);
+  end = omega (arith, h .at, h .streamed s);
+  local = λ a m. absurd (true≢false (sym m ∙ ap not s));
+}
+
+-- what begins with p does so with anything behind the first bytes
+begins-front : (p s y z : Bytes) → length p ≤ length s → begins p (s ++ y) ≡ begins p (s ++ z)
+begins-front [] s y z h = refl
+begins-front (a ∷ p) [] y z h = absurd (omega arith)
+begins-front (a ∷ p) (b ∷ s) y z h = ap (λ (x : Bool). eqb a b && x) (begins-front p s y z (omega arith))
+
+module _ (k i n : ℕ) (p z : Bytes) (b : Block) (size : length p ≡ extent b) (marked : begins mark (p ++ z) ≡ true)
+    (at : b .at .0 ≡ n) (plain : Plain i n (p ++ z) b) (unstreamed : isStreamed (b .flags) ≡ false) where
+  -- a block is the first of a chain with any chain behind it
+  linked-again : (u : Bytes) (d : Chain) → chain k (i + 1) (n + extent b) u ≡ accepted d → chain (suc k) i n (p ++ u) ≡ accepted (linked b d)
+  unfolding chain
+  linked-again u d h =
+      let first : begins mark (p ++ u) ≡ true = begins-front mark p u z (omega (arith, plain-least plain)) ∙ marked in
+      let same-block = plain-block i n (p ++ u) b (plain-again i n p u z b size plain) in
+      rw (first, chain, same-block, unstreamed, drop-at p u (extent b) size, h)
+
+  -- a block that is not streamed is a front part, with those behind it
+  linked-front : (c : Chain) → ChainFront k (i + 1) (n + extent b) z c → ChainFront (suc k) i n (p ++ z) (linked b c)
+  unfolding blocksEnd mayHaveIndex
+  linked-front c f = record {
+    front = p ++ f .front;
+    whole = rw (append-assoc, ← f .whole);
+    end = ap (λ (x : ℕ). blocksEnd (x + extent b) (c .blocks)) at ∙ f .end ∙ simp length-append (omega arith);
+    local = λ a m y q. rw append-assoc (linked-again (f .front ++ y) _ (f .local b m y q));
+  }
+
+-- a block is a front part: alone where it is streamed, and else with those behind it
+block-front : (k i n : ℕ) (t : Bytes) (b : Block) → begins mark t ≡ true → Begun i n t b → (streamed : Bool) → isStreamed (b .flags) ≡ streamed
+    → (o : Outcome Chain) → Accepts (ChainFront k (i + 1) (n + extent b) (drop (extent b) t)) o
+    → Accepts (ChainFront (suc k) i n t) (_>>=_ (elim streamed [ true ↦ accepted (ended []) | false ↦ o ]) (λ c. accepted (linked b c)))
+block-front k i n t b m h true e o f = streamed-front k i n t b h e
+block-front k i n t b m h false e (refused r) f = tt
+block-front k i n t b m h false e (accepted c) f =
+    let parts = take-append-drop (extent b) t in
+    let size = length-take-le (extent b) t (omega (arith, plain-extent (h .plain e), h .plain e .inside)) in
+    subst (λ (s : Bytes). ChainFront (suc k) i n s (linked b c)) parts
+    (linked-front k i n (take (extent b) t) (drop (extent b) t) b size (rw parts m) (h .at) (rw parts (h .plain e)) e c f)
+
+-- the blocks of a chain are a front part
+chain-front : (k i n : ℕ) (t : Bytes) → Accepts (ChainFront k i n t) (chain k i n t)
+unfolding chain
+chain-front zero i n t = accepts-choice _ (begins mark t) _ _ (λ m. tt) (λ m. tail-front zero i n t)
+chain-front (suc k) i n t =
+    accepts-choice _ (begins mark t) _ _
+    (λ m. accepts-bind _ (block i n t) _ λ b e. block-front k i n t b m (accepted-holds _ _ b (block-begun i n t) e) (isStreamed (b .flags)) refl
+    (chain k (i + 1) (n + extent b) (drop (extent b) t)) (chain-front k (i + 1) (n + extent b) (drop (extent b) t)))
+    (λ m. tail-front (suc k) i n t)
+
+-- where the last block is not streamed, it is so with a block more in front
+with-first : (bs : List Block) → mayHaveIndex bs ≡ true → (b : Block) × (mayHaveIndex (b ∷ bs) ≡ true)
+unfolding mayHaveIndex
+with-first [] h = absurd (true≢false (sym h))
+with-first (b ∷ bs) h = (b, h)
+
+module _ (k i n : ℕ) (c : Chain) where
+  -- the blocks of an accepted chain are a front part
+  accepted-front : (t : Bytes) → chain k i n t ≡ accepted c → ChainFront k i n t c
+  accepted-front t = accepted-holds (ChainFront k i n t) (chain k i n t) c (chain-front k i n t)
+
+  -- the last block ends inside the bytes
+  pub blocks-bounds : (t : Bytes) → chain k i n t ≡ accepted c → Between n (n + length t) (blocksEnd n (c .blocks))
+  blocks-bounds t e = let f = accepted-front t e in omega (arith, simp length-append at (ap length (f .whole)))
+
+  -- the tail stands behind the last block
+  pub tail-behind : (s : Bytes) → chain k i n (drop n s) ≡ accepted c → c .tail ≡ drop (blocksEnd n (c .blocks)) s
+  tail-behind s e =
+      let f = accepted-front (drop n s) e in
+      sym (drop-append-seam (f .front) (c .tail)) ∙ ap (drop (length (f .front))) (sym (f .whole)) ∙ drop-drop (length (f .front)) n s
+      ∙ ap (λ (m : ℕ). drop m s) (sym (f .end))
+
+  -- blocks, the last of which is not streamed, are the same with another tail
+  pub chain-again : (p z : Bytes) → chain k i n (p ++ z) ≡ accepted c → blocksEnd n (c .blocks) ≡ n + length p → mayHaveIndex (c .blocks) ≡ true
+      → (y : Bytes) → isTail y ≡ true → chain k i n (p ++ y) ≡ accepted (record { blocks = c .blocks; tail = y })
+  chain-again p z e size h y q =
+      let f = accepted-front (p ++ z) e in
+      let (b, m) = with-first (c .blocks) h in
+      let same-length : length (f .front) ≡ length p = omega arith in
+      let same-front : f .front ≡ p = sym (take-at (f .front) (c .tail) (length p) same-length) ∙ ap (take (length p)) (sym (f .whole)) ∙ take-append-seam p z in
+      subst (λ (x : Bytes). chain k i n (x ++ y) ≡ accepted (record { blocks = c .blocks; tail = y })) same-front (f .local b m y q)

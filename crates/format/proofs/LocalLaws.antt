@@ -1,0 +1,156 @@
+-- What a part of a file means does not depend on where it stands, nor on what follows it.
+use Prim.Native.Nat.{ℕ, suc, _+_, _≤_}
+use mathlib.Core.Path.{_≡_, refl, sym, ap, subst, _∙_}
+use mathlib.Core.Bool.{Bool, true, false, and-false}
+use mathlib.Core.List.{[], _∷_, _++_, append-nil, append-assoc}
+use mathlib.Core.Option.{none, some}
+use native.Mathlib.Nat.{zero-add, add-zero, le-refl}
+use native.Mathlib.Omega.{arith}
+use lib.ListN.{length, take, drop, replicate, length-replicate, take-append-drop}
+use lib.Seq.{take-at, drop-at, take-append-le, drop-append-le, length-take-le, drop-length}
+use lib.Dec.{eqb}
+use borrow.Author.Tests.{eqb-false, ne-eqb}
+use Rattle.format.specs.declared.layout.Header.{Header}
+use Rattle.format.specs.Bytes.{Bytes, text, begins, same}
+use Rattle.format.specs.Outcome.{accepted}
+use Rattle.format.specs.Line.{lineEnd, Lines, unended, line, lines}
+use Rattle.format.specs.Header.{header}
+use Rattle.format.specs.Comments.{comments}
+use Rattle.format.specs.Tree.{yamlLine, treeEnd, mark, freeSpace}
+use Rattle.format.proofs.ByteLaws.{same-true, begins-true, begins-append, lacks, lacks-head, lacks-tail, lacks-replicate}
+use Rattle.format.proofs.LineLaws.{joinLines, join-lines}
+use Rattle.format.proofs.ReadLaws.{Reading, Front, header-front, comments-front, tree-front}
+
+module _ {Next : Bytes → Type 0} {reads : Reading} {n m : ℕ} (l : ℕ) (p z : Bytes) (f : Front Next reads n (p ++ z) m)
+    (size : m ≡ n + l) (inside : l ≤ length p) where
+  -- what is read of p and z are the first bytes of p
+  front-part : f .front ≡ take l p
+  front-part =
+      sym (take-at (f .front) (f .rest) l (omega (arith, f .end))) ∙ ap (take l) (sym (f .whole)) ∙ take-append-le l p z inside
+
+  -- the other bytes of p, and then z, may come next
+  front-next : Next (drop l p ++ z)
+  front-next =
+      subst Next (sym (drop-at (f .front) (f .rest) l (omega (arith, f .end))) ∙ ap (drop l) (sym (f .whole)) ∙ drop-append-le l p z inside) (f .next)
+
+  -- what is read reads the same from any offset with anything behind p that may come next
+  front-again : (k : ℕ) (y : Bytes) → Next (drop l p ++ y) → reads k (p ++ y) (k + l)
+  front-again k y h =
+      let again : reads k (take l p ++ (drop l p ++ y)) (k + length (take l p)) = rw front-part at (f .local k (drop l p ++ y) h) in
+      rw (← append-assoc, take-append-drop, length-take-le l p inside) at again
+
+-- a header is the same with anything behind it
+pub header-again : (p z y : Bytes) (h : Header) → header (p ++ z) ≡ accepted h → h .end .0 ≤ length p → header (p ++ y) ≡ accepted h
+header-again p z y h q inside = front-again (h .end .0) p z (header-front (p ++ z) h q) (omega arith) inside 0 y tt
+
+module _ (n l : ℕ) (p z : Bytes) (q : comments n (lines (p ++ z)) ≡ accepted (n + l)) (inside : l ≤ length p) where
+  -- comments are the same where no `#` comes next
+  pub comments-within : (y : Bytes) → begins (text "#") (drop l p ++ y) ≡ false → comments n (lines (p ++ y)) ≡ accepted (n + l)
+  comments-within y h = front-again l p z (comments-front n (p ++ z) (n + l) q) refl inside n y h
+
+  -- behind comments no `#` comes
+  pub next-within : begins (text "#") (drop l p ++ z) ≡ false
+  next-within = front-next l p z (comments-front n (p ++ z) (n + l) q) refl inside
+
+module _ (n : ℕ) (p z : Bytes) (q : comments n (lines (p ++ z)) ≡ accepted (n + length p)) where
+  -- and so where the comments are all of p
+  pub comments-again : (y : Bytes) → begins (text "#") y ≡ false → comments n (lines (p ++ y)) ≡ accepted (n + length p)
+  comments-again y h = comments-within n (length p) p z q (le-refl (length p)) y (rw drop-length h)
+
+  pub comments-next : begins (text "#") z ≡ false
+  comments-next = rw drop-length at (next-within n (length p) p z q (le-refl (length p)))
+
+-- a tree is the same at any offset with anything behind it
+pub tree-again : (n l : ℕ) (p z : Bytes) → treeEnd n (lines (p ++ z)) ≡ accepted (some (n + l)) → l ≤ length p
+    → (k : ℕ) (y : Bytes) → treeEnd k (lines (p ++ y)) ≡ accepted (some (k + l))
+tree-again n l p z q inside k y = front-again l p z (tree-front n (p ++ z) (n + l) q) refl inside k y tt
+
+-- a tree by itself is one at any offset with anything behind
+pub tree-anywhere : (t : Bytes) → treeEnd 0 (lines t) ≡ accepted (some (length t)) → (n : ℕ) (z : Bytes)
+    → treeEnd n (lines (t ++ z)) ≡ accepted (some (n + length t))
+tree-anywhere t q = tree-again 0 (length t) t [] (rw (append-nil, zero-add) q) (le-refl (length t))
+
+-- a tree in a file is one by itself
+pub tree-alone : (n : ℕ) (t z : Bytes) → treeEnd n (lines (t ++ z)) ≡ accepted (some (n + length t))
+    → treeEnd 0 (lines t) ≡ accepted (some (length t))
+tree-alone n t z q = rw (append-nil, zero-add) at (tree-again n (length t) t z q (le-refl (length t)) 0 [])
+
+-- where `%YAML 1.1` does not stand no tree begins
+pub no-tree : (n : ℕ) (s : Bytes) → begins yamlLine s ≡ false → treeEnd n (lines s) ≡ accepted none
+unfolding treeEnd joinLines
+no-tree n s h = on-lines (lines s) (rw join-lines h)
+  where
+    first : (t x : Bytes) → begins yamlLine (t ++ x) ≡ false → (b : Bool) → same t yamlLine ≡ b → same t yamlLine ≡ false
+    first t x q true r = r ∙ sym (begins-append yamlLine x) ∙ ap (λ (u : Bytes). begins yamlLine (u ++ x)) (sym (same-true t yamlLine r)) ∙ q
+    first t x q false r = r
+
+    on-lines : (l : Lines) → begins yamlLine (joinLines l) ≡ false → treeEnd n l ≡ accepted none
+    on-lines (unended t) q = refl
+    on-lines (line t e l) q = rw (first t (lineEnd e ++ joinLines l) q (same t yamlLine) refl, treeEnd)
+
+-- no tree begins where a block begins
+pub no-tree-mark : (n : ℕ) (s : Bytes) → begins mark s ≡ true → treeEnd n (lines s) ≡ accepted none
+no-tree-mark n s h = no-tree n s (ap (begins yamlLine) (begins-true mark s h))
+
+-- no tree begins at the end
+pub no-tree-end : (n : ℕ) → treeEnd n (lines []) ≡ accepted none
+no-tree-end n = no-tree n [] refl
+
+-- free space goes on over bytes with no D3
+pub free-space-lacks : (p z : Bytes) → lacks 0xD3 p ≡ true → freeSpace (p ++ z) ≡ length p + freeSpace z
+unfolding freeSpace
+free-space-lacks [] z h = omega arith
+free-space-lacks (b ∷ p) z h =
+    let other : eqb 0xD3 b ≡ false = ne-eqb 0xD3 b (λ e. eqb-false b 0xD3 (lacks-head 0xD3 b p h) (sym e)) in
+    rw (other, freeSpace) (omega (arith, free-space-lacks p z (lacks-tail 0xD3 b p h)))
+
+-- free space goes on over spaces
+pub free-space-spaces : (k : ℕ) (z : Bytes) → freeSpace (replicate k 32 ++ z) ≡ k + freeSpace z
+free-space-spaces k z = rw length-replicate at (free-space-lacks (replicate k 32) z (lacks-replicate 0xD3 32 k refl))
+
+-- bytes with no D3 are free space
+pub free-space-all : (s : Bytes) → lacks 0xD3 s ≡ true → freeSpace s ≡ length s
+unfolding freeSpace
+free-space-all s h = rw (append-nil, add-zero) at (free-space-lacks s [] h)
+
+-- a mark that begins at a byte before another mark ends before it
+mark-apart : (b : ℕ) (p y z : Bytes) → begins mark (b ∷ p ++ y) ≡ false → begins mark (b ∷ p ++ (mark ++ z)) ≡ false
+mark-apart b [] y z h = simp and-false
+mark-apart b (c ∷ []) y z h = simp and-false
+mark-apart b (c ∷ d ∷ []) y z h = simp and-false
+mark-apart b (c ∷ d ∷ e ∷ p) y z h = h
+
+-- free space before a mark is free before another mark
+free-before : (p y z : Bytes) → freeSpace (p ++ y) ≡ length p → freeSpace (p ++ (mark ++ z)) ≡ length p
+unfolding freeSpace
+free-before [] y z h = refl
+free-before (b ∷ p) y z h = go (begins mark (b ∷ p ++ y)) refl (free-before p y z)
+  where
+    go : (t : Bool) → begins mark (b ∷ p ++ y) ≡ t → (freeSpace (p ++ y) ≡ length p → freeSpace (p ++ (mark ++ z)) ≡ length p)
+        → freeSpace (b ∷ p ++ (mark ++ z)) ≡ suc (length p)
+    go true e i = let none : 0 ≡ suc (length p) = rw (e, freeSpace) at h in absurd (omega arith)
+    go false e i =
+        let one : suc (freeSpace (p ++ y)) ≡ suc (length p) = rw (e, freeSpace) at h in
+        rw (mark-apart b p y z e, freeSpace) (ap suc (i (omega arith)))
+
+-- free space ends at the first mark, whatever is behind the mark
+pub free-space-again : (p y z : Bytes) → freeSpace (p ++ y) ≡ length p → begins mark z ≡ true → freeSpace (p ++ z) ≡ length p
+free-space-again p y z h m = subst (λ (x : Bytes). freeSpace (p ++ x) ≡ length p) (sym (begins-true mark z m)) (free-before p y (drop 4 z) h)
+
+-- and so where the free space is the first bytes of p
+pub free-space-within : (l : ℕ) (p y z : Bytes) → l ≤ length p → freeSpace (p ++ y) ≡ l → begins mark (drop l p ++ z) ≡ true
+    → freeSpace (p ++ z) ≡ l
+free-space-within l p y z inside h m =
+    let parts : (x : Bytes) → take l p ++ (drop l p ++ x) ≡ p ++ x = λ x. rw (← append-assoc, take-append-drop) in
+    let size : length (take l p) ≡ l = length-take-le l p inside in
+    sym (ap freeSpace (parts z)) ∙ free-space-again (take l p) (drop l p ++ y) (drop l p ++ z) (ap freeSpace (parts y) ∙ h ∙ sym size) m ∙ size
+
+-- behind free space no byte is free
+pub free-space-end : (s : Bytes) → freeSpace (drop (freeSpace s) s) ≡ 0
+unfolding freeSpace
+free-space-end [] = refl
+free-space-end (b ∷ s) = go (begins mark (b ∷ s)) refl (free-space-end s)
+  where
+    go : (t : Bool) → begins mark (b ∷ s) ≡ t → freeSpace (drop (freeSpace s) s) ≡ 0 → freeSpace (drop (freeSpace (b ∷ s)) (b ∷ s)) ≡ 0
+    go true e i = rw (e, freeSpace) (rw e)
+    go false e i = rw (e, freeSpace) i
