@@ -113,12 +113,14 @@ unfoldable pub blocksEnd : ℕ → List Block → ℕ
 blocksEnd n [] = n
 blocksEnd n (b ∷ bs) = blocksEnd (b .at .0 + extent b) bs
 
--- the blocks of the chain c are a front part of t, and the tail is the rest; if the last block, or the block b before them, is not streamed, the blocks are the same with another tail
+-- the blocks of the chain c are a front part of t, and its tail is the rest; if the last of them and the block b before is not streamed, they are the same with another tail
 record ChainFront (k i n : ℕ) (t : Bytes) (c : Chain) : Type 0 where
   front : Bytes
   whole : t ≡ front ++ c .tail
   end : blocksEnd n (c .blocks) ≡ n + length front
-  local : (b : Block) → mayHaveIndex (b ∷ c .blocks) ≡ true → (y : Bytes) → isTail y ≡ true → chain k i n (front ++ y) ≡ accepted (record { blocks = c .blocks; tail = y })
+  marked : mayHaveIndex (c .blocks) ≡ true → begins mark t ≡ true
+  local : (b : Block) → mayHaveIndex (b ∷ c .blocks) ≡ true → (y : Bytes) → isTail y ≡ true
+      → chain k i n (front ++ y) ≡ accepted (record { blocks = c .blocks; tail = y })
 
 -- no block begins where a tail stands
 tail-no-mark : (y : Bytes) → isTail y ≡ true → begins mark y ≡ false
@@ -136,20 +138,22 @@ no-blocks zero i n y h = rw (tail-no-mark y h, chain, h)
 no-blocks (suc k) i n y h = rw (tail-no-mark y h, chain, h)
 
 tail-front : (k i n : ℕ) (t : Bytes) → Accepts (ChainFront k i n t) (tail n t)
-unfolding tail blocksEnd
+unfolding tail blocksEnd mayHaveIndex
 tail-front k i n t = search (accepts-need, nothing)
   where
     nothing : ChainFront k i n t (ended t)
-    nothing = record { front = []; whole = refl; end = omega arith; local = λ b h. no-blocks k i n }
+    nothing = record { front = []; whole = refl; end = omega arith; marked = λ h. absurd (true≢false (sym h)); local = λ b h. no-blocks k i n }
 
 -- a streamed block is all that is left
-streamed-front : (k i n : ℕ) (t : Bytes) (b : Block) → Begun i n t b → isStreamed (b .flags) ≡ true → ChainFront (suc k) i n t (linked b (ended []))
+streamed-front : (k i n : ℕ) (t : Bytes) (b : Block) → begins mark t ≡ true → Begun i n t b → isStreamed (b .flags) ≡ true
+    → ChainFront (suc k) i n t (linked b (ended []))
 unfolding blocksEnd mayHaveIndex
-streamed-front k i n t b h s = record {
+streamed-front k i n t b m h s = record {
   front = t;
   whole = sym (append-nil t);
   end = omega (arith, h .at, h .streamed s);
-  local = λ a m. absurd (true≢false (sym m ∙ ap not s));
+  marked = λ q. m;
+  local = λ a q. absurd (true≢false (sym q ∙ ap not s));
 }
 
 -- what begins with p does so with anything behind the first bytes
@@ -175,6 +179,7 @@ module _ (k i n : ℕ) (p z : Bytes) (b : Block) (size : length p ≡ extent b) 
     front = p ++ f .front;
     whole = rw (append-assoc, ← f .whole);
     end = ap (λ (x : ℕ). blocksEnd (x + extent b) (c .blocks)) at ∙ f .end ∙ simp length-append (omega arith);
+    marked = λ q. marked;
     local = λ a m y q. rw append-assoc (linked-again (f .front ++ y) _ (f .local b m y q));
   }
 
@@ -182,7 +187,7 @@ module _ (k i n : ℕ) (p z : Bytes) (b : Block) (size : length p ≡ extent b) 
 block-front : (k i n : ℕ) (t : Bytes) (b : Block) → begins mark t ≡ true → Begun i n t b → (streamed : Bool) → isStreamed (b .flags) ≡ streamed
     → (o : Outcome Chain) → Accepts (ChainFront k (i + 1) (n + extent b) (drop (extent b) t)) o
     → Accepts (ChainFront (suc k) i n t) (_>>=_ (elim streamed [ true ↦ accepted (ended []) | false ↦ o ]) (λ c. accepted (linked b c)))
-block-front k i n t b m h true e o f = streamed-front k i n t b h e
+block-front k i n t b m h true e o f = streamed-front k i n t b m h e
 block-front k i n t b m h false e (refused r) f = tt
 block-front k i n t b m h false e (accepted c) f =
     let parts = take-append-drop (extent b) t in
@@ -210,6 +215,10 @@ module _ (k i n : ℕ) (c : Chain) where
   -- the blocks of an accepted chain are a front part
   accepted-front : (t : Bytes) → chain k i n t ≡ accepted c → ChainFront k i n t c
   accepted-front t = accepted-holds (ChainFront k i n t) (chain k i n t) c (chain-front k i n t)
+
+  -- the first block begins with the mark
+  pub blocks-begin : (t : Bytes) → chain k i n t ≡ accepted c → mayHaveIndex (c .blocks) ≡ true → begins mark t ≡ true
+  blocks-begin t e = accepted-front t e .marked
 
   -- the last block ends inside the bytes
   pub blocks-bounds : (t : Bytes) → chain k i n t ≡ accepted c → Between n (n + length t) (blocksEnd n (c .blocks))

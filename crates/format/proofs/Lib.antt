@@ -15,3 +15,4 @@ pub mod IndexLaws
 pub mod ReadLaws
 pub mod LocalLaws
 pub mod ChainLaws
+pub mod FileLaws

@@ -1,22 +1,26 @@
 -- What a part of a file means does not depend on where it stands, nor on what follows it.
-use Prim.Native.Nat.{ℕ, suc, _+_, _≤_}
+use Prim.Native.Nat.{ℕ, suc, _+_, _-_, _≤_}
 use mathlib.Core.Path.{_≡_, refl, sym, ap, subst, _∙_}
 use mathlib.Core.Bool.{Bool, true, false, and-false}
 use mathlib.Core.List.{[], _∷_, _++_, append-nil, append-assoc}
-use mathlib.Core.Option.{none, some}
+use mathlib.Core.Option.{Option, none, some}
 use native.Mathlib.Nat.{zero-add, add-zero, le-refl}
 use native.Mathlib.Omega.{arith}
-use lib.ListN.{length, take, drop, replicate, length-replicate, take-append-drop}
-use lib.Seq.{take-at, drop-at, take-append-le, drop-append-le, length-take-le, drop-length}
+use lib.ListN.{length, take, drop, replicate, length-replicate, length-drop, take-append-drop}
+use lib.Seq.{take-at, drop-at, take-append-le, drop-append-le, length-take-le, drop-length, drop-drop}
 use lib.Dec.{eqb}
 use borrow.Author.Tests.{eqb-false, ne-eqb}
 use Rattle.format.specs.declared.layout.Header.{Header}
+use Rattle.format.specs.declared.layout.Tree.{Tree}
+use Rattle.format.specs.declared.layout.Tree.the-variants.{NoTree}
 use Rattle.format.specs.Bytes.{Bytes, text, begins, same}
 use Rattle.format.specs.Outcome.{accepted}
 use Rattle.format.specs.Line.{lineEnd, Lines, unended, line, lines}
 use Rattle.format.specs.Header.{header}
 use Rattle.format.specs.Comments.{comments}
-use Rattle.format.specs.Tree.{yamlLine, treeEnd, mark, freeSpace}
+use Rattle.format.specs.Tree.{yamlLine, treeEnd, mark, freeSpace, withRoom, tree}
+use Rattle.format.specs.File.{firstBlock, goesOn}
+use Rattle.format.proofs.OutcomeLaws.{accepted-holds, accepts-bind}
 use Rattle.format.proofs.ByteLaws.{same-true, begins-true, begins-append, lacks, lacks-head, lacks-tail, lacks-replicate}
 use Rattle.format.proofs.LineLaws.{joinLines, join-lines}
 use Rattle.format.proofs.ReadLaws.{Reading, Front, header-front, comments-front, tree-front}
@@ -39,41 +43,42 @@ module _ {Next : Bytes → Type 0} {reads : Reading} {n m : ℕ} (l : ℕ) (p z 
       let again : reads k (take l p ++ (drop l p ++ y)) (k + length (take l p)) = rw front-part at (f .local k (drop l p ++ y) h) in
       rw (← append-assoc, take-append-drop, length-take-le l p inside) at again
 
+-- what is read of p and z reads the same with anything behind p that may come next
+front-within : {Next : Bytes → Type 0} {reads : Reading} {n m : ℕ} (p z : Bytes) → Front Next reads n (p ++ z) m → m ≤ n + length p
+    → (y : Bytes) → (Next (drop (m - n) p ++ z) → Next (drop (m - n) p ++ y)) → reads n (p ++ y) m
+front-within {reads} {n} {m} p z f inside y next =
+    let size : m ≡ n + (m - n) = omega (arith, f .end) in
+    subst (reads n (p ++ y)) (sym size)
+    (front-again (m - n) p z f size (omega arith) n y (next (front-next (m - n) p z f size (omega arith))))
+
 -- a header is the same with anything behind it
 pub header-again : (p z y : Bytes) (h : Header) → header (p ++ z) ≡ accepted h → h .end .0 ≤ length p → header (p ++ y) ≡ accepted h
-header-again p z y h q inside = front-again (h .end .0) p z (header-front (p ++ z) h q) (omega arith) inside 0 y tt
-
-module _ (n l : ℕ) (p z : Bytes) (q : comments n (lines (p ++ z)) ≡ accepted (n + l)) (inside : l ≤ length p) where
-  -- comments are the same where no `#` comes next
-  pub comments-within : (y : Bytes) → begins (text "#") (drop l p ++ y) ≡ false → comments n (lines (p ++ y)) ≡ accepted (n + l)
-  comments-within y h = front-again l p z (comments-front n (p ++ z) (n + l) q) refl inside n y h
-
-  -- behind comments no `#` comes
-  pub next-within : begins (text "#") (drop l p ++ z) ≡ false
-  next-within = front-next l p z (comments-front n (p ++ z) (n + l) q) refl inside
+header-again p z y h q inside = front-within p z (header-front (p ++ z) h q) (omega arith) y (λ x. x)
 
 module _ (n : ℕ) (p z : Bytes) (q : comments n (lines (p ++ z)) ≡ accepted (n + length p)) where
-  -- and so where the comments are all of p
+  -- comments are the same where no `#` comes next
   pub comments-again : (y : Bytes) → begins (text "#") y ≡ false → comments n (lines (p ++ y)) ≡ accepted (n + length p)
-  comments-again y h = comments-within n (length p) p z q (le-refl (length p)) y (rw drop-length h)
+  comments-again y h =
+      front-again (length p) p z (comments-front n (p ++ z) (n + length p) q) refl (le-refl (length p)) n y (rw drop-length h)
 
+  -- behind comments no `#` comes
   pub comments-next : begins (text "#") z ≡ false
-  comments-next = rw drop-length at (next-within n (length p) p z q (le-refl (length p)))
+  comments-next = rw drop-length at (front-next (length p) p z (comments-front n (p ++ z) (n + length p) q) refl (le-refl (length p)))
 
 -- a tree is the same at any offset with anything behind it
-pub tree-again : (n l : ℕ) (p z : Bytes) → treeEnd n (lines (p ++ z)) ≡ accepted (some (n + l)) → l ≤ length p
-    → (k : ℕ) (y : Bytes) → treeEnd k (lines (p ++ y)) ≡ accepted (some (k + l))
-tree-again n l p z q inside k y = front-again l p z (tree-front n (p ++ z) (n + l) q) refl inside k y tt
+tree-again : (n : ℕ) (t z : Bytes) → treeEnd n (lines (t ++ z)) ≡ accepted (some (n + length t)) → (k : ℕ) (y : Bytes)
+    → treeEnd k (lines (t ++ y)) ≡ accepted (some (k + length t))
+tree-again n t z q k y = front-again (length t) t z (tree-front n (t ++ z) (n + length t) q) refl (le-refl (length t)) k y tt
 
 -- a tree by itself is one at any offset with anything behind
 pub tree-anywhere : (t : Bytes) → treeEnd 0 (lines t) ≡ accepted (some (length t)) → (n : ℕ) (z : Bytes)
     → treeEnd n (lines (t ++ z)) ≡ accepted (some (n + length t))
-tree-anywhere t q = tree-again 0 (length t) t [] (rw (append-nil, zero-add) q) (le-refl (length t))
+tree-anywhere t q = tree-again 0 t [] (rw (append-nil, zero-add) q)
 
 -- a tree in a file is one by itself
 pub tree-alone : (n : ℕ) (t z : Bytes) → treeEnd n (lines (t ++ z)) ≡ accepted (some (n + length t))
     → treeEnd 0 (lines t) ≡ accepted (some (length t))
-tree-alone n t z q = rw (append-nil, zero-add) at (tree-again n (length t) t z q (le-refl (length t)) 0 [])
+tree-alone n t z q = rw (append-nil, zero-add) at (tree-again n t z q 0 [])
 
 -- where `%YAML 1.1` does not stand no tree begins
 pub no-tree : (n : ℕ) (s : Bytes) → begins yamlLine s ≡ false → treeEnd n (lines s) ≡ accepted none
@@ -154,3 +159,51 @@ free-space-end (b ∷ s) = go (begins mark (b ∷ s)) refl (free-space-end s)
     go : (t : Bool) → begins mark (b ∷ s) ≡ t → freeSpace (drop (freeSpace s) s) ≡ 0 → freeSpace (drop (freeSpace (b ∷ s)) (b ∷ s)) ≡ 0
     go true e i = rw (e, freeSpace) (rw e)
     go false e i = rw (e, freeSpace) i
+
+-- where a tree is, `%YAML 1.1` stands
+pub tree-begins : (n : ℕ) (s : Bytes) (m : ℕ) → treeEnd n (lines s) ≡ accepted (some m) → begins yamlLine s ≡ true
+tree-begins n s m h = go (begins yamlLine s) refl
+  where
+    go : (t : Bool) → begins yamlLine s ≡ t → begins yamlLine s ≡ true
+    go true e = e
+    go false e = let z : accepted none ≡ accepted (some m) = sym (no-tree n s e) ∙ h in cc
+
+-- no comment begins where a tree or a block begins, or at the end
+pub goes-on-no-comment : (n : ℕ) (s : Bytes) (t : Tree) → tree n s ≡ accepted t → goesOn t (drop n s) ≡ true → begins (text "#") (drop n s) ≡ false
+unfolding tree withRoom goesOn
+goes-on-no-comment n s t =
+    accepted-holds (λ u. goesOn u (drop n s) ≡ true → begins (text "#") (drop n s) ≡ false) (tree n s) t
+    (accepts-bind _ (treeEnd n (lines (drop n s))) _ with-room)
+  where
+    marked : (u : Bytes) → goesOn NoTree u ≡ true → begins (text "#") u ≡ false
+    marked [] h = refl
+    marked (b ∷ u) h = ap (begins (text "#")) (begins-true mark (b ∷ u) h)
+
+    with-room : (m : Option ℕ) → treeEnd n (lines (drop n s)) ≡ accepted m → goesOn (withRoom n s m) (drop n s) ≡ true → begins (text "#") (drop n s) ≡ false
+    with-room none e h = marked (drop n s) h
+    with-room (some m) e h = ap (begins (text "#")) (begins-true yamlLine (drop n s) (tree-begins n (drop n s) m e))
+
+-- comments are the same with other bytes behind something that follows them
+pub comments-kept : (n : ℕ) (p z y : Bytes) (m : ℕ) → comments n (lines (p ++ z)) ≡ accepted m → m ≤ n + length p
+    → begins (text "#") (drop (m - n) p ++ y) ≡ false → comments n (lines (p ++ y)) ≡ accepted m
+comments-kept n p z y m e inside h = front-within p z (comments-front n (p ++ z) m e) inside y (λ x. h)
+
+module _ (n : ℕ) (p z y : Bytes) (before : n ≤ length p) where
+  -- a tree and its room are the same with other bytes behind a block's beginning
+  pub tree-kept : (t : Tree) → tree n (p ++ z) ≡ accepted t → firstBlock n t ≤ length p → begins mark (drop (firstBlock n t) p ++ y) ≡ true
+      → tree n (p ++ y) ≡ accepted t
+  unfolding tree withRoom firstBlock
+  tree-kept t =
+      accepted-holds (λ u. firstBlock n u ≤ length p → begins mark (drop (firstBlock n u) p ++ y) ≡ true → tree n (p ++ y) ≡ accepted u)
+      (tree n (p ++ z)) t (accepts-bind _ (treeEnd n (lines (drop n (p ++ z)))) _ with-room)
+    where
+      with-room : (m : Option ℕ) → treeEnd n (lines (drop n (p ++ z))) ≡ accepted m → firstBlock n (withRoom n (p ++ z) m) ≤ length p
+          → begins mark (drop (firstBlock n (withRoom n (p ++ z) m)) p ++ y) ≡ true → tree n (p ++ y) ≡ accepted (withRoom n (p ++ z) m)
+      with-room none e inside h = rw (drop-append-le n p y, no-tree-mark n (drop n p ++ y) h)
+      with-room (some m) e inside h =
+          let front = tree-front n (drop n p ++ z) m (rw drop-append-le at e) in
+          let end = front-within (drop n p) z front (simp length-drop (omega arith)) y (λ x. x) in
+          let inner : m ≤ length p = omega arith in
+          let free = ap freeSpace (sym (drop-append-le m p z inner)) in
+          let room = free-space-within (freeSpace (drop m (p ++ z))) (drop m p) z y (simp length-drop (omega arith)) free (rw drop-drop h) in
+          rw (drop-append-le n p y, end, drop-append-le m p y, room)
