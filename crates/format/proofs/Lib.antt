@@ -16,3 +16,4 @@ pub mod ReadLaws
 pub mod LocalLaws
 pub mod ChainLaws
 pub mod FileLaws
+pub mod WriterLaws

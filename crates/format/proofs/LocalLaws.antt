@@ -183,12 +183,16 @@ goes-on-no-comment n s t =
     with-room none e h = marked (drop n s) h
     with-room (some m) e h = ap (begins (text "#")) (begins-true yamlLine (drop n s) (tree-begins n (drop n s) m e))
 
--- comments are the same with other bytes behind something that follows them
-pub comments-kept : (n : ℕ) (p z y : Bytes) (m : ℕ) → comments n (lines (p ++ z)) ≡ accepted m → m ≤ n + length p
-    → begins (text "#") (drop (m - n) p ++ y) ≡ false → comments n (lines (p ++ y)) ≡ accepted m
-comments-kept n p z y m e inside h = front-within p z (comments-front n (p ++ z) m e) inside y (λ x. h)
-
 module _ (n : ℕ) (p z y : Bytes) (before : n ≤ length p) where
+  -- comments in p are the same with other bytes behind p, where no `#` comes next
+  pub comments-kept : (m : ℕ) → comments n (lines (drop n (p ++ z))) ≡ accepted m → m ≤ length p → begins (text "#") (drop m (p ++ y)) ≡ false
+      → comments n (lines (drop n (p ++ y))) ≡ accepted m
+  comments-kept m e inside h =
+      let front = comments-front n (drop n p ++ z) m (rw drop-append-le at e) in
+      let behind : n + (m - n) ≡ m = omega (arith, front .end) in
+      let next : begins (text "#") (drop (m - n) (drop n p) ++ y) ≡ false = rw (drop-drop, behind, ← drop-append-le m p y inside) h in
+      rw drop-append-le (front-within (drop n p) z front (simp length-drop (omega arith)) y (λ x. next))
+
   -- a tree and its room are the same with other bytes behind a block's beginning
   pub tree-kept : (t : Tree) → tree n (p ++ z) ≡ accepted t → firstBlock n t ≤ length p → begins mark (drop (firstBlock n t) p ++ y) ≡ true
       → tree n (p ++ y) ≡ accepted t

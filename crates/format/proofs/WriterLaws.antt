@@ -1,0 +1,127 @@
+-- The index that is written for a file, put behind its last block, is good; and an index is good exactly if it lists the blocks' offsets.
+use Prim.Native.Nat.{ℕ, zero, suc, _+_, _-_, _^_, _≤_, _<_}
+use mathlib.Core.Path.{_≡_, refl, sym, ap, subst, _∙_}
+use mathlib.Core.Bool.{true, true≢false}
+use mathlib.Core.List.{List, [], _∷_, _++_}
+use native.Mathlib.Omega.{arith}
+use lib.ListN.{length, take, drop, getD, length-drop, take-append-drop}
+use lib.Seq.{length-take-le, drop-append-le, drop-drop}
+use borrow.Author.Tests.{leb-true, le-leb}
+use Rattle.format.specs.declared.layout.Tree.{Tree}
+use Rattle.format.specs.declared.layout.Tree.the-variants.{NoTree, Found}
+use Rattle.format.specs.declared.layout.Verdict.{Verdict}
+use Rattle.format.specs.declared.layout.Verdict.the-variants.{Good}
+use Rattle.format.specs.declared.block.Block.{Block}
+use Rattle.format.specs.Bytes.{Bytes, IsBytes, begins}
+use Rattle.format.specs.Outcome.{accepted}
+use Rattle.format.specs.Tree.{mark}
+use Rattle.format.specs.Chain.{Chain, mostBlocks, isTail, chain}
+use Rattle.format.specs.Index.{verdict, rendering, indexText, IsIndex}
+use Rattle.format.specs.File.{mostBytes, File, firstBlock, goesOn, offsets, file}
+use Rattle.format.specs.IndexWriter.{mayHaveIndex}
+use Rattle.format.proofs.OutcomeLaws.{accepted-holds}
+use Rattle.format.proofs.BlockLaws.{AllSound, SoundFile, file-sound}
+use Rattle.format.proofs.IndexLaws.{good-is-index, index-is-good, text-is-index}
+use Rattle.format.proofs.LocalLaws.{header-again, comments-kept, tree-kept, goes-on-no-comment}
+use Rattle.format.proofs.ChainLaws.{blocks-begin, chain-again}
+use Rattle.format.proofs.FileLaws.{blocksStart, tailStart, Parts, file-parts, parts-file, in-order, file-tail}
+
+-- what is found in a file, with another verdict
+abbrev pub judgedAs : Verdict → File → File
+judgedAs v f = record { header = f .header; commentsEnd = f .commentsEnd; tree = f .tree; blocks = f .blocks; verdict = v }
+
+-- a file may go on where a block begins
+goes-on-marked : (n : ℕ) (p y : Bytes) (t : Tree) → n ≤ length p → begins mark (drop (firstBlock n t) p ++ y) ≡ true → goesOn t (drop n (p ++ y)) ≡ true
+unfolding goesOn firstBlock
+goes-on-marked n p y (Found a e m) inside h = refl
+goes-on-marked n p y NoTree inside h = rw drop-append-le (marked (drop n p ++ y) h)
+  where
+    marked : (u : Bytes) → begins mark u ≡ true → goesOn NoTree u ≡ true
+    marked [] q = refl
+    marked (b ∷ u) q = q
+
+-- the parts of a file, p up to the end of its last block, are the same with another tail behind, but for the verdict
+parts-again : (p z y : Bytes) (f : File) → Parts (p ++ z) f → tailStart f ≡ length p → mayHaveIndex (f .blocks) ≡ true → isTail y ≡ true
+    → length (p ++ y) ≤ mostBytes → Parts (p ++ y) (judgedAs (verdict (offsets (f .blocks)) y) f)
+parts-again p z y f h size m t short =
+    let order = in-order (p ++ z) f h in
+    let start = blocksStart f in
+    let first : f .header .end .0 ≤ length p = omega arith in
+    let second : f .commentsEnd ≤ length p = omega arith in
+    let third : start ≤ length p = omega arith in
+    let chain-read = rw (drop-append-le start p z third) at (h .chain-read) in
+    let blocks = chain-again mostBlocks 0 start _ (drop start p) z chain-read (simp length-drop (omega arith)) m y t in
+    let marked = blocks-begin mostBlocks 0 start _ (drop start p ++ y) blocks m in
+    let tree-read = tree-kept (f .commentsEnd) p z y second (f .tree) (h .tree-read) third marked in
+    let goes-on = goes-on-marked (f .commentsEnd) p y (f .tree) second marked in
+    let no-comment = goes-on-no-comment (f .commentsEnd) (p ++ y) (f .tree) tree-read goes-on in
+    record {
+      short = le-leb _ _ short;
+      header-read = header-again p z y (f .header) (h .header-read) first;
+      comments-read = comments-kept (f .header .end .0) p z y first (f .commentsEnd) (h .comments-read) second no-comment;
+      tree-read = tree-read;
+      goes-on = goes-on;
+      tail = y;
+      chain-read = rw (drop-append-le start p y third) blocks;
+      judged = refl;
+    }
+
+-- an accepted file is the same with another tail behind its last block, if that is not streamed, but for the verdict
+pub file-again : (s : Bytes) (f : File) → file s ≡ accepted f → mayHaveIndex (f .blocks) ≡ true → (y : Bytes) → isTail y ≡ true
+    → length (take (tailStart f) s ++ y) ≤ mostBytes → file (take (tailStart f) s ++ y) ≡ accepted (judgedAs (verdict (offsets (f .blocks)) y) f)
+file-again s f e m y t short =
+    let parts = file-parts s f e in
+    let p = take (tailStart f) s in
+    let size : tailStart f ≡ length p = sym (length-take-le (tailStart f) s (in-order s f parts .tail-start)) in
+    parts-file (p ++ y) _ (parts-again p (drop (tailStart f) s) y f (rw take-append-drop parts) size m t short)
+
+-- offsets of blocks that lie inside a file are not behind its end
+offsets-below : (size : ℕ) (bs : List Block) → AllSound size bs → (i : ℕ) → getD (offsets bs) i 0 ≤ size
+offsets-below size [] h i = omega arith
+offsets-below size (b ∷ bs) h zero = omega (arith, h .0 .end)
+offsets-below size (b ∷ bs) h (suc i) = offsets-below size bs (h .1) i
+
+-- the offsets of an accepted file's blocks have at most ten digits
+offsets-small : (s : Bytes) (f : File) → IsBytes s → file s ≡ accepted f → (i : ℕ) → getD (offsets (f .blocks)) i 0 < 10 ^ 10
+offsets-small s f bytes e i =
+    omega (
+      arith,
+      leb-true (length s) mostBytes (file-parts s f e .short),
+      offsets-below (length s) (f .blocks) (accepted-holds (SoundFile s) (file s) f (file-sound s bytes) e) i,
+    )
+
+-- there is an offset where there is a block
+some-offset : (bs : List Block) → mayHaveIndex bs ≡ true → 1 ≤ length (offsets bs)
+unfolding mayHaveIndex
+some-offset [] h = absurd (true≢false (sym h))
+some-offset (b ∷ bs) h = omega arith
+
+-- the index that is written is a tail
+text-is-tail : (ns : List ℕ) → isTail (indexText ns) ≡ true
+unfolding indexText rendering
+text-is-tail ns = refl
+
+-- the file cut after its last block and followed by the index that is written for it is accepted with the same parts, and its index is good
+pub indexed-again : (s : Bytes) (f : File) → IsBytes s → file s ≡ accepted f → mayHaveIndex (f .blocks) ≡ true
+    → length (take (tailStart f) s ++ indexText (offsets (f .blocks))) ≤ mostBytes
+    → file (take (tailStart f) s ++ indexText (offsets (f .blocks))) ≡ accepted (judgedAs Good f)
+indexed-again s f bytes e m short =
+    let ns = offsets (f .blocks) in
+    file-again s f e m (indexText ns) (text-is-tail ns) short
+    ∙ ap (λ (v : Verdict). accepted (judgedAs v f)) (index-is-good ns (indexText ns) (offsets-small s f bytes e) (text-is-index ns (some-offset (f .blocks) m)))
+
+-- the verdict on a file's index is good exactly if what stands behind the last block is an index of the blocks' offsets
+pub record GoodExactly (s : Bytes) (f : File) : Type 0 where
+  pub lists : f .verdict ≡ Good → IsIndex (offsets (f .blocks)) (drop (tailStart f) s)
+  pub good : IsIndex (offsets (f .blocks)) (drop (tailStart f) s) → f .verdict ≡ Good
+
+-- and so it is for every accepted file
+pub good-exactly : (s : Bytes) (f : File) → IsBytes s → file s ≡ accepted f → GoodExactly s f
+good-exactly s f bytes e =
+    let parts = file-parts s f e in
+    let ns = offsets (f .blocks) in
+    let judged : verdict ns (drop (tailStart f) s) ≡ f .verdict = ap (verdict ns) (sym (file-tail s f parts)) ∙ parts .judged in
+    record {
+      lists = λ h. good-is-index ns (drop (tailStart f) s) (judged ∙ h);
+      good = λ h. sym judged ∙ index-is-good ns (drop (tailStart f) s) (offsets-small s f bytes e) h;
+    }
