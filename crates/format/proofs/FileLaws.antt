@@ -1,6 +1,6 @@
 -- A file is accepted exactly if its parts are read one after another, and they stand in the file in this order.
 use Prim.Native.Nat.{ℕ, _≤_}
-use mathlib.Core.Path.{_≡_, refl, sym}
+use mathlib.Core.Path.{_≡_, refl}
 use mathlib.Core.Bool.{true}
 use native.Mathlib.Omega.{arith}
 use lib.ListN.{length, drop, length-drop}
@@ -11,7 +11,7 @@ use Rattle.format.specs.Line.{lines}
 use Rattle.format.specs.Header.{header}
 use Rattle.format.specs.Comments.{comments}
 use Rattle.format.specs.Tree.{tree}
-use Rattle.format.specs.Chain.{Chain, mostBlocks, chain}
+use Rattle.format.specs.Chain.{mostBlocks, chain}
 use Rattle.format.specs.Index.{verdict}
 use Rattle.format.specs.File.{mostBytes, File, firstBlock, goesOn, offsets, file}
 use Rattle.format.proofs.OutcomeLaws.{accepted-holds, accepts-bind, accepts-need}

@@ -43,17 +43,16 @@ module _ {Next : Bytes → Type 0} {reads : Reading} {n m : ℕ} (l : ℕ) (p z 
       let again : reads k (take l p ++ (drop l p ++ y)) (k + length (take l p)) = rw front-part at (f .local k (drop l p ++ y) h) in
       rw (← append-assoc, take-append-drop, length-take-le l p inside) at again
 
--- what is read of p and z reads the same with anything behind p that may come next
+-- and so where only its end is known
 front-within : {Next : Bytes → Type 0} {reads : Reading} {n m : ℕ} (p z : Bytes) → Front Next reads n (p ++ z) m → m ≤ n + length p
-    → (y : Bytes) → (Next (drop (m - n) p ++ z) → Next (drop (m - n) p ++ y)) → reads n (p ++ y) m
+    → (y : Bytes) → Next (drop (m - n) p ++ y) → reads n (p ++ y) m
 front-within {reads} {n} {m} p z f inside y next =
     let size : m ≡ n + (m - n) = omega (arith, f .end) in
-    subst (reads n (p ++ y)) (sym size)
-    (front-again (m - n) p z f size (omega arith) n y (next (front-next (m - n) p z f size (omega arith))))
+    subst (reads n (p ++ y)) (sym size) (front-again (m - n) p z f size (omega arith) n y next)
 
 -- a header is the same with anything behind it
 pub header-again : (p z y : Bytes) (h : Header) → header (p ++ z) ≡ accepted h → h .end .0 ≤ length p → header (p ++ y) ≡ accepted h
-header-again p z y h q inside = front-within p z (header-front (p ++ z) h q) (omega arith) y (λ x. x)
+header-again p z y h q inside = front-within p z (header-front (p ++ z) h q) (omega arith) y tt
 
 module _ (n : ℕ) (p z : Bytes) (q : comments n (lines (p ++ z)) ≡ accepted (n + length p)) where
   -- comments are the same where no `#` comes next
@@ -191,7 +190,7 @@ module _ (n : ℕ) (p z y : Bytes) (before : n ≤ length p) where
       let front = comments-front n (drop n p ++ z) m (rw drop-append-le at e) in
       let behind : n + (m - n) ≡ m = omega (arith, front .end) in
       let next : begins (text "#") (drop (m - n) (drop n p) ++ y) ≡ false = rw (drop-drop, behind, ← drop-append-le m p y inside) h in
-      rw drop-append-le (front-within (drop n p) z front (simp length-drop (omega arith)) y (λ x. next))
+      rw drop-append-le (front-within (drop n p) z front (simp length-drop (omega arith)) y next)
 
   -- a tree and its room are the same with other bytes behind a block's beginning
   pub tree-kept : (t : Tree) → tree n (p ++ z) ≡ accepted t → firstBlock n t ≤ length p → begins mark (drop (firstBlock n t) p ++ y) ≡ true
@@ -206,7 +205,7 @@ module _ (n : ℕ) (p z y : Bytes) (before : n ≤ length p) where
       with-room none e inside h = rw (drop-append-le n p y, no-tree-mark n (drop n p ++ y) h)
       with-room (some m) e inside h =
           let front = tree-front n (drop n p ++ z) m (rw drop-append-le at e) in
-          let end = front-within (drop n p) z front (simp length-drop (omega arith)) y (λ x. x) in
+          let end = front-within (drop n p) z front (simp length-drop (omega arith)) y tt in
           let inner : m ≤ length p = omega arith in
           let free = ap freeSpace (sym (drop-append-le m p z inner)) in
           let room = free-space-within (freeSpace (drop m (p ++ z))) (drop m p) z y (simp length-drop (omega arith)) free (rw drop-drop h) in

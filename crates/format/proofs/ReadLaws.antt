@@ -19,7 +19,7 @@ use Rattle.format.specs.Tree.{yamlLine, endLine, isStart, isDirective, c
 use Rattle.format.specs.File.{firstBlock}
 use Rattle.format.proofs.OutcomeLaws.{Accepts, accepted-holds, accepts-bind, accepts-need, choice}
 use Rattle.format.proofs.ByteLaws.{begins-true}
-use Rattle.format.proofs.LineLaws.{joinLines, join-lines, IsLine, AreLines, lines-line, are-lines}
+use Rattle.format.proofs.LineLaws.{joinLines, join-lines, AreLines, lines-line, are-lines}
 
 -- what follows a choice may count on its test
 pub accepts-choice : {A : Type 0} (P : A → Type 0) (t : Bool) (x y : Outcome A) → (t ≡ true → Accepts P x) → (t ≡ false → Accepts P y)
@@ -71,40 +71,27 @@ module _ (Next : Bytes → Type 0) (reads : Reading) (n : ℕ) where
     local = λ k z q. rw (append-assoc, length-append, ← add-assoc) (step k (f .front ++ z) _ (f .local (k + length p) z q));
   }
 
--- a way to read lines
-abbrev pub LineReading : Type 1
-LineReading = ℕ → Lines → ℕ → Type 0
+-- a line is read, and then something behind it
+front-line : (Next : Bytes → Type 0) (reads then : Reading) (n : ℕ) (t : Bytes) (e : LineEnd) (s : Bytes) (m : ℕ)
+    → ((k : ℕ) (z : Bytes) (j : ℕ) → then (behind k t e) z j → reads k (t ++ (lineEnd e ++ z)) j)
+    → Front Next then (behind n t e) s m → Front Next reads n (t ++ (lineEnd e ++ s)) m
+front-line Next reads then n t e s m step f =
+    rw append-assoc at (front-behind Next reads n then (t ++ lineEnd e) s m line-step (rw (length-append, ← add-assoc) f))
+  where
+    line-step : (k : ℕ) (z : Bytes) (j : ℕ) → then (k + length (t ++ lineEnd e)) z j → reads k (t ++ lineEnd e ++ z) j
+    line-step k z j h = rw append-assoc (step k z j (rw (length-append, ← add-assoc) at h))
 
-abbrev pub OnLines : LineReading → Reading
-OnLines reads k s j = reads k (lines s) j
+-- to read lines up to offset m
+abbrev pub Ends : (ℕ → Lines → Outcome ℕ) → Reading
+Ends reader n s m = reader n (lines s) ≡ accepted m
 
-module _ (Next : Bytes → Type 0) (reads then : LineReading) (n : ℕ) (t : Bytes) (e : LineEnd) (s : Bytes) (h : IsLine t e)
-    (step : (k : ℕ) (l : Lines) (j : ℕ) → then (behind k t e) l j → reads k (line t e l) j) where
-  -- a line is read, and then something behind it
-  front-line : (m : ℕ) → Front Next (OnLines then) (behind n t e) s m → Front Next (OnLines reads) n (t ++ (lineEnd e ++ s)) m
-  front-line m f =
-      rw append-assoc at (front-behind Next (OnLines reads) n (OnLines then) (t ++ lineEnd e) s m read (rw (length-append, ← add-assoc) f))
-    where
-      read : (k : ℕ) (z : Bytes) (j : ℕ) → then (k + length (t ++ lineEnd e)) (lines z) j → reads k (lines (t ++ lineEnd e ++ z)) j
-      read k z j q = rw (append-assoc, lines-line t e z h) (step k (lines z) j (rw (length-append, ← add-assoc) at q))
+-- to read a tree up to offset m
+abbrev pub TreeEnds : Reading
+TreeEnds n s m = treeEnd n (lines s) ≡ accepted (some m)
 
-  -- and so for all that can be accepted
-  accepts-line : (o : Outcome ℕ) → Accepts (Front Next (OnLines then) (behind n t e) s) o
-      → Accepts (Front Next (OnLines reads) n (t ++ (lineEnd e ++ s))) o
-  accepts-line (accepted m) f = front-line m f
-  accepts-line (refused r) f = tt
-
--- a way to read that ends where it begins
-abbrev Stops : LineReading
-Stops n l m = n ≡ m
-
--- to read what is accepted up to offset m
-abbrev pub Ends : (ℕ → Lines → Outcome ℕ) → LineReading
-Ends reader n l m = reader n l ≡ accepted m
-
--- to read a tree that ends at offset m
-abbrev pub TreeEnds : LineReading
-TreeEnds n l m = treeEnd n l ≡ accepted (some m)
+-- to read no more
+abbrev Stops : Reading
+Stops n s m = n ≡ m
 
 -- anything may come next
 abbrev pub Any : Bytes → Type 0
@@ -114,46 +101,57 @@ Any z = Unit {0}
 abbrev pub NoComment : Bytes → Type 0
 NoComment z = begins (text "#") z ≡ false
 
--- nothing is read behind a line
-stopped : (n : ℕ) (t : Bytes) (e : LineEnd) (l : Lines) → Front Any (OnLines Stops) (behind n t e) (joinLines l) (behind n t e)
-stopped n t e l = front-none Any (OnLines Stops) (behind n t e) (joinLines l) tt (λ k z h. refl)
+-- behind a line no more is read
+stopped : (n : ℕ) (t : Bytes) (e : LineEnd) (l : Lines) → Front Any Stops (behind n t e) (joinLines l) (behind n t e)
+stopped n t e l = front-none Any Stops (behind n t e) (joinLines l) tt (λ k z h. refl)
 
--- behind a tree's start line its content is read as a front part
-content-lines : (n : ℕ) (l : Lines) → AreLines l → Accepts (Front Any (OnLines (Ends content)) n (joinLines l)) (content n l)
+-- where a line is read and then what a reader accepts, it is a front part if that is
+accepts-line : (Next : Bytes → Type 0) (reads : Reading) (reader : ℕ → Lines → Outcome ℕ) (n : ℕ) (t : Bytes) (e : LineEnd) (l : Lines)
+    → ((k : ℕ) (z : Bytes) (j : ℕ) → Ends reader (behind k t e) z j → reads k (t ++ (lineEnd e ++ z)) j)
+    → Accepts (Front Next (Ends reader) (behind n t e) (joinLines l)) (reader (behind n t e) l)
+    → Accepts (Front Next reads n (t ++ (lineEnd e ++ joinLines l))) (reader (behind n t e) l)
+accepts-line Next reads reader n t e l step = on (reader (behind n t e) l)
+  where
+    on : (o : Outcome ℕ) → Accepts (Front Next (Ends reader) (behind n t e) (joinLines l)) o → Accepts (Front Next reads n (t ++ (lineEnd e ++ joinLines l))) o
+    on (accepted m) f = front-line Next reads (Ends reader) n t e (joinLines l) m step f
+    on (refused r) f = tt
+
+-- content of a tree is a front part
+content-lines : (n : ℕ) (l : Lines) → AreLines l → Accepts (Front Any (Ends content) n (joinLines l)) (content n l)
 unfolding content joinLines
 content-lines n (unended t) a = tt
 content-lines n (line t e l) a =
     accepts-choice _ (same t endLine) _ _
-    (λ q. front-line Any (Ends content) Stops n t e (joinLines l) (a .0) (λ k z j h. rw (q, content) (ap accepted h)) _ (stopped n t e l))
+    (λ q. front-line Any (Ends content) Stops n t e (joinLines l) _ (λ k z j h. rw (lines-line t e z (a .0), q, content) (ap accepted h)) (stopped n t e l))
     λ q. accepts-choice _ (isStart t) _ _ (λ r. tt)
-    λ r. accepts-line Any (Ends content) (Ends content) n t e (joinLines l) (a .0) (λ k z j h. rw (q, content, r) h) (content (behind n t e) l)
-    (content-lines (behind n t e) l (a .1))
+    λ r. accepts-line Any (Ends content) content n t e l (λ k z j h. rw (lines-line t e z (a .0), q, content, r) h) (content-lines (behind n t e) l (a .1))
 
--- behind a tree's first line its directives and content are read as a front part
-directives-lines : (n : ℕ) (l : Lines) → AreLines l → Accepts (Front Any (OnLines (Ends directives)) n (joinLines l)) (directives n l)
+-- directives and content of a tree are a front part
+directives-lines : (n : ℕ) (l : Lines) → AreLines l → Accepts (Front Any (Ends directives) n (joinLines l)) (directives n l)
 unfolding directives joinLines
 directives-lines n (unended t) a = tt
 directives-lines n (line t e l) a =
     accepts-choice _ (isStart t) _ _
-    (λ q. accepts-line Any (Ends directives) (Ends content) n t e (joinLines l) (a .0) (λ k z j h. rw (q, directives) h) (content (behind n t e) l)
+    (λ q. accepts-line Any (Ends directives) content n t e l (λ k z j h. rw (lines-line t e z (a .0), q, directives) h)
     (content-lines (behind n t e) l (a .1)))
     λ q. accepts-choice _ (isDirective t) _ _
-    (λ r. accepts-line Any (Ends directives) (Ends directives) n t e (joinLines l) (a .0) (λ k z j h. rw (q, directives, r) h)
-    (directives (behind n t e) l) (directives-lines (behind n t e) l (a .1)))
+    (λ r. accepts-line Any (Ends directives) directives n t e l (λ k z j h. rw (lines-line t e z (a .0), q, directives, r) h)
+    (directives-lines (behind n t e) l (a .1)))
     (λ r. tt)
 
--- a tree, if there is one, is read as a front part
+-- a tree that ends is a front part
 abbrev TreeFront : ℕ → Bytes → Option ℕ → Type 0
 TreeFront n s none = Unit {0}
-TreeFront n s (some m) = Front Any (OnLines TreeEnds) n s m
+TreeFront n s (some m) = Front Any TreeEnds n s m
 
+-- and so is one that is found
 tree-lines : (n : ℕ) (l : Lines) → AreLines l → Accepts (TreeFront n (joinLines l)) (treeEnd n l)
 unfolding treeEnd joinLines
 tree-lines n (unended t) a = tt
 tree-lines n (line t e l) a =
     accepts-choice _ (same t yamlLine) _ _
     (λ q. accepts-bind _ (directives (behind n t e) l) _
-    λ m h. front-line Any TreeEnds (Ends directives) n t e (joinLines l) (a .0) (λ k z j r. rw (q, treeEnd, r)) m
+    λ m h. front-line Any TreeEnds (Ends directives) n t e (joinLines l) m (λ k z j r. rw (lines-line t e z (a .0), q, treeEnd, r))
     (accepted-holds _ _ m (directives-lines (behind n t e) l (a .1)) h))
     (λ q. tt)
 
@@ -172,38 +170,38 @@ no-comments n s h = on-lines (lines s) (rw join-lines h)
     on-lines (unended t) q = rw (q, comments)
     on-lines (line t e l) q = rw (sym (hash-line t e (joinLines l)) ∙ q, comments)
 
--- comments are read as a front part, and none comes next
-comments-lines : (n : ℕ) (l : Lines) → AreLines l → Accepts (Front NoComment (OnLines (Ends comments)) n (joinLines l)) (comments n l)
+-- comments are a front part, and no comment comes next
+comments-lines : (n : ℕ) (l : Lines) → AreLines l → Accepts (Front NoComment (Ends comments) n (joinLines l)) (comments n l)
 unfolding comments joinLines
 comments-lines n (unended t) a = accepts-choice _ (begins (text "#") t) _ _ (λ q. tt) (λ q. front-none NoComment _ _ _ q no-comments)
 comments-lines n (line t e l) a =
     accepts-choice _ (begins (text "#") t) _ _
     (λ q. accepts-choice _ (same t indexLine) _ _ (λ r. tt)
-    λ r. accepts-line NoComment (Ends comments) (Ends comments) n t e (joinLines l) (a .0) (λ k z j h. rw (q, comments, r) h) (comments (behind n t e) l)
+    λ r. accepts-line NoComment (Ends comments) comments n t e l (λ k z j h. rw (lines-line t e z (a .0), q, comments, r) h)
     (comments-lines (behind n t e) l (a .1)))
     (λ q. front-none NoComment _ _ _ (hash-line t e (joinLines l) ∙ q) no-comments)
 
 module _ (n : ℕ) (s : Bytes) (m : ℕ) where
   -- what holds of the lines of a byte string, joined, holds of it
   of-lines : (Next : Bytes → Type 0) (reader : ℕ → Lines → Outcome ℕ)
-      → Accepts (Front Next (OnLines (Ends reader)) n (joinLines (lines s))) (reader n (lines s))
-      → reader n (lines s) ≡ accepted m → Front Next (OnLines (Ends reader)) n s m
-  of-lines Next reader h = accepted-holds (Front Next (OnLines (Ends reader)) n s) (reader n (lines s)) m (rw join-lines at h)
+      → Accepts (Front Next (Ends reader) n (joinLines (lines s))) (reader n (lines s))
+      → reader n (lines s) ≡ accepted m → Front Next (Ends reader) n s m
+  of-lines Next reader h = accepted-holds (Front Next (Ends reader) n s) (reader n (lines s)) m (rw join-lines at h)
 
   -- content of a tree is a front part
-  pub content-front : content n (lines s) ≡ accepted m → Front Any (OnLines (Ends content)) n s m
+  pub content-front : content n (lines s) ≡ accepted m → Front Any (Ends content) n s m
   content-front = of-lines Any content (content-lines n (lines s) (are-lines s))
 
   -- directives and content of a tree are a front part
-  pub directives-front : directives n (lines s) ≡ accepted m → Front Any (OnLines (Ends directives)) n s m
+  pub directives-front : directives n (lines s) ≡ accepted m → Front Any (Ends directives) n s m
   directives-front = of-lines Any directives (directives-lines n (lines s) (are-lines s))
 
   -- comments are a front part, and no comment comes next
-  pub comments-front : comments n (lines s) ≡ accepted m → Front NoComment (OnLines (Ends comments)) n s m
+  pub comments-front : comments n (lines s) ≡ accepted m → Front NoComment (Ends comments) n s m
   comments-front = of-lines NoComment comments (comments-lines n (lines s) (are-lines s))
 
   -- a tree is a front part
-  pub tree-front : treeEnd n (lines s) ≡ accepted (some m) → Front Any (OnLines TreeEnds) n s m
+  pub tree-front : treeEnd n (lines s) ≡ accepted (some m) → Front Any TreeEnds n s m
   tree-front = accepted-holds (TreeFront n s) (treeEnd n (lines s)) (some m) (rw join-lines at (tree-lines n (lines s) (are-lines s)))
 
   -- where content of a tree ends
@@ -229,16 +227,16 @@ header-end none e = tt
 header-end (some v) e = search accepts-need
 
 -- to read the line of the header h
-abbrev IsVersion : Header → LineReading
-IsVersion h n l m = versionLine l ≡ accepted h
+abbrev IsVersion : Header → Reading
+IsVersion h n s m = versionLine (lines s) ≡ accepted h
 
 -- the header's line is read as a front part
-version-lines : (h : Header) (l : Lines) → AreLines l → versionLine l ≡ accepted h → Front Any (OnLines (IsVersion h)) 6 (joinLines l) (h .end .0)
+version-lines : (h : Header) (l : Lines) → AreLines l → versionLine l ≡ accepted h → Front Any (IsVersion h) 6 (joinLines l) (h .end .0)
 unfolding versionLine joinLines
 version-lines h (unended t) a q = let z : _≡_ {A = ℕ} 0 1 = cc in absurd (omega arith)
 version-lines h (line t e l) a q =
-    subst (Front Any (OnLines (IsVersion h)) 6 _) (sym (accepted-holds _ _ h (header-end (version t) (behind 6 t e)) q))
-    (front-line Any (IsVersion h) Stops 6 t e (joinLines l) (a .0) (λ k z j r. q) (behind 6 t e) (stopped 6 t e l))
+    subst (Front Any (IsVersion h) 6 _) (sym (accepted-holds _ _ h (header-end (version t) (behind 6 t e)) q))
+    (front-line Any (IsVersion h) Stops 6 t e (joinLines l) (behind 6 t e) (λ k z j r. rw (lines-line t e z (a .0)) q) (stopped 6 t e l))
 
 -- to read the header h
 abbrev pub IsHeader : Header → Reading
@@ -252,7 +250,7 @@ header-front s h = accepted-holds (λ g. Front Any (IsHeader g) 0 s (g .end .0))
     behind-token : (g : Header) → begins token s ≡ true → versionLine (lines (drop 6 s)) ≡ accepted g → Front Any (IsHeader g) 0 s (g .end .0)
     behind-token g r q =
         rw (begins-true token s r)
-        (front-behind Any (IsHeader g) 0 (OnLines (IsVersion g)) token (drop 6 s) _ (λ k z j h. h)
+        (front-behind Any (IsHeader g) 0 (IsVersion g) token (drop 6 s) _ (λ k z j h. h)
         (rw join-lines at (version-lines g (lines (drop 6 s)) (are-lines _) q)))
 
 -- the header ends inside the file

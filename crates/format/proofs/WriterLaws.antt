@@ -1,11 +1,11 @@
 -- The index that is written for a file, put behind its last block, is good; and an index is good exactly if it lists the blocks' offsets.
-use Prim.Native.Nat.{ℕ, zero, suc, _+_, _-_, _^_, _≤_, _<_}
-use mathlib.Core.Path.{_≡_, refl, sym, ap, subst, _∙_}
+use Prim.Native.Nat.{ℕ, zero, suc, _^_, _≤_, _<_}
+use mathlib.Core.Path.{_≡_, refl, sym, ap, _∙_}
 use mathlib.Core.Bool.{true, true≢false}
 use mathlib.Core.List.{List, [], _∷_, _++_}
 use native.Mathlib.Omega.{arith}
 use lib.ListN.{length, take, drop, getD, length-drop, take-append-drop}
-use lib.Seq.{length-take-le, drop-append-le, drop-drop}
+use lib.Seq.{length-take-le, drop-append-le}
 use borrow.Author.Tests.{leb-true, le-leb}
 use Rattle.format.specs.declared.layout.Tree.{Tree}
 use Rattle.format.specs.declared.layout.Tree.the-variants.{NoTree, Found}
@@ -15,7 +15,7 @@ use Rattle.format.specs.declared.block.Block.{Block}
 use Rattle.format.specs.Bytes.{Bytes, IsBytes, begins}
 use Rattle.format.specs.Outcome.{accepted}
 use Rattle.format.specs.Tree.{mark}
-use Rattle.format.specs.Chain.{Chain, mostBlocks, isTail, chain}
+use Rattle.format.specs.Chain.{mostBlocks, isTail}
 use Rattle.format.specs.Index.{verdict, rendering, indexText, IsIndex}
 use Rattle.format.specs.File.{mostBytes, File, firstBlock, goesOn, offsets, file}
 use Rattle.format.specs.IndexWriter.{mayHaveIndex}
