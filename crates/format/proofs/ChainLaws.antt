@@ -1,4 +1,4 @@
--- The blocks of a chain are the same with another tail behind the last of them.
+-- The blocks of a chain are a front part of the bytes, and the same with another tail behind the last of them.
 use Prim.Native.Nat.{ℕ, zero, suc, _+_, _≤_}
 use mathlib.Core.Path.{_≡_, refl, sym, ap, subst, _∙_}
 use mathlib.Core.Bool.{Bool, true, false, not, _&&_, _||_, true≢false}
@@ -18,7 +18,7 @@ use Rattle.format.specs.IndexWriter.{mayHaveIndex}
 use Rattle.format.proofs.OutcomeLaws.{Accepts, accepted-holds, accepts-bind, accepts-need}
 use Rattle.format.proofs.ReadLaws.{accepts-choice, Between}
 
--- the first 54 bytes' fields are the same with anything behind
+-- a field in the first 54 bytes is the same with anything behind them
 header-field : (p y z : Bytes) → 54 ≤ length p → (n w : ℕ) → leb (n + w) 54 ≡ true → take w (drop n (p ++ y)) ≡ take w (drop n (p ++ z))
 header-field p y z h n w q =
     let inside : n + w ≤ 54 = leb-true _ _ q in
@@ -45,7 +45,7 @@ module _ {i n : ℕ} {t : Bytes} {b : Block} (h : Plain i n t b) where
   plain-least : 54 ≤ extent b
   plain-least = omega (arith, leb-true leastHeader (headerSize t) (h .header-least), plain-extent)
 
--- and so does t's front part of the block's length with anything behind
+-- bytes that are as long as the block that they begin with do so with anything behind
 plain-again : (i n : ℕ) (p y z : Bytes) (b : Block) → length p ≡ extent b → Plain i n (p ++ z) b → Plain i n (p ++ y) b
 unfolding blockWith
 plain-again i n p y z b size h =
@@ -59,7 +59,7 @@ plain-again i n p y z b size h =
       numbers = simp same-fields (h .numbers);
     }
 
--- such a block is accepted
+-- such a block is accepted: its tests hold
 plain-block : (i n : ℕ) (t : Bytes) (b : Block) → Plain i n t b → block i n t ≡ accepted b
 unfolding block
 plain-block i n t b h =
@@ -113,7 +113,7 @@ unfoldable pub blocksEnd : ℕ → List Block → ℕ
 blocksEnd n [] = n
 blocksEnd n (b ∷ bs) = blocksEnd (b .at .0 + extent b) bs
 
--- the blocks of the chain c are a front part of t, and its tail is the rest; if the last of them and the block b before is not streamed, they are the same with another tail
+-- the blocks of c are a front part of t and its tail is the rest; they are the same with another tail if, of a block b and them, the last is not streamed
 record ChainFront (k i n : ℕ) (t : Bytes) (c : Chain) : Type 0 where
   front : Bytes
   whole : t ≡ front ++ c .tail
@@ -137,6 +137,7 @@ unfolding chain tail
 no-blocks zero i n y h = rw (tail-no-mark y h, chain, h)
 no-blocks (suc k) i n y h = rw (tail-no-mark y h, chain, h)
 
+-- a tail is the rest of no blocks
 tail-front : (k i n : ℕ) (t : Bytes) → Accepts (ChainFront k i n t) (tail n t)
 unfolding tail blocksEnd mayHaveIndex
 tail-front k i n t = search (accepts-need, nothing)
@@ -205,7 +206,7 @@ chain-front (suc k) i n t =
     (chain k (i + 1) (n + extent b) (drop (extent b) t)) (chain-front k (i + 1) (n + extent b) (drop (extent b) t)))
     (λ m. tail-front (suc k) i n t)
 
--- where the last block is not streamed, it is so with a block more in front
+-- where the last block is not streamed, a block may stand in front
 with-first : (bs : List Block) → mayHaveIndex bs ≡ true → (b : Block) × (mayHaveIndex (b ∷ bs) ≡ true)
 unfolding mayHaveIndex
 with-first [] h = absurd (true≢false (sym h))

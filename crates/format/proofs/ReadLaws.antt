@@ -1,4 +1,4 @@
--- What is read of a file is a front part of what stands there: it ends inside it, and reads the same elsewhere and with other bytes behind.
+-- What is read of bytes is a front part of them: it ends inside them, and reads the same elsewhere and with other bytes behind.
 use Prim.Native.Nat.{ℕ, suc, _+_, _≤_}
 use mathlib.Core.Path.{_≡_, refl, sym, ap, subst, _∙_}
 use mathlib.Core.Bool.{Bool, true, false}
@@ -27,16 +27,16 @@ pub accepts-choice : {A : Type 0} (P : A → Type 0) (t : Bool) (x y : Outcome A
 accepts-choice P true x y h k = h refl
 accepts-choice P false x y h k = k refl
 
--- what holds of each value that can be accepted
+-- what holds of each accepted value holds of all that can be accepted
 accepts-each : {A : Type 0} (P : A → Type 0) (o : Outcome A) → ((a : A) → o ≡ accepted a → P a) → Accepts P o
 accepts-each P (accepted a) h = h a refl
 accepts-each P (refused r) h = tt
 
--- a way to read: it begins at this offset, where these bytes stand, and ends at that offset
+-- a way to read the bytes that stand from an offset on, up to another offset
 abbrev pub Reading : Type 1
 Reading = ℕ → Bytes → ℕ → Type 0
 
--- what is read of s from offset n on ends at m; it is a front part of s, and reads the same from any offset with anything behind that may come next
+-- of s, from offset n on, a front part is read up to offset m; it reads the same from any offset on, with anything behind it that may come next
 pub record Front (Next : Bytes → Type 0) (reads : Reading) (n : ℕ) (s : Bytes) (m : ℕ) : Type 0 where
   pub front : Bytes
   pub rest : Bytes
@@ -50,7 +50,7 @@ pub record Between (low high m : ℕ) : Type 0 where
   pub above : low ≤ m
   pub below : m ≤ high
 
--- what is read ends where it begins or behind, and inside the bytes
+-- what is read ends no earlier than it begins, and inside the bytes
 pub front-bounds : {Next : Bytes → Type 0} {reads : Reading} {n : ℕ} {s : Bytes} {m : ℕ} → Front Next reads n s m → Between n (n + length s) m
 front-bounds f = omega (arith, f .end, simp length-append at (ap length (f .whole)))
 
@@ -105,7 +105,7 @@ NoComment z = begins (text "#") z ≡ false
 stopped : (n : ℕ) (t : Bytes) (e : LineEnd) (l : Lines) → Front Any Stops (behind n t e) (joinLines l) (behind n t e)
 stopped n t e l = front-none Any Stops (behind n t e) (joinLines l) tt (λ k z h. refl)
 
--- where a line is read and then what a reader accepts, it is a front part if that is
+-- and so for all that can be accepted behind the line
 accepts-line : (Next : Bytes → Type 0) (reads : Reading) (reader : ℕ → Lines → Outcome ℕ) (n : ℕ) (t : Bytes) (e : LineEnd) (l : Lines)
     → ((k : ℕ) (z : Bytes) (j : ℕ) → Ends reader (behind k t e) z j → reads k (t ++ (lineEnd e ++ z)) j)
     → Accepts (Front Next (Ends reader) (behind n t e) (joinLines l)) (reader (behind n t e) l)
@@ -116,7 +116,7 @@ accepts-line Next reads reader n t e l step = on (reader (behind n t e) l)
     on (accepted m) f = front-line Next reads (Ends reader) n t e (joinLines l) m step f
     on (refused r) f = tt
 
--- content of a tree is a front part
+-- content of a tree is a front part of the bytes of its lines
 content-lines : (n : ℕ) (l : Lines) → AreLines l → Accepts (Front Any (Ends content) n (joinLines l)) (content n l)
 unfolding content joinLines
 content-lines n (unended t) a = tt
@@ -126,7 +126,7 @@ content-lines n (line t e l) a =
     λ q. accepts-choice _ (isStart t) _ _ (λ r. tt)
     λ r. accepts-line Any (Ends content) content n t e l (λ k z j h. rw (lines-line t e z (a .0), q, content, r) h) (content-lines (behind n t e) l (a .1))
 
--- directives and content of a tree are a front part
+-- directives and content of a tree are so too
 directives-lines : (n : ℕ) (l : Lines) → AreLines l → Accepts (Front Any (Ends directives) n (joinLines l)) (directives n l)
 unfolding directives joinLines
 directives-lines n (unended t) a = tt
@@ -139,12 +139,12 @@ directives-lines n (line t e l) a =
     (directives-lines (behind n t e) l (a .1)))
     (λ r. tt)
 
--- a tree that ends is a front part
+-- there is no tree, or it is a front part
 abbrev TreeFront : ℕ → Bytes → Option ℕ → Type 0
 TreeFront n s none = Unit {0}
 TreeFront n s (some m) = Front Any TreeEnds n s m
 
--- and so is one that is found
+-- a tree is a front part of the bytes of its lines
 tree-lines : (n : ℕ) (l : Lines) → AreLines l → Accepts (TreeFront n (joinLines l)) (treeEnd n l)
 unfolding treeEnd joinLines
 tree-lines n (unended t) a = tt
@@ -170,7 +170,7 @@ no-comments n s h = on-lines (lines s) (rw join-lines h)
     on-lines (unended t) q = rw (q, comments)
     on-lines (line t e l) q = rw (sym (hash-line t e (joinLines l)) ∙ q, comments)
 
--- comments are a front part, and no comment comes next
+-- comments are a front part of the bytes of their lines, and no comment comes next
 comments-lines : (n : ℕ) (l : Lines) → AreLines l → Accepts (Front NoComment (Ends comments) n (joinLines l)) (comments n l)
 unfolding comments joinLines
 comments-lines n (unended t) a = accepts-choice _ (begins (text "#") t) _ _ (λ q. tt) (λ q. front-none NoComment _ _ _ q no-comments)
@@ -182,7 +182,7 @@ comments-lines n (line t e l) a =
     (λ q. front-none NoComment _ _ _ (hash-line t e (joinLines l) ∙ q) no-comments)
 
 module _ (n : ℕ) (s : Bytes) (m : ℕ) where
-  -- what holds of the lines of a byte string, joined, holds of it
+  -- what is a front part of the bytes of the lines of s is one of s
   of-lines : (Next : Bytes → Type 0) (reader : ℕ → Lines → Outcome ℕ)
       → Accepts (Front Next (Ends reader) n (joinLines (lines s))) (reader n (lines s))
       → reader n (lines s) ≡ accepted m → Front Next (Ends reader) n s m
@@ -230,7 +230,7 @@ header-end (some v) e = search accepts-need
 abbrev IsVersion : Header → Reading
 IsVersion h n s m = versionLine (lines s) ≡ accepted h
 
--- the header's line is read as a front part
+-- the header's line is a front part of the bytes of the lines
 version-lines : (h : Header) (l : Lines) → AreLines l → versionLine l ≡ accepted h → Front Any (IsVersion h) 6 (joinLines l) (h .end .0)
 unfolding versionLine joinLines
 version-lines h (unended t) a q = let z : _≡_ {A = ℕ} 0 1 = cc in absurd (omega arith)
@@ -242,7 +242,7 @@ version-lines h (line t e l) a q =
 abbrev pub IsHeader : Header → Reading
 IsHeader h n s m = header s ≡ accepted h
 
--- the header is read as a front part
+-- the header is a front part
 pub header-front : (s : Bytes) (h : Header) → header s ≡ accepted h → Front Any (IsHeader h) 0 s (h .end .0)
 unfolding header
 header-front s h = accepted-holds (λ g. Front Any (IsHeader g) 0 s (g .end .0)) (header s) h (search (accepts-need, accepts-each, behind-token))
