@@ -1,8 +1,8 @@
 -- What a writer answers, and what it leaves in the buffer that it was lent.
-use Prim.Native.Nat.{ℕ}
+use Prim.Native.Nat.{ℕ, _+_}
 use mathlib.Core.Bool.{true, false}
 use mathlib.Core.List.{_++_}
-use lib.ListN.{length, drop}
+use lib.ListN.{length, take, drop}
 use lib.Dec.{leb}
 use Rattle.format.specs.Bytes.{Bytes}
 use Rattle.format.specs.Outcome.{Outcome, accepted, refused, need, _>>=_, _>>_}
@@ -14,7 +14,12 @@ writes result out = do
   need (leb (length bytes) (length out)) 21 0
   accepted (length bytes)
 
--- the result at the buffer's start and the rest unchanged, or nothing changed
+-- a buffer with these bytes at offset n and the rest unchanged; where they do not fit, nothing changes
+unfoldable pub placed : Bytes → ℕ → Bytes → Bytes
+placed out n bytes =
+    elim (leb (n + length bytes) (length out)) [ true ↦ take n out ++ bytes ++ drop (n + length bytes) out | false ↦ out ]
+
+-- what the buffer holds afterwards: the result at its start, or what it held
 unfoldable pub leaves : Outcome Bytes → Bytes → Bytes
+leaves (accepted bytes) out = placed out 0 bytes
 leaves (refused r) out = out
-leaves (accepted bytes) out = elim (leb (length bytes) (length out)) [ true ↦ bytes ++ drop (length bytes) out | false ↦ out ]

@@ -122,6 +122,12 @@ stored b = do
   need (eqb (length b % rowBytes) 0) 23 0
   storedFrom (length b / rowBytes) 0 0 b
 
+-- how many there are
+unfoldable pub storedCount : Bytes → Outcome ℕ
+storedCount b = do
+  rs ← stored b
+  accepted (length rs)
+
 -- the k-th of them, if there is one
 unfoldable pub storedAt : Bytes → ℕ → Outcome (Option Row)
 storedAt b k = do
