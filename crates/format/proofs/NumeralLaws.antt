@@ -24,16 +24,16 @@ pub record IsDecimal (x : ℕ) (t : Bytes) : Type 0 where
   pub no-zero : 1 ≤ x → begins (text "0") t ≡ false
 
 -- all of two texts are digits if all of each are
-digits-append : (s t : Bytes) → allDigits (s ++ t) ≡ (allDigits s && allDigits t)
+pub digits-append : (s t : Bytes) → allDigits (s ++ t) ≡ (allDigits s && allDigits t)
 digits-append [] t = refl
 digits-append (b ∷ s) t = ap (λ (x : Bool). isDigit b && x) (digits-append s t) ∙ sym (and-assoc (isDigit b) (allDigits s) (allDigits t))
 
 -- a text with one byte more at its end is one longer
-length-snoc : (t : Bytes) (d : ℕ) → length (t ++ (d ∷ [])) ≡ suc (length t)
+pub length-snoc : (t : Bytes) (d : ℕ) → length (t ++ (d ∷ [])) ≡ suc (length t)
 length-snoc t d = omega (arith, length-append t (d ∷ []))
 
 -- one digit more at the end counts ones, and the others tens
-value-snoc : (t : Bytes) (d : ℕ) → decimalValue (t ++ (d ∷ [])) ≡ decimalValue t * 10 + (d - 48)
+pub value-snoc : (t : Bytes) (d : ℕ) → decimalValue (t ++ (d ∷ [])) ≡ decimalValue t * 10 + (d - 48)
 value-snoc [] d = omega arith
 value-snoc (b ∷ t) d = rw (value-snoc t d, length-snoc t d, pow-suc 10 (length t)) (omega arith)
 
@@ -107,7 +107,7 @@ by-last P p more t = go [] t p
     go s (d ∷ t) h = rw append-snoc at (go (s ++ (d ∷ [])) t (more s d h))
 
 -- a digit is 48 and a number below ten
-digit-range : (b : ℕ) → isDigit b ≡ true → (48 ≤ b) × (b ≤ 57)
+pub digit-range : (b : ℕ) → isDigit b ≡ true → (48 ≤ b) × (b ≤ 57)
 digit-range b h = (leb-true 48 b (and-left _ _ h), leb-true b 57 (and-right (leb 48 b) _ h))
 
 -- digits of which the first is no 0 give one or more
@@ -118,7 +118,7 @@ value-some b t h z =
     omega arith
 
 -- digits give a number below the power of ten of their count
-value-below : (t : Bytes) → allDigits t ≡ true → decimalValue t < 10 ^ length t
+pub value-below : (t : Bytes) → allDigits t ≡ true → decimalValue t < 10 ^ length t
 value-below [] h = omega arith
 value-below (b ∷ t) h =
     let r = digit-range b (and-left _ _ h) in

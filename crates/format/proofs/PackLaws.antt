@@ -36,7 +36,7 @@ single-byte x h zero = h
 single-byte x h (suc i) = omega arith
 
 -- the number of two byte strings, one behind the other
-big-endian-append : (s t : Bytes) → bigEndian (s ++ t) ≡ bigEndian s * 256 ^ length t + bigEndian t
+pub big-endian-append : (s t : Bytes) → bigEndian (s ++ t) ≡ bigEndian s * 256 ^ length t + bigEndian t
 big-endian-append [] t = omega arith
 big-endian-append (b ∷ s) t = rw (big-endian-append s t, length-append s t, pow-add 256 (length s) (length t)) (omega arith)
 

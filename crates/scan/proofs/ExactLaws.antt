@@ -1,0 +1,124 @@
+-- Whether a line is a word: one law for each way out, and what the answer says of the bytes.
+use Prim.Native.Nat.{ℕ, _+_, _-_, _≤_}
+use native.Mathlib.Omega.{arith}
+use mathlib.Core.Path.{_≡_, refl, sym, ap, _∙_}
+use mathlib.Core.Bool.{Bool, true, false}
+use mathlib.Core.List.{_++_, append-assoc}
+use lib.ListN.{length, take, drop, length-append}
+use Rattle.format.specs.Bytes.{Bytes, begins, same}
+use Rattle.format.specs.Line.{LineEnd, lf, crlf, lineEnd, Lines, unended, line, behind, lines}
+use Rattle.format.specs.Tree.{yamlLine}
+use Rattle.format.proofs.ByteLaws.{same-true, eq-same, begins-true, begins-append}
+use Rattle.format.proofs.LineLaws.{IsLine, plain-line, lines-line, line-split}
+use Rattle.scan.specs.declared.line.Line.{Line}
+use Rattle.scan.specs.declared.line.Line.the-variants.{Ended, Unended}
+use Rattle.scan.specs.declared.line.Exact.{Exact}
+use Rattle.scan.specs.declared.line.Exact.the-variants.{Behind, Other}
+use Rattle.scan.specs.Line.{LineRead, exactLine, ExactRead}
+use Rattle.scan.proofs.TextLaws.{begins-inside}
+use Rattle.scan.proofs.LineLaws.{FirstLine, lines-first, unended-lines, ended-first, ended-inside}
+
+module _ (s : Bytes) (at : ℕ) (r : Line) (read : LineRead s at r) (word : Bytes) where
+  -- bytes without a line end are no line
+  pub exact-unended : r ≡ Unended → ExactRead s word at Other
+  unfolding exactLine
+  exact-unended e = record { is = rw (unended-lines s at r read e); inside = tt }
+
+  module _ (m next : ℕ) (e : r ≡ Ended m next) (x : Bool) (h : x ≡ same (take (m - at) (drop at s)) word) where
+    -- the line's text is the word
+    pub exact-behind : x ≡ true → ExactRead s word at (Behind next)
+    unfolding exactLine
+    exact-behind p =
+        let first = ended-first s at r read m next e in
+        record {
+          is = rw (first .cut, exactLine, sym h ∙ p) (ap Behind (first .next-is));
+          inside = omega (arith, ended-inside s at r read m next e);
+        }
+
+    -- it is another
+    pub exact-other : x ≡ false → ExactRead s word at Other
+    unfolding exactLine
+    exact-other p = record { is = rw (ended-first s at r read m next e .cut, exactLine, sym h ∙ p); inside = tt }
+
+module _ (s word : Bytes) (at : ℕ) (r : Exact) (read : ExactRead s word at r) where
+  -- where the answer is no, no first line has the word for its text
+  pub other-text : (t : Bytes) (e : LineEnd) (l : Lines) → r ≡ Other → lines (drop at s) ≡ line t e l → same t word ≡ false
+  unfolding exactLine
+  other-text t e l p h = go (same t word) refl
+    where
+      go : (x : Bool) → same t word ≡ x → same t word ≡ false
+      go true k = cc (sym p ∙ rw (h, exactLine, k) at (read .is))
+      go false k = k
+
+  -- where it is yes, the word is the first line
+  pub behind-first : (next : ℕ) → r ≡ Behind next → FirstLine s at word next
+  unfolding exactLine
+  behind-first next p = go (lines (drop at s)) refl
+    where
+      judge : (t : Bytes) (e : LineEnd) (l : Lines) (x : Bool) → lines (drop at s) ≡ line t e l → same t word ≡ x → FirstLine s at word next
+      judge t e l true h k =
+          let over : next ≡ behind at t e = cc (sym p ∙ rw (h, exactLine, k) at (read .is)) in
+          rw (over, ← same-true t word k) (lines-first s at t e l h)
+      judge t e l false h k = let z : _≡_ {A = ℕ} 0 1 = cc (sym p ∙ rw (h, exactLine, k) at (read .is)) in absurd (omega arith)
+
+      go : (l : Lines) → lines (drop at s) ≡ l → FirstLine s at word next
+      go (unended t) h = let z : _≡_ {A = ℕ} 0 1 = cc (read .is, h, p) in absurd (omega arith)
+      go (line t e l) h = judge t e l (same t word) h refl
+
+-- a line end has one byte or two
+some-end : (e : LineEnd) → 1 ≤ length (lineEnd e)
+some-end lf = omega arith
+some-end crlf = omega arith
+
+-- bytes that begin with a word and a line end have the word for their first line
+word-read : (s word : Bytes) (at : ℕ) (e : LineEnd) (next : ℕ) → IsLine word e → begins (word ++ lineEnd e) (drop at s) ≡ true
+    → next ≡ behind at word e → ExactRead s word at (Behind next)
+unfolding exactLine
+word-read s word at e next l h n =
+    let z = drop (length (word ++ lineEnd e)) (drop at s) in
+    let split = begins-true (word ++ lineEnd e) (drop at s) h ∙ append-assoc word (lineEnd e) z in
+    let size = length-append word (lineEnd e) in
+    let some = some-end e in
+    record {
+      is = rw (ap lines split ∙ lines-line word e z l, exactLine, eq-same word word refl, n);
+      inside = omega (arith, begins-inside (word ++ lineEnd e) at s h (omega arith));
+    }
+
+-- bytes that begin with the word and a line end in no way have another first line
+other-read : (s word : Bytes) (at : ℕ) → ((e : LineEnd) → begins (word ++ lineEnd e) (drop at s) ≡ false) → ExactRead s word at Other
+unfolding exactLine
+other-read s word at never = record { is = sym (go (lines (drop at s)) refl); inside = tt }
+  where
+    judge : (t : Bytes) (e : LineEnd) (l : Lines) (x : Bool) → lines (drop at s) ≡ line t e l → same t word ≡ x
+        → exactLine word at (line t e l) ≡ Other
+    judge t e l true h k =
+        let z = drop (length t + length (lineEnd e)) (drop at s) in
+        let text = ap (λ (w : Bytes). w ++ (lineEnd e ++ z)) (same-true t word k) ∙ sym (append-assoc word (lineEnd e) z) in
+        cc (ap (begins (word ++ lineEnd e)) (line-split (drop at s) t e l h ∙ text), begins-append (word ++ lineEnd e) z, never e)
+    judge t e l false h k = rw (k, exactLine)
+
+    go : (l : Lines) → lines (drop at s) ≡ l → exactLine word at l ≡ Other
+    go (unended t) h = refl
+    go (line t e l) h = judge t e l (same t word) h refl
+
+-- the first line of a tree has no 0A, and no 0D at its end
+yaml-plain : (e : LineEnd) → IsLine yamlLine e
+yaml-plain e = plain-line yamlLine e refl refl
+
+module _ (s : Bytes) (at : ℕ) (x : Bool) (h : x ≡ begins (yamlLine ++ lineEnd lf) (drop at s)) where
+  -- it stands there with 0A
+  pub yaml-lf : x ≡ true → ExactRead s yamlLine at (Behind (at + 10))
+  yaml-lf p = word-read s yamlLine at lf (at + 10) (yaml-plain lf) (sym h ∙ p) (omega arith)
+
+  module _ (y : Bool) (k : y ≡ begins (yamlLine ++ lineEnd crlf) (drop at s)) where
+    -- it stands there with 0D 0A
+    pub yaml-crlf : y ≡ true → ExactRead s yamlLine at (Behind (at + 11))
+    yaml-crlf p = word-read s yamlLine at crlf (at + 11) (yaml-plain crlf) (sym k ∙ p) (omega arith)
+
+    -- it stands there with neither
+    pub yaml-other : x ≡ false → y ≡ false → ExactRead s yamlLine at Other
+    yaml-other p q = other-read s yamlLine at never
+      where
+        never : (e : LineEnd) → begins (yamlLine ++ lineEnd e) (drop at s) ≡ false
+        never lf = sym h ∙ p
+        never crlf = sym k ∙ q

@@ -1,0 +1,6 @@
+-- Laws that the proofs of the leaves and of their callers cite.
+pub mod TextLaws
+pub mod MarkLaws
+pub mod NumberLaws
+pub mod LineLaws
+pub mod ExactLaws

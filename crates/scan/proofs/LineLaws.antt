@@ -1,0 +1,193 @@
+-- Lines: one law for each way out of the reading of a line, and what a line that was read says of the bytes.
+use Prim.Native.Nat.{ℕ, zero, suc, _+_, _-_, _≤_, _<_}
+use native.Mathlib.Numerals.{add-one}
+use native.Mathlib.Omega.{arith}
+use mathlib.Core.Path.{_≡_, refl, sym, ap, _∙_}
+use mathlib.Core.Bool.{Bool, true, false, _&&_}
+use mathlib.Core.List.{[], _∷_, _++_}
+use lib.ListN.{length, take, drop, getD, take-append-drop, length-take, length-drop, drop-of-length-le}
+use lib.Seq.{take-suc, take-all, take-length, drop-cons, drop-drop, getD-drop, take-at}
+use lib.Dec.{eqb, ltb}
+use borrow.Author.Tests.{ltb-true, ltb-false, lt-ltb, le-ltb, eqb-true}
+use Rattle.bytes.specs.Bytes.{indexOf, indexAfter, slice}
+use Rattle.format.specs.Bytes.{Bytes, begins}
+use Rattle.format.specs.Line.{LineEnd, lf, crlf, lineEnd, Lines, unended, line, behind, lines}
+use Rattle.format.proofs.ByteLaws.{and-left, and-right, lacks, lacks-cons}
+use Rattle.format.proofs.LineLaws.{joinLines, endsIn, ends-snoc, IsLine, plain-line, join-lines, lines-unended, lines-line, line-split, lines-behind}
+use Rattle.scan.specs.declared.line.Line.{Line}
+use Rattle.scan.specs.declared.line.Line.the-variants.{Ended, Unended}
+use Rattle.scan.specs.Line.{lineAt, EndsInside, LineRead}
+
+-- the bytes before the first b have no b
+index-lacks : (b : ℕ) (u : Bytes) (n : ℕ) → n ≤ indexOf b u → lacks b (take n u) ≡ true
+unfolding indexOf
+index-lacks b u zero h = refl
+index-lacks b [] (suc n) h = absurd (omega arith)
+index-lacks b (a ∷ u) (suc n) h = go (eqb a b) refl h (index-lacks b u n)
+  where
+    go : (x : Bool) → eqb a b ≡ x → suc n ≤ indexAfter x (indexOf b u) → (n ≤ indexOf b u → lacks b (take n u) ≡ true)
+        → lacks b (a ∷ take n u) ≡ true
+    go true e h i = absurd (omega arith)
+    go false e h i = lacks-cons b a (take n u) e (i (omega arith))
+
+-- where the first b is found, a b stands
+index-found : (b : ℕ) (u : Bytes) → indexOf b u < length u → getD u (indexOf b u) 0 ≡ b
+unfolding indexOf
+index-found b [] h = absurd (omega arith)
+index-found b (a ∷ u) h = go (eqb a b) refl h (index-found b u)
+  where
+    go : (x : Bool) → eqb a b ≡ x → indexAfter x (indexOf b u) < suc (length u) → (indexOf b u < length u → getD u (indexOf b u) 0 ≡ b)
+        → getD (a ∷ u) (indexAfter x (indexOf b u)) 0 ≡ b
+    go true e h i = eqb-true a b e
+    go false e h i = i (omega arith)
+
+-- no bytes end in nothing
+pub ends-none : (at end : ℕ) (x : Bool) → end ≤ at → false ≡ (ltb at end && x)
+ends-none at end x h = rw (le-ltb at end h)
+
+-- some bytes end in the last of them
+pub ends-last : (at end : ℕ) (x : Bool) → at < end → x ≡ (ltb at end && x)
+ends-last at end x h = rw (lt-ltb at end h)
+
+-- the bytes from an offset to another end in b, if the last of them is b
+ends-at : (b : ℕ) (s : Bytes) (at end : ℕ) → end ≤ length s
+    → endsIn b (take (end - at) (drop at s)) ≡ (ltb at end && eqb (getD s (end - 1) 0) b)
+ends-at b s at end h = go (ltb at end) refl
+  where
+    go : (x : Bool) → ltb at end ≡ x → endsIn b (take (end - at) (drop at s)) ≡ (ltb at end && eqb (getD s (end - 1) 0) b)
+    go true e =
+        let p = ltb-true at end e in
+        let more : end - at ≡ suc (end - 1 - at) = omega arith in
+        let last : at + (end - 1 - at) ≡ end - 1 = omega arith in
+        rw (e, more, take-suc (drop at s) (end - 1 - at) 0 (simp length-drop (omega arith)), ends-snoc, getD-drop, last)
+    go false e =
+        let p = ltb-false at end e in
+        let none : end - at ≡ 0 = omega arith in
+        rw (e, none)
+
+-- the text of a line from an offset to another, with its line end behind it, is the line that is read
+text-read : (s : Bytes) (at m next : ℕ) (e : LineEnd) → IsLine (take (m - at) (drop at s)) e → drop m s ≡ lineEnd e ++ drop next s
+    → next ≡ m + length (lineEnd e) → EndsInside (length s) at m next → LineRead s at (Ended m next)
+unfolding lineAt
+text-read s at m next e l d n i =
+    let t = take (m - at) (drop at s) in
+    let to : at + (m - at) ≡ m = omega arith in
+    let size : at + length t ≡ m = simp (length-take, length-drop) (omega arith) in
+    let split = rw (drop-drop, to, d) at (sym (take-append-drop (m - at) (drop at s))) in
+    record { is = rw (ap lines split ∙ lines-line t e (drop next s) l, size, n); inside = i }
+
+-- no line begins at the end or behind it
+pub line-none : (s : Bytes) (at : ℕ) → length s ≤ at → LineRead s at Unended
+unfolding lineAt lines
+line-none s at h = record { is = rw (drop-of-length-le s h); inside = tt }
+
+-- end is where the first 0A stands, or the end
+module _ (s : Bytes) (at end : ℕ) (f : end ≡ at + indexOf 10 (slice at (length s) s)) where
+  -- every byte from the offset on was looked at
+  found : end ≡ at + indexOf 10 (drop at s)
+  unfolding slice
+  found = rw (take-length s) at f
+
+  -- no 0A stands before it
+  before : (m : ℕ) → m ≤ end → lacks 10 (take (m - at) (drop at s)) ≡ true
+  before m h = index-lacks 10 (drop at s) (m - at) (omega (arith, found))
+
+  -- a 0A stands there
+  feed : end < length s → drop end s ≡ 10 ∷ drop (end + 1) s
+  feed h =
+      let there = rw (getD-drop, ← found) at (index-found 10 (drop at s) (simp length-drop (omega (arith, found)))) in
+      rw (add-one end) (rw there at (drop-cons s end 0 h))
+
+  -- none stands in the file
+  pub line-unended : end ≡ length s → LineRead s at Unended
+  unfolding lineAt
+  line-unended h =
+      let all = take-all (end - at) (drop at s) (simp length-drop (omega arith)) in
+      record { is = rw (lines-unended (drop at s) (rw all at (before end (omega arith)))); inside = tt }
+
+  module _ (x : Bool) (h : x ≡ (ltb at end && eqb (getD s (end - 1) 0) 13)) where
+    -- a 0D stands before it
+    return : x ≡ true → (at < end) × (getD s (end - 1) 0 ≡ 13)
+    return e =
+        let both = sym h ∙ e in
+        (ltb-true at end (and-left _ _ both), eqb-true (getD s (end - 1) 0) 13 (and-right (ltb at end) _ both))
+
+    -- so it is not the first byte
+    pub line-some : x ≡ true → 1 ≤ end
+    line-some e = omega (arith, return e)
+
+    module _ (q : end ≤ length s) (n : end ≡ length s → ⊥) where
+      -- a 0D belongs to the line end
+      pub line-crlf : x ≡ true → LineRead s at (Ended (end - 1) (end + 1))
+      line-crlf e =
+          let r = return e in
+          let to : suc (end - 1) ≡ end = omega arith in
+          let rest = rw (r .1, to, feed (omega arith)) at (drop-cons s (end - 1) 0 (omega arith)) in
+          let text : IsLine (take (end - 1 - at) (drop at s)) crlf = record { no-feed = before (end - 1) (omega arith); no-return = λ z. cc } in
+          text-read s at (end - 1) (end + 1) crlf text rest (omega arith) (omega arith)
+
+      -- no 0D does
+      pub line-lf : x ≡ false → LineRead s at (Ended end (end + 1))
+      line-lf e =
+          let text = plain-line _ lf (before end (omega arith)) (ends-at 13 s at end q ∙ sym h ∙ e) in
+          text-read s at end (end + 1) lf text (feed (omega arith)) refl (omega (arith, found))
+
+-- the first line from an offset on has the text t, and the next line begins at next
+pub record FirstLine (s : Bytes) (at : ℕ) (t : Bytes) (next : ℕ) : Type 0 where
+  pub ending : LineEnd
+  pub cut : lines (drop at s) ≡ line t ending (lines (drop next s))
+  pub next-is : next ≡ behind at t ending
+
+-- the other lines are those from behind the first on
+pub lines-first : (s : Bytes) (at : ℕ) (t : Bytes) (e : LineEnd) (l : Lines) → lines (drop at s) ≡ line t e l
+    → FirstLine s at t (behind at t e)
+lines-first s at t e l h =
+    let over : at + (length t + length (lineEnd e)) ≡ behind at t e = omega arith in
+    let rest = rw (drop-drop, over) at (lines-behind (drop at s) t e l h) in
+    record { ending = e; cut = h ∙ ap (line t e) rest; next-is = refl }
+
+-- the first line's text begins with a byte that is no part of a line end where the bytes do
+pub first-byte : (c : ℕ) (s : Bytes) (at : ℕ) (t : Bytes) (next : ℕ) → FirstLine s at t next → eqb c 10 ≡ false → eqb c 13 ≡ false
+    → begins (c ∷ []) t ≡ begins (c ∷ []) (drop at s)
+first-byte c s at t next f p q = sym (ap (begins (c ∷ [])) (line-split (drop at s) t (f .ending) _ (f .cut)) ∙ go t (f .ending) _)
+  where
+    go : (t : Bytes) (e : LineEnd) (z : Bytes) → begins (c ∷ []) (t ++ (lineEnd e ++ z)) ≡ begins (c ∷ []) t
+    go [] lf z = rw p
+    go [] crlf z = rw q
+    go (a ∷ t) e z = refl
+
+module _ (s : Bytes) (at : ℕ) (r : Line) (read : LineRead s at r) where
+  -- where no line ends, there is none
+  pub unended-lines : r ≡ Unended → lines (drop at s) ≡ unended (drop at s)
+  unfolding lineAt joinLines
+  unended-lines e = go (lines (drop at s)) refl
+    where
+      go : (l : Lines) → lines (drop at s) ≡ l → lines (drop at s) ≡ unended (drop at s)
+      go (unended t) h = h ∙ ap unended (sym (ap joinLines h) ∙ join-lines (drop at s))
+      go (line t k l) h = cc (read .is, e, h)
+
+  module _ (m next : ℕ) (e : r ≡ Ended m next) where
+    -- where a line ends, the bytes up to its end are its text
+    pub ended-first : FirstLine s at (take (m - at) (drop at s)) next
+    unfolding lineAt
+    ended-first = go (lines (drop at s)) refl
+      where
+        go : (l : Lines) → lines (drop at s) ≡ l → FirstLine s at (take (m - at) (drop at s)) next
+        go (unended t) h = let z : _≡_ {A = ℕ} 0 1 = cc (read .is, e, h) in absurd (omega arith)
+        go (line t k l) h =
+            let to : m ≡ at + length t = cc (read .is, e, h) in
+            let over : next ≡ behind at t k = cc (read .is, e, h) in
+            let text = ap (take (m - at)) (line-split (drop at s) t k l h) ∙ take-at t _ (m - at) (omega arith) in
+            rw (text, over) (lines-first s at t k l h)
+
+    -- its ends lie in order, and inside
+    pub ended-inside : EndsInside (length s) at m next
+    ended-inside = rw e at (read .inside)
+
+    -- it ends where it begins, or behind
+    pub ended-begin : at ≤ m
+    ended-begin = ended-inside .begin
+
+    -- its text ends inside
+    pub ended-end : m ≤ length s
+    ended-end = omega (arith, ended-inside)

@@ -1,0 +1,170 @@
+-- Numbers: one law for each way out of the loops and tests. What is read so far is the number of the bytes so far.
+use Prim.Native.Nat.{ℕ, suc, _+_, _-_, _*_, _%_, _^_, _≤_, _<_, min}
+use native.Mathlib.Nat.{lt-of-lt-of-le, pow-le-pow-right, pow-suc}
+use native.Mathlib.Numerals.{add-one}
+use native.Mathlib.Omega.{arith}
+use mathlib.Core.Path.{_≡_, refl, sym, ap, _∙_}
+use mathlib.Core.Bool.{Bool, true, false, not, and-true, and-false}
+use mathlib.Core.List.{[], _∷_, _++_}
+use lib.ListN.{length, take, drop, getD, length-take}
+use lib.Seq.{take-suc, take-all, split-at}
+use lib.Dec.{leb}
+use mir.Syntax.{w64}
+use mir.Val.{Fits}
+use borrow.Author.Tests.{le-leb, lt-leb, not-true, not-false}
+use Rattle.format.specs.Bytes.{Bytes, text, begins, number}
+use Rattle.format.specs.Numeral.{isDigit, allDigits, decimalValue, isNumeral, numeral}
+use Rattle.format.proofs.ByteLaws.{and-both}
+use Rattle.format.proofs.PackLaws.{big-endian-append}
+use Rattle.format.proofs.NumeralLaws.{digits-append, length-snoc, value-snoc, digit-range, value-below}
+use Rattle.scan.specs.declared.number.Number.{Number}
+use Rattle.scan.specs.declared.number.Number.the-variants.{Value, Malformed}
+use Rattle.scan.specs.Number.{BigEndian, Digits, digitsOf, leadsWell, DigitsRead, NumeralRead}
+
+-- a number of few digits is one of more
+below-more : (b x m n : ℕ) → 1 ≤ b → m ≤ n → x < b ^ m → x < b ^ n
+below-more b x m n p h l = lt-of-lt-of-le l (pow-le-pow-right p h)
+
+-- the first bytes and the next
+first-next : (s : Bytes) (i : ℕ) → i < length s → take (i + 1) s ≡ take i s ++ (getD s i 0 ∷ [])
+first-next s i h = rw add-one (take-suc s i 0 h)
+
+module _ (s : Bytes) (i x : ℕ) (read : BigEndian (take i s) x) where
+  -- one byte more is read
+  pub big-endian-step : (b : ℕ) → b ≡ getD s i 0 → b < 256 → i < length s → BigEndian (take (i + 1) s) (x % 72057594037927936 * 256 + b)
+  big-endian-step b e l h =
+      let u = take i s in
+      let sum = big-endian-append u (getD s i 0 ∷ []) in
+      let size = length-snoc u (getD s i 0) in
+      let power = pow-suc 256 (length u) in
+      rw (first-next s i h)
+      (record {
+        is = omega arith;
+        whole = λ few. omega (arith, read .whole (omega arith), below-more 256 x (length u) 7 (omega arith) (omega arith) (read .small));
+        small = rw size (omega arith);
+      })
+
+  -- all bytes are read
+  pub big-endian-done : length s ≤ i → BigEndian s x
+  big-endian-done h = rw (take-all i s h) at read
+
+module _ (s : Bytes) (n w r : ℕ) (read : BigEndian (take w (drop n s)) r) where
+  -- the number of up to eight bytes at an offset
+  pub big-endian-number : w ≤ 8 → r ≡ number n w s
+  big-endian-number h = read .whole (omega (arith, length-take w (drop n s)))
+
+  -- it is no larger than so many bytes hold
+  pub big-endian-below : r < 256 ^ w
+  big-endian-below = below-more 256 r _ w (omega arith) (omega (arith, length-take w (drop n s))) (read .small)
+
+-- a byte below 48 is no digit
+pub digit-low : (b : ℕ) → b < 48 → false ≡ isDigit b
+digit-low b h = rw (lt-leb 48 b h)
+
+-- of the others those up to 57 are
+pub digit-high : (b : ℕ) → 48 ≤ b → leb b 57 ≡ isDigit b
+digit-high b h = rw (le-leb 48 b h)
+
+-- a digit is 48 or more
+pub digit-least : (b : ℕ) (d : Bool) → d ≡ isDigit b → not d ≡ false → 48 ≤ b
+digit-least b d h e = digit-range b (sym h ∙ not-false d e) .0
+
+-- the first i bytes of t are digits, and x is their number
+pub record DigitsSoFar (t : Bytes) (i x : ℕ) : Type 0 where
+  pub digits : allDigits (take i t) ≡ true
+  pub value : decimalValue (take i t) ≡ x
+
+-- digits with another byte among them are no number
+pub digits-other : (t : Bytes) (i : ℕ) (d : Bool) → d ≡ isDigit (getD t i 0) → not d ≡ true → i < length t → DigitsRead t Malformed
+digits-other t i d h e p =
+    let split = ap allDigits (split-at t i 0 p) ∙ digits-append (take i t) (getD t i 0 ∷ drop (suc i) t) in
+    let other : allDigits t ≡ false = rw (sym h ∙ not-true d e, and-false) at split in
+    record { is = rw (other, digitsOf); small = tt }
+
+module _ (t : Bytes) (i x : ℕ) (read : DigitsSoFar t i x) where
+  -- what is read so far leaves room for one digit more
+  digits-room : i < length t → length t ≤ 19 → x < 10 ^ 18
+  digits-room p q =
+      let below = rw (read .value) at (value-below (take i t) (read .digits)) in
+      below-more 10 x (length (take i t)) 18 (omega arith) (omega (arith, length-take i t)) below
+
+  -- so ten times as much fits
+  pub digits-times : i < length t → length t ≤ 19 → Fits w64 (x * 10)
+  digits-times p q = omega (arith, digits-room p q)
+
+  module _ (d : Bool) (h : d ≡ isDigit (getD t i 0)) (e : not d ≡ false) (p : i < length t) (y : ℕ) (is : y ≡ getD t i 0 - 48) where
+    -- the next byte is a digit
+    next-digit : isDigit (getD t i 0) ≡ true
+    next-digit = sym h ∙ not-false d e
+
+    -- and fits too
+    pub digits-plus : length t ≤ 19 → Fits w64 (x * 10 + y)
+    digits-plus q = omega (arith, digits-room p q, digit-range (getD t i 0) next-digit)
+
+    -- one digit more is read
+    pub digits-step : DigitsSoFar t (i + 1) (x * 10 + y)
+    digits-step =
+        record {
+          digits = rw (first-next t i p, digits-append) (and-both _ _ (read .digits) (and-both _ true next-digit refl));
+          value = rw (first-next t i p, value-snoc, read .value, is);
+        }
+
+  -- all digits are read
+  pub digits-done : length t ≤ i → DigitsRead t (Value x)
+  digits-done p =
+      let all = take-all i t p in
+      let digits = rw all at (read .digits) in
+      let value = rw all at (read .value) in
+      record { is = rw (digits, digitsOf, value); small = rw value at (value-below t digits) }
+
+-- a single byte leads well
+pub leads-alone : (t : Bytes) → length t ≤ 1 → true ≡ leadsWell t
+leads-alone t h = rw (le-leb (length t) 1 h)
+
+-- several lead well where the first is no zero
+pub leads-first : (t : Bytes) (z : Bool) → z ≡ begins (text "0") t → 1 < length t → not z ≡ leadsWell t
+leads-first t z e h = rw (lt-leb (length t) 1 h, e)
+
+-- an answer of few digits is one of more
+digits-more : (r : Number) (m n : ℕ) → m ≤ n → Digits m r → Digits n r
+digits-more (Value x) m n h d = below-more 10 x m n (omega arith) h d
+digits-more Malformed m n h d = tt
+
+module _ (t : Bytes) (most : ℕ) where
+  -- what is no numeral is malformed
+  no-numeral : isNumeral (min most 19) t ≡ false → NumeralRead t most Malformed
+  unfolding numeral
+  no-numeral e = record { is = rw (e, numeral); small = tt }
+
+  -- no digits are none
+  pub numeral-empty : length t < 1 → NumeralRead t most Malformed
+  numeral-empty h = no-numeral (rw (lt-leb 1 (length t) h))
+
+  -- too many digits are none
+  too-long : min most 19 < length t → NumeralRead t most Malformed
+  too-long h = no-numeral (rw (lt-leb (length t) (min most 19) h, and-false))
+
+  -- too many are more than were asked for
+  pub numeral-long : most < length t → NumeralRead t most Malformed
+  numeral-long h = too-long (omega arith)
+
+  -- too many are more than 19
+  pub numeral-longer : 19 < length t → NumeralRead t most Malformed
+  numeral-longer h = too-long (omega arith)
+
+  module _ (z : Bool) (h : z ≡ leadsWell t) where
+    -- digits with a leading zero are none
+    pub numeral-zero : not z ≡ true → NumeralRead t most Malformed
+    numeral-zero e = no-numeral (rw (sym h ∙ not-true z e, and-false))
+
+    -- what passes every test is the number of its digits
+    pub numeral-read : (r : Number) → not z ≡ false → DigitsRead t r → 1 ≤ length t → length t ≤ most → length t ≤ 19
+        → NumeralRead t most r
+    unfolding numeral
+    numeral-read r e d a b c =
+        let few : length t ≤ min most 19 = omega arith in
+        let well = sym h ∙ not-false z e in
+        record {
+          is = d .is ∙ sym (rw (numeral, le-leb 1 (length t) a, le-leb (length t) (min most 19) few, well, and-true (allDigits t)));
+          small = digits-more r (length t) (min most 19) few (d .small);
+        }

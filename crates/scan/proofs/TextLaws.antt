@@ -1,0 +1,80 @@
+-- One law for each way out of the loops over bytes: what is left to test is what was to be tested.
+use Prim.Native.Nat.{ℕ, suc, _+_, _^_, _≤_, _<_}
+use native.Mathlib.Numerals.{add-one}
+use native.Mathlib.Omega.{arith}
+use mathlib.Core.Path.{_≡_, refl, sym, _∙_, ap}
+use mathlib.Core.Bool.{Bool, true, false, _&&_, and-false}
+use mathlib.Core.List.{[], _∷_}
+use lib.ListN.{length, drop, getD, drop-of-length-le, length-append, length-drop}
+use lib.Seq.{drop-cons}
+use lib.Dec.{eqb}
+use mir.Syntax.{w64}
+use mir.Val.{Fits}
+use borrow.Author.Tests.{eq-eqb, ne-eqb}
+use Rattle.format.specs.Bytes.{Bytes, begins, same, allZero}
+use Rattle.format.proofs.ByteLaws.{begins-true}
+
+module _ (k : Bytes) (j : ℕ) (s : Bytes) (i : ℕ) (x : Bool) (left : begins (drop j k) (drop i s) ≡ x) where
+  -- the bytes end before the word does
+  pub begins-short : j < length k → length s ≤ i → false ≡ x
+  begins-short h g = rw (drop-cons k j 0 h, drop-of-length-le s g) at left
+
+  -- the next byte of each is tested, and then the others
+  begins-next : j < length k → i < length s → eqb (getD k j 0) (getD s i 0) && begins (drop (j + 1) k) (drop (i + 1) s) ≡ x
+  begins-next h g = rw (add-one j, add-one i) (rw (drop-cons k j 0 h, drop-cons s i 0 g) at left)
+
+  -- they differ
+  pub begins-differs : j < length k → i < length s → (getD k j 0 ≡ getD s i 0 → ⊥) → false ≡ x
+  begins-differs h g n = rw (ne-eqb _ _ n) at (begins-next h g)
+
+  -- they are the same
+  pub begins-step : j < length k → i < length s → getD k j 0 ≡ getD s i 0 → begins (drop (j + 1) k) (drop (i + 1) s) ≡ x
+  begins-step h g e = rw (eq-eqb _ _ e) at (begins-next h g)
+
+  -- nothing is left of the word
+  pub begins-done : length k ≤ j → true ≡ x
+  begins-done h = rw (drop-of-length-le k h) at left
+
+-- byte strings of different lengths are not the same
+pub same-lengths : (s k : Bytes) → (length s ≡ length k → ⊥) → false ≡ same s k
+same-lengths [] [] n = absurd (n refl)
+same-lengths [] (b ∷ k) n = refl
+same-lengths (a ∷ s) [] n = refl
+same-lengths (a ∷ s) (b ∷ k) n = rw (← same-lengths s k (λ e. n (ap suc e))) (sym (and-false (eqb a b)))
+
+-- of byte strings of one length, the first begins the second where they are the same
+pub begins-same : (s k : Bytes) (x : Bool) → x ≡ begins s k → length s ≡ length k → x ≡ same s k
+begins-same s k x h e = h ∙ go s k e
+  where
+    go : (s k : Bytes) → length s ≡ length k → begins s k ≡ same s k
+    go [] [] e = refl
+    go [] (b ∷ k) e = absurd (omega arith)
+    go (a ∷ s) [] e = refl
+    go (a ∷ s) (b ∷ k) e = ap (λ (x : Bool). eqb a b && x) (go s k (omega arith))
+
+-- a word that stands at an offset ends inside
+pub begins-inside : (k : Bytes) (at : ℕ) (s : Bytes) → begins k (drop at s) ≡ true → 1 ≤ length k → at + length k ≤ length s
+begins-inside k at s h p =
+    omega (arith, simp (length-append, length-drop) at (ap length (begins-true k (drop at s) h)))
+
+-- so what lies behind a part of it fits
+pub begins-fits : (k : Bytes) (at : ℕ) (s : Bytes) (x : Bool) (n : ℕ) → x ≡ begins k (drop at s) → x ≡ true → length s < 2 ^ 64
+    → 1 ≤ n → n ≤ length k → Fits w64 (at + n)
+begins-fits k at s x n h e l p q = omega (arith, begins-inside k at s (sym h ∙ e) (omega arith))
+
+module _ (s : Bytes) (i : ℕ) (x : Bool) (left : allZero (drop i s) ≡ x) where
+  -- the next byte is tested, and then the others
+  zeros-next : i < length s → eqb (getD s i 0) 0 && allZero (drop (i + 1) s) ≡ x
+  zeros-next h = rw (add-one i) (rw (drop-cons s i 0 h) at left)
+
+  -- it is no zero
+  pub zeros-differs : i < length s → (getD s i 0 ≡ 0 → ⊥) → false ≡ x
+  zeros-differs h n = rw (ne-eqb _ _ n) at (zeros-next h)
+
+  -- it is a zero
+  pub zeros-step : i < length s → getD s i 0 ≡ 0 → allZero (drop (i + 1) s) ≡ x
+  zeros-step h e = rw (eq-eqb _ _ e) at (zeros-next h)
+
+  -- nothing is left
+  pub zeros-done : length s ≤ i → true ≡ x
+  zeros-done h = rw (drop-of-length-le s h) at left

@@ -1,0 +1,45 @@
+-- The first of the lines from an offset on.
+use Prim.Native.Nat.{ℕ, _+_, _≤_, _<_}
+use mathlib.Core.Path.{_≡_}
+use mathlib.Core.Bool.{true, false}
+use lib.ListN.{length, drop}
+use Rattle.format.specs.Bytes.{Bytes, same}
+use Rattle.format.specs.Line.{Lines, unended, line, behind, lines}
+use Rattle.scan.specs.declared.line.Line.{Line}
+use Rattle.scan.specs.declared.line.Line.the-variants.{Ended, Unended}
+use Rattle.scan.specs.declared.line.Exact.{Exact}
+use Rattle.scan.specs.declared.line.Exact.the-variants.{Behind, Other}
+
+-- the first line, of lines that begin at offset n
+unfoldable pub lineAt : ℕ → Lines → Line
+lineAt n (unended t) = Unended
+lineAt n (line t e l) = Ended (n + length t) (behind n t e)
+
+-- its ends lie in order, and inside
+pub record EndsInside (size n m next : ℕ) : Type 0 where
+  pub begin : n ≤ m
+  pub end : m < next
+  pub inside : next ≤ size
+
+abbrev pub LineInside : ℕ → ℕ → Line → Type 0
+LineInside size n (Ended m next) = EndsInside size n m next
+LineInside size n Unended = Unit {0}
+
+-- r is the line at an offset
+pub record LineRead (s : Bytes) (at : ℕ) (r : Line) : Type 0 where
+  pub is : r ≡ lineAt at (lines (drop at s))
+  pub inside : LineInside (length s) at r
+
+-- whether the first line is word, and where the next begins
+unfoldable pub exactLine : Bytes → ℕ → Lines → Exact
+exactLine word n (unended t) = Other
+exactLine word n (line t e l) = elim (same t word) [ true ↦ Behind (behind n t e) | false ↦ Other ]
+
+abbrev pub ExactInside : ℕ → ℕ → Exact → Type 0
+ExactInside size n (Behind next) = (n < next) × (next ≤ size)
+ExactInside size n Other = Unit {0}
+
+-- r says whether the line at an offset is word
+pub record ExactRead (s word : Bytes) (at : ℕ) (r : Exact) : Type 0 where
+  pub is : r ≡ exactLine word at (lines (drop at s))
+  pub inside : ExactInside (length s) at r

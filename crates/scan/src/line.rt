@@ -1,0 +1,84 @@
+// Lines: a line ends at the first 0A, and one 0D directly before it belongs to the line end.
+ghost use Prim.Native.Nat.{_-_, _≤_};
+ghost use mathlib.Core.Path.{_≡_};
+ghost use mathlib.Core.Bool.{_&&_};
+ghost use lib.ListN.{length, getD};
+ghost use lib.Dec.{ltb, eqb};
+ghost use Rattle.format.specs.Tree.{yamlLine};
+ghost use Rattle.scan.specs.Line.{LineRead, ExactRead};
+use crate::text;
+
+// What the line at an offset is.
+pub enum Line {
+    // Its bytes run to text_end, and the next line begins at next.
+    Ended { text_end: usize, next: usize },
+    // No 0A follows.
+    Unended,
+}
+
+// The line that begins at an offset.
+pub fn line_at(s: &[u8], at: usize) -> Line
+    ensures { λ r. ⌜ LineRead (now (s .entry)) at r ⌝ }
+{
+    if s.len() <= at {
+        return Line::Unended;
+    }
+    let end = bytes::scan::find(s, at, s.len(), b'\n');
+    if end == s.len() {
+        return Line::Unended;
+    }
+    if ends_in_0d(s, at, end) {
+        return Line::Ended {
+            text_end: end - 1,
+            next: end + 1,
+        };
+    }
+    Line::Ended {
+        text_end: end,
+        next: end + 1,
+    }
+}
+
+// Whether the bytes from at to end, which lie in s, end in 0D.
+fn ends_in_0d(s: &[u8], at: usize, end: usize) -> bool
+    requires { ⌜ end ≤ length (now s) ⌝ }
+    ensures { λ r. ⌜ r ≡ ltb at end && eqb (getD (now (s .entry)) (end - 1) 0) 13 ⌝ }
+{
+    if end <= at {
+        return false;
+    }
+    s[end - 1] == b'\r'
+}
+
+// Whether a line is the one that was asked for.
+pub enum Exact {
+    // It is, and the next line begins here.
+    Behind(usize),
+    Other,
+}
+
+// Whether the line at an offset is word.
+pub fn exact_line(s: &[u8], at: usize, word: &[u8]) -> Exact
+    ensures { λ r. ⌜ ExactRead (now (s .entry)) (now (word .entry)) at r ⌝ }
+{
+    let Line::Ended { text_end, next } = line_at(s, at) else {
+        return Exact::Other;
+    };
+    if text::is(&s[at..text_end], word) {
+        return Exact::Behind(next);
+    }
+    Exact::Other
+}
+
+// Whether the line at an offset is the first line of a tree. Looks at no byte behind that line.
+pub fn yaml_line(s: &[u8], at: usize) -> Exact
+    ensures { λ r. ⌜ ExactRead (now (s .entry)) yamlLine at r ⌝ }
+{
+    if text::begins_at(s, at, b"%YAML 1.1\n") {
+        return Exact::Behind(at + 10);
+    }
+    if text::begins_at(s, at, b"%YAML 1.1\r\n") {
+        return Exact::Behind(at + 11);
+    }
+    Exact::Other
+}

@@ -1,0 +1,28 @@
+// The search for a block's mark.
+ghost use mathlib.Core.Path.{_≡_};
+ghost use lib.ListN.{drop};
+ghost use Rattle.format.specs.Bytes.{begins};
+ghost use Rattle.format.specs.Tree.{mark};
+ghost use Rattle.scan.specs.Mark.{MarkFound};
+use crate::text;
+
+// Whether a block begins at an offset.
+pub fn is_mark(s: &[u8], at: usize) -> bool
+    ensures { λ r. ⌜ r ≡ begins mark (drop at (now (s .entry))) ⌝ }
+{
+    text::begins_at(s, at, b"\xD3BLK")
+}
+
+// The first mark at or behind an offset, or the end, looking at every byte.
+pub fn find_plain(s: &[u8], at: usize) -> usize
+    ensures { λ r. ⌜ MarkFound (now (s .entry)) at r ⌝ }
+{
+    let mut i = at;
+    while i < s.len() {
+        if is_mark(s, i) {
+            return i;
+        }
+        i += 1;
+    }
+    i
+}

@@ -1,0 +1,90 @@
+// Numbers, in bytes and in decimal digits.
+ghost use Prim.Native.Nat.{_≤_, _<_};
+ghost use mathlib.Core.Path.{_≡_};
+ghost use lib.ListN.{length};
+ghost use Rattle.format.specs.Numeral.{isDigit as Numeral·isDigit};
+ghost use Rattle.scan.specs.Number.{BigEndian, leadsWell, NumeralRead, DigitsRead};
+use crate::text;
+
+// The number that bytes give, the first the most significant; of more than eight bytes the last eight count.
+pub fn big_endian(s: &[u8]) -> u64
+    ensures { λ r. ⌜ BigEndian (now (s .entry)) r ⌝ }
+{
+    let mut x: u64 = 0;
+    let mut i = 0;
+    while i < s.len() {
+        x = x % 72057594037927936 * 256 + wide(s[i]);
+        i += 1;
+    }
+    x
+}
+
+// A byte as a number.
+fn wide(b: u8) -> u64
+    ensures { λ r. ⌜ (r ≡ b) × (r < 256) ⌝ }
+{
+    b as u64
+}
+
+// What digits read as.
+pub enum Number {
+    Value(u64),
+    Malformed,
+}
+
+// The decimal number that t is: 1 to `most` digits, and never more than 19, with no leading zero but in a lone 0.
+pub fn numeral(t: &[u8], most: usize) -> Number
+    ensures { λ r. ⌜ NumeralRead (now (t .entry)) most r ⌝ }
+{
+    if t.len() < 1 {
+        return Number::Malformed;
+    }
+    if most < t.len() {
+        return Number::Malformed;
+    }
+    if 19 < t.len() {
+        return Number::Malformed;
+    }
+    if !leads_well(t) {
+        return Number::Malformed;
+    }
+    digits(t)
+}
+
+// Whether t has no leading zero but in a lone 0.
+fn leads_well(t: &[u8]) -> bool
+    ensures { λ r. ⌜ r ≡ leadsWell (now (t .entry)) ⌝ }
+{
+    if t.len() <= 1 {
+        return true;
+    }
+    !text::begins_at(t, 0, b"0")
+}
+
+// The number of up to 19 digits.
+fn digits(t: &[u8]) -> Number
+    requires { ⌜ length (now t) ≤ 19 ⌝ }
+    ensures { λ r. ⌜ DigitsRead (now (t .entry)) r ⌝ }
+{
+    let mut x: u64 = 0;
+    let mut i = 0;
+    while i < t.len() {
+        let b = t[i];
+        if !is_digit(b) {
+            return Number::Malformed;
+        }
+        x = x * 10 + wide(b - 48);
+        i += 1;
+    }
+    Number::Value(x)
+}
+
+// Whether a byte is a decimal digit.
+fn is_digit(b: u8) -> bool
+    ensures { λ r. ⌜ r ≡ Numeral·isDigit b ⌝ }
+{
+    if b < 48 {
+        return false;
+    }
+    b <= 57
+}
