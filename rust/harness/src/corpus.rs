@@ -1,0 +1,16 @@
+//! The files of a run: each is made from the seed and its own number alone.
+
+use crate::generate::{file, Shape};
+use crate::mutate::damage;
+use crate::rng::Rng;
+
+/// The file with this number in the run of a seed; one in three is damaged.
+pub fn numbered_file(seed: u64, number: u64) -> Vec<u8> {
+    let mut rng = Rng::for_file(seed, number);
+    let shape = Shape::outermost(&mut rng);
+    let mut bytes = file(&mut rng, &shape);
+    if rng.chance(3) {
+        damage(&mut rng, &mut bytes);
+    }
+    bytes
+}

@@ -1,0 +1,54 @@
+//! The comments behind the header.
+
+use super::text::{bytes_of_one_line, lines, texts, INDEX_LINE};
+use crate::rng::Rng;
+
+/// The most comments before one is put among them.
+const MOST_COMMENTS: usize = 4;
+
+/// Comments that are none of the index line, though some are almost.
+const COMMENTS: &[&[u8]] = &[
+    b"#",
+    b"##",
+    b"# a comment",
+    b"#ASDF_STANDARD 1.5.0",
+    b"#ASDF 1.0.0",
+    b"#ASDF BLOCK INDEX ",
+    b"#ASDF BLOCK INDEX\r",
+    b"#ASDF BLOCK INDEX\0",
+    b"#ASDF BLOCK INDEXED",
+    b"#ASDF BLOCK INDE",
+    b"#ASDF BLOCK  INDEX",
+    b"# ASDF BLOCK INDEX",
+    b"##ASDF BLOCK INDEX",
+    b"#asdf block index",
+    b"#%YAML 1.1",
+    b"#---",
+    b"#...",
+    b"#\r",
+    b"#a\rb",
+    b"#\r\r\r",
+    b"#\xD3BLK",
+    b"#\xD3BL",
+];
+
+/// Comments, none in half of the files; wrong ones have the index line among them (6).
+pub fn comments(rng: &mut Rng, wrong: bool) -> Vec<u8> {
+    if !wrong && rng.chance(2) {
+        return Vec::new();
+    }
+    let mut comments = texts(rng, MOST_COMMENTS, comment);
+    if wrong {
+        comments.insert(rng.between(0, comments.len()), INDEX_LINE.to_vec());
+    }
+    lines(rng, &comments)
+}
+
+/// The text of a comment.
+fn comment(rng: &mut Rng) -> Vec<u8> {
+    if rng.chance(5) {
+        [b"#".to_vec(), bytes_of_one_line(rng, 60)].concat()
+    } else {
+        rng.pick(COMMENTS).to_vec()
+    }
+}

@@ -1,0 +1,35 @@
+//! Files that end too early.
+
+use super::text::MARK;
+use crate::rng::Rng;
+
+/// Cuts a file inside a line, inside a block header, or anywhere.
+pub fn cut(rng: &mut Rng, file: &mut Vec<u8>) {
+    let length = match rng.below(4) {
+        0 | 1 => before_line_end(rng, file),
+        2 => inside_block_header(rng, file),
+        _ => None,
+    };
+    file.truncate(length.unwrap_or(rng.below(file.len())));
+}
+
+/// A place directly before a 0A, or before the 0D 0A.
+fn before_line_end(rng: &mut Rng, file: &[u8]) -> Option<usize> {
+    let places = places_of(file, b"\n");
+    let place = *places.get(rng.below(places.len().min(12)))?;
+    Some(place.saturating_sub(rng.below(2)))
+}
+
+/// A place at most as far behind a mark as the shortest header reaches.
+fn inside_block_header(rng: &mut Rng, file: &[u8]) -> Option<usize> {
+    let marks = places_of(file, MARK);
+    let mark = *marks.get(rng.below(marks.len()))?;
+    Some(mark + rng.pick(&[0, 1, 2, 3, 4, 5, 6, 7, 10, 53, 54]))
+}
+
+/// Where these bytes stand in a file.
+pub fn places_of(file: &[u8], bytes: &[u8]) -> Vec<usize> {
+    (0..file.len())
+        .filter(|&place| file[place..].starts_with(bytes))
+        .collect()
+}

@@ -1,0 +1,47 @@
+//! The free space behind a tree.
+
+use super::tail::good_index;
+use super::text::{part_of_mark, MARK};
+use crate::rng::Rng;
+
+/// Texts that mean something elsewhere.
+const MEANINGLESS: &[&[u8]] = &[
+    b"\n",
+    b"...\n",
+    b"---\n",
+    b"%YAML 1.1\n---\n...\n",
+    b"#ASDF 1.0.0\n",
+    b"#ASDF BLOCK INDEX\n",
+    b"#ASDF BLOCK INDEX",
+    b"# unended",
+    b"\0\0\0\0\0\0\0\0",
+];
+
+/// Free space, none in half of the files; wrong one holds a mark that begins no good block.
+pub fn free_space(rng: &mut Rng, wrong: bool) -> Vec<u8> {
+    let space = harmless(rng);
+    if wrong {
+        let length = rng.between(0, 60);
+        return [&space, MARK, &rng.bytes(length)].concat();
+    }
+    space
+}
+
+/// Free space without a mark, or with one only by accident.
+fn harmless(rng: &mut Rng) -> Vec<u8> {
+    match rng.below(12) {
+        0 | 1 => vec![b' '; rng.between(1, 40)],
+        2 => {
+            let length = rng.between(1, 40);
+            rng.bytes(length)
+        }
+        3 => part_of_mark(rng),
+        4 => {
+            let length = rng.between(1, 12);
+            rng.bytes_of(MARK, length)
+        }
+        5 => rng.pick(MEANINGLESS).to_vec(),
+        6 => good_index(rng, &[12]),
+        _ => Vec::new(),
+    }
+}

@@ -1,0 +1,134 @@
+//! The header line.
+
+use super::text::{line, FILE_BEGIN};
+use crate::rng::Rng;
+
+/// What may stand wrongly in the place of `#ASDF ` (2).
+const WRONG_BEGINS: &[&[u8]] = &[
+    b"",
+    b"#",
+    b"#ASDF",
+    b"#ASDF\t",
+    b"#ASDF_",
+    b"#ASD ",
+    b"#asdf ",
+    b"#ASDFF ",
+    b"ASDF ",
+    b"%ASDF ",
+    b" #ASDF ",
+    b"\n#ASDF ",
+    b"# ASDF ",
+    b"#ASDF\r\n",
+    b"\xEF\xBB\xBF#ASDF ",
+    b"\xD3BLK",
+];
+
+/// Versions without the right form (3).
+const MALFORMED_VERSIONS: &[&[u8]] = &[
+    b"",
+    b"1",
+    b"1.",
+    b"1.0",
+    b"1.0.",
+    b"1.0.0.",
+    b"1.0.0.0",
+    b".1.0.0",
+    b"1..0",
+    b"1..0.0",
+    b"...",
+    b"01.0.0",
+    b"1.00.0",
+    b"1.0.00",
+    b"1.01.0",
+    b"1.0.01",
+    b"0001.0.0",
+    b"10000.0.0",
+    b"1.10000.0",
+    b"1.0.10000",
+    b"1.0.00000",
+    b"1.0.18446744073709551616",
+    b"65537.0.0",
+    b" 1.0.0",
+    b"1.0.0 ",
+    b"1 .0.0",
+    b"1. 0.0",
+    b"1.0.0\t",
+    b"1.0.0\r",
+    b"1.0\r.0",
+    b"1.0.0\0",
+    b"1.0.0-rc1",
+    b"1.0.0+b",
+    b"1,0,0",
+    b"1.0,0",
+    b"-1.0.0",
+    b"+1.0.0",
+    b"1.-0.0",
+    b"1.0.x",
+    b"a.b.c",
+    b"0x1.0.0",
+    b"1.0.0#",
+    b"1:0:0",
+    b"1/0/0",
+    b"\xD9\xA1.0.0",
+    b"2.00.0",
+    b"2.0",
+    b"0.1",
+    b"02.0.0",
+];
+
+/// First numbers other than 1 (4).
+const WRONG_MAJORS: &[usize] = &[0, 2, 3, 9, 10, 11, 100, 257, 1001, 9999];
+
+/// A header line, which is wrong where that is asked for.
+pub fn header(rng: &mut Rng, wrong: bool) -> Vec<u8> {
+    if !wrong {
+        let version = version(rng, 1);
+        return header_line(rng, FILE_BEGIN, &version);
+    }
+    match rng.below(3) {
+        0 => wrong_begin(rng),
+        1 => malformed_version(rng),
+        _ => wrong_major(rng),
+    }
+}
+
+/// A header line of its two parts.
+fn header_line(rng: &mut Rng, begin: &[u8], version: &[u8]) -> Vec<u8> {
+    line(rng, &[begin, version].concat())
+}
+
+/// A version with this first number.
+fn version(rng: &mut Rng, major: usize) -> Vec<u8> {
+    let (minor, patch) = (version_number(rng), version_number(rng));
+    format!("{major}.{minor}.{patch}").into_bytes()
+}
+
+/// A number of 1 to 4 digits, mostly 0.
+fn version_number(rng: &mut Rng) -> usize {
+    let most = rng.pick(&[0, 0, 0, 9, 99, 999, 9999]);
+    if rng.chance(3) {
+        most
+    } else {
+        rng.between(0, most)
+    }
+}
+
+/// A header line that does not begin as one (2).
+fn wrong_begin(rng: &mut Rng) -> Vec<u8> {
+    let begin = rng.pick(WRONG_BEGINS);
+    let version = version(rng, 1);
+    header_line(rng, begin, &version)
+}
+
+/// A header line whose version has not the right form (3).
+fn malformed_version(rng: &mut Rng) -> Vec<u8> {
+    let version = rng.pick(MALFORMED_VERSIONS);
+    header_line(rng, FILE_BEGIN, version)
+}
+
+/// A header line whose first number is not 1 (4).
+fn wrong_major(rng: &mut Rng) -> Vec<u8> {
+    let major = rng.pick(WRONG_MAJORS);
+    let version = version(rng, major);
+    header_line(rng, FILE_BEGIN, &version)
+}

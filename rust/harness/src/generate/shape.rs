@@ -1,0 +1,121 @@
+//! What a generated file is to be like.
+
+use crate::rng::Rng;
+
+/// The parts of a file that can be made wrong.
+#[derive(Debug, Clone, Copy, PartialEq, Eq)]
+pub enum Part {
+    Header,
+    Comments,
+    Tree,
+    FreeSpace,
+    Blocks,
+    Tail,
+    /// The end of the file, which then comes too early.
+    End,
+}
+
+/// Each part once, and those with many ways to go wrong more often.
+const PARTS: &[Part] = &[
+    Part::Header,
+    Part::Comments,
+    Part::Tree,
+    Part::Tree,
+    Part::FreeSpace,
+    Part::Blocks,
+    Part::Blocks,
+    Part::Blocks,
+    Part::Tail,
+    Part::End,
+    Part::End,
+];
+
+/// What a generated file is to be like.
+#[derive(Debug, Clone)]
+pub struct Shape {
+    /// The parts that are made wrong.
+    pub wrong: Vec<Part>,
+    /// Whether there is a tree.
+    pub tree: bool,
+    /// How many blocks there are.
+    pub blocks: usize,
+    /// How many files stand in one another inside one of the blocks.
+    pub nesting: usize,
+    /// The length to which zeros lengthen the file.
+    pub length: Option<usize>,
+}
+
+impl Shape {
+    /// The most blocks of a file that is not near the limit.
+    pub const USUAL_BLOCKS: usize = 5;
+
+    #[cfg(test)]
+    /// The plainest file: a header line and nothing else.
+    pub fn plain() -> Shape {
+        Shape {
+            wrong: Vec::new(),
+            tree: false,
+            blocks: 0,
+            nesting: 0,
+            length: None,
+        }
+    }
+
+    /// The shape of an outermost file.
+    pub fn outermost(rng: &mut Rng) -> Shape {
+        Shape {
+            wrong: wrong_parts(rng, 2),
+            tree: rng.chance(2),
+            blocks: block_count(rng, 40),
+            nesting: nesting(rng),
+            length: rng
+                .chance(800)
+                .then(|| rng.pick(&[65_535, 65_536, 65_537, 70_000])),
+        }
+    }
+
+    /// The shape of a file in a block.
+    pub fn inner(rng: &mut Rng, nesting: usize) -> Shape {
+        let one_in = if nesting > 0 { 16 } else { 2 };
+        Shape {
+            wrong: wrong_parts(rng, one_in),
+            tree: rng.chance(3),
+            blocks: block_count(rng, 200).max(nesting.min(1)),
+            nesting,
+            length: None,
+        }
+    }
+
+    /// Whether a part is to be wrong.
+    pub fn is_wrong(&self, part: Part) -> bool {
+        self.wrong.contains(&part)
+    }
+}
+
+/// The parts that are made wrong: none, mostly one, sometimes two.
+fn wrong_parts(rng: &mut Rng, one_in: usize) -> Vec<Part> {
+    if !rng.chance(one_in) {
+        return Vec::new();
+    }
+    let count = if rng.chance(5) { 2 } else { 1 };
+    (0..count).map(|_| rng.pick(PARTS)).collect()
+}
+
+/// A number of blocks, once in so many times near the limit.
+fn block_count(rng: &mut Rng, near_limit_one_in: usize) -> usize {
+    if rng.chance(near_limit_one_in) {
+        rng.between(62, 66)
+    } else {
+        rng.between(0, Shape::USUAL_BLOCKS)
+    }
+}
+
+/// How many files stand in one another: mostly none, sometimes more than are read.
+fn nesting(rng: &mut Rng) -> usize {
+    match rng.below(8) {
+        0 => 1,
+        1 => rng.between(2, 5),
+        2 => rng.between(6, 11),
+        _ => 0,
+    }
+}

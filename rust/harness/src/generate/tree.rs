@@ -1,0 +1,206 @@
+//! The tree.
+
+use super::text::{bytes_of_one_line, line, lines, part_of_mark, texts, END_LINE, MARK, YAML_LINE};
+use crate::rng::Rng;
+
+/// Lines that almost are the first of a tree, or almost a block (7).
+const NO_TREE: &[&[u8]] = &[
+    b"%YAML 1.2\n",
+    b"%YAML 1.1 \n",
+    b"%YAML 1.1\r\r\n",
+    b"%YAML 1.1\t\n",
+    b"%YAML 1.10\n",
+    b"%YAML 1.1",
+    b"%YAML 1.1\r",
+    b"%YAML  1.1\n",
+    b"%yaml 1.1\n",
+    b" %YAML 1.1\n",
+    b"\n%YAML 1.1\n",
+    b"\r\n%YAML 1.1\n",
+    b"%TAG ! x\n%YAML 1.1\n",
+    b"%",
+    b"---\n...\n",
+    b"...\n",
+    b"\n",
+    b"\r\n",
+    b" ",
+    b"x",
+    b"\0",
+    b"\0\0\0\0",
+    b"\xD3",
+    b"\xD3B",
+    b"\xD3BL",
+    b"\xD3BLk",
+    b"\xD3\xD3BLK",
+    b" \xD3BLK",
+];
+
+/// What may stand between the first line and the start line.
+const LINES_BEFORE_START: &[&[u8]] = &[
+    b"%TAG ! tag:stsci.edu:asdf/",
+    b"%YAML 1.1",
+    b"%YAML 1.2",
+    b"%",
+    b"%\r",
+    b"#",
+    b"# a comment",
+    b"#ASDF BLOCK INDEX",
+    b"#ASDF 1.0.0",
+    b"#...",
+    b"%---",
+    b"%\xD3BLK",
+    b"#\xD3BL",
+];
+
+/// What may not stand there (8).
+const WRONG_LINES_BEFORE_START: &[&[u8]] = &[
+    b"...", b"", b"\r", b" ", b"-", b"--", b"----", b"---x", b"---\t", b"---\r", b"---\0", b" ---",
+    b"--\r-", b" %TAG", b" #", b"....", b"a: b", b"$", b"&", b"!", b"\"", b"\xD3BLK", b"\xD3",
+];
+
+/// Start lines.
+const START_LINES: &[&[u8]] = &[
+    b"---",
+    b"--- ",
+    b"---  ",
+    b"--- \r",
+    b"--- ---",
+    b"--- ...",
+    b"--- [12]",
+    b"--- #ASDF BLOCK INDEX",
+    b"--- !core/asdf-1.1.0",
+    b"--- \xD3BLK",
+];
+
+/// Lines of content, some of them almost an end line or a start line.
+const CONTENT_LINES: &[&[u8]] = &[
+    b"",
+    b"\r",
+    b"\r\r",
+    b"a: b",
+    b"abc",
+    b"a.b",
+    b" - x",
+    b"... ",
+    b" ...",
+    b"....",
+    b"..",
+    b".",
+    b"...\r",
+    b"...\r\r",
+    b"\r...",
+    b"..\r.",
+    b"...x",
+    b"...\0",
+    b"...\t",
+    b"... ---",
+    b"-",
+    b"--",
+    b"----",
+    b"---x",
+    b"---\t",
+    b"---\r",
+    b"---\r ",
+    b"---\0",
+    b" ---",
+    b"--\r-",
+    b"%YAML 1.1",
+    b"#ASDF BLOCK INDEX",
+    b"#ASDF 1.0.0",
+    b"\0",
+    b"\xD3",
+    b"\xD3BLK",
+    b"a\rb",
+];
+
+/// The ways in which a tree goes wrong.
+#[derive(Clone, Copy)]
+enum Fault {
+    WrongLineBeforeStart,
+    SecondStartLine,
+    NoStartLine,
+    NoEndLine,
+}
+
+/// A tree, which is wrong where that is asked for.
+pub fn tree(rng: &mut Rng, wrong: bool) -> Vec<u8> {
+    let fault = wrong.then(|| {
+        rng.pick(&[
+            Fault::WrongLineBeforeStart,
+            Fault::SecondStartLine,
+            Fault::NoStartLine,
+            Fault::NoEndLine,
+        ])
+    });
+    [
+        line(rng, YAML_LINE),
+        before_start(rng, matches!(fault, Some(Fault::WrongLineBeforeStart))),
+        start(rng, matches!(fault, Some(Fault::NoStartLine))),
+        content(rng, matches!(fault, Some(Fault::SecondStartLine))),
+        end(rng, matches!(fault, Some(Fault::NoEndLine))),
+    ]
+    .concat()
+}
+
+/// Bytes that are neither the first line of a tree nor a block (7).
+pub fn no_tree(rng: &mut Rng) -> Vec<u8> {
+    rng.pick(NO_TREE).to_vec()
+}
+
+/// The lines before the start line (8 where they are wrong).
+fn before_start(rng: &mut Rng, wrong: bool) -> Vec<u8> {
+    let mut found = texts(rng, 3, |rng| rng.pick(LINES_BEFORE_START).to_vec());
+    if wrong {
+        let wrong_line = rng.pick(WRONG_LINES_BEFORE_START).to_vec();
+        found.insert(rng.between(0, found.len()), wrong_line);
+    }
+    lines(rng, &found)
+}
+
+/// The start line, if it is there (8 or 10 where it is not).
+fn start(rng: &mut Rng, missing: bool) -> Vec<u8> {
+    if missing {
+        return Vec::new();
+    }
+    let text = start_line(rng);
+    line(rng, &text)
+}
+
+/// The text of a start line.
+fn start_line(rng: &mut Rng) -> Vec<u8> {
+    match rng.below(4) {
+        0 => rng.pick(START_LINES).to_vec(),
+        1 => [b"--- ".to_vec(), bytes_of_one_line(rng, 30)].concat(),
+        _ => b"---".to_vec(),
+    }
+}
+
+/// The lines between start line and end line (9 where a start line is among them).
+fn content(rng: &mut Rng, second_start: bool) -> Vec<u8> {
+    let most = rng.pick(&[0, 2, 6, 12]);
+    let mut found = texts(rng, most, content_line);
+    if second_start {
+        let second = start_line(rng);
+        found.insert(rng.between(0, found.len()), second);
+    }
+    lines(rng, &found)
+}
+
+/// The text of a line that neither starts nor ends a tree.
+fn content_line(rng: &mut Rng) -> Vec<u8> {
+    match rng.below(8) {
+        0 => [b"x".to_vec(), bytes_of_one_line(rng, 50)].concat(),
+        1 => [MARK, &bytes_of_one_line(rng, 20)].concat(),
+        2 => part_of_mark(rng),
+        _ => rng.pick(CONTENT_LINES).to_vec(),
+    }
+}
+
+/// The end line, if it is there (10 where it is not).
+fn end(rng: &mut Rng, missing: bool) -> Vec<u8> {
+    if missing {
+        Vec::new()
+    } else {
+        line(rng, END_LINE)
+    }
+}

@@ -1,0 +1,68 @@
+//! A small seeded source of random numbers (SplitMix64): the same seed gives the same numbers.
+
+/// The step between two states, an odd number near 2^64 divided by the golden ratio.
+const STEP: u64 = 0x9E37_79B9_7F4A_7C15;
+
+/// A source of random numbers.
+pub struct Rng {
+    state: u64,
+}
+
+impl Rng {
+    /// The source of the file with this number in the run of a seed.
+    pub fn for_file(seed: u64, number: u64) -> Rng {
+        let run = Rng { state: seed }.word();
+        Rng {
+            state: Rng {
+                state: run ^ number,
+            }
+            .word(),
+        }
+    }
+
+    /// Any 64 bits.
+    pub fn word(&mut self) -> u64 {
+        self.state = self.state.wrapping_add(STEP);
+        let mixed = (self.state ^ self.state >> 30).wrapping_mul(0xBF58_476D_1CE4_E5B9);
+        let mixed = (mixed ^ mixed >> 27).wrapping_mul(0x94D0_49BB_1331_11EB);
+        mixed ^ mixed >> 31
+    }
+
+    /// Any byte.
+    pub fn byte(&mut self) -> u8 {
+        self.word() as u8
+    }
+
+    /// A number below `bound`, and 0 below 0.
+    pub fn below(&mut self, bound: usize) -> usize {
+        match bound {
+            0 => 0,
+            _ => (self.word() % bound as u64) as usize,
+        }
+    }
+
+    /// A number from `least` to `most`.
+    pub fn between(&mut self, least: usize, most: usize) -> usize {
+        least + self.below(most - least + 1)
+    }
+
+    /// True once in so many times.
+    pub fn chance(&mut self, one_in: usize) -> bool {
+        self.below(one_in) == 0
+    }
+
+    /// One of the choices, of which there must be at least one.
+    pub fn pick<T: Copy>(&mut self, choices: &[T]) -> T {
+        choices[self.below(choices.len())]
+    }
+
+    /// So many bytes of any value.
+    pub fn bytes(&mut self, length: usize) -> Vec<u8> {
+        (0..length).map(|_| self.byte()).collect()
+    }
+
+    /// So many bytes, each one of the choices.
+    pub fn bytes_of(&mut self, choices: &[u8], length: usize) -> Vec<u8> {
+        (0..length).map(|_| self.pick(choices)).collect()
+    }
+}
