@@ -2,32 +2,94 @@
 
 #![deny(unsafe_code)]
 
+mod answers;
 mod corpus;
+mod coverage;
 mod dump;
+mod fields;
 mod generate;
+mod goals;
 mod mutate;
 mod rng;
+mod run;
+mod self_check;
 
+use std::env::args;
+use std::io;
 use std::path::Path;
 use std::process::ExitCode;
 
-const USAGE: &str = "usage: asdf-harness --dump SEED COUNT DIR";
+const DEFAULT_SEED: u64 = 1;
+const DEFAULT_COUNT: u64 = 100_000;
+
+const USAGE: &str = "\
+usage: asdf-harness [SEED] [COUNT]
+       asdf-harness --dump SEED COUNT DIR
+
+The first form generates COUNT files (100,000 if it is not said), checks what is said of
+each, and prints what they reached. The status is 1 if a check fails or something was never
+reached; each failing file is written to build/failing/SEED-NUMBER.asdf.
+
+The second form writes the files to DIR/in, each behind its length in 8 bytes, and what the
+second program says of each as a line of DIR/out; files above 65,536 bytes are left out.
+";
+
+/// What is asked for.
+enum Command {
+    Run {
+        seed: u64,
+        count: u64,
+    },
+    Dump {
+        seed: u64,
+        count: u64,
+        directory: String,
+    },
+}
 
 fn main() -> ExitCode {
-    let arguments: Vec<String> = std::env::args().skip(1).collect();
-    match arguments.iter().map(String::as_str).collect::<Vec<_>>()[..] {
-        ["--dump", seed, count, directory] => {
-            dump::dump(
-                seed.parse().unwrap(),
-                count.parse().unwrap(),
-                Path::new(directory),
-            )
-            .unwrap();
-            ExitCode::SUCCESS
+    let words: Vec<String> = args().skip(1).collect();
+    let Some(command) = command(&words) else {
+        eprint!("{USAGE}");
+        return ExitCode::from(2);
+    };
+    match perform(command) {
+        Ok(true) => ExitCode::SUCCESS,
+        Ok(false) => ExitCode::FAILURE,
+        Err(error) => {
+            eprintln!("asdf-harness: {error}");
+            ExitCode::FAILURE
         }
-        _ => {
-            eprintln!("{USAGE}");
-            ExitCode::from(2)
-        }
+    }
+}
+
+/// The command that these words give.
+fn command(words: &[String]) -> Option<Command> {
+    let words: Vec<&str> = words.iter().map(String::as_str).collect();
+    if let ["--dump", seed, count, directory] = words[..] {
+        return Some(Command::Dump {
+            seed: seed.parse().ok()?,
+            count: count.parse().ok()?,
+            directory: directory.to_string(),
+        });
+    }
+    let (seed, count) = match words[..] {
+        [] => (DEFAULT_SEED, DEFAULT_COUNT),
+        [seed] => (seed.parse().ok()?, DEFAULT_COUNT),
+        [seed, count] => (seed.parse().ok()?, count.parse().ok()?),
+        _ => return None,
+    };
+    Some(Command::Run { seed, count })
+}
+
+/// Does what is asked for, and says whether all is well.
+fn perform(command: Command) -> io::Result<bool> {
+    match command {
+        Command::Run { seed, count } => run::run(seed, count),
+        Command::Dump {
+            seed,
+            count,
+            directory,
+        } => dump::dump(seed, count, Path::new(&directory)).map(|()| true),
     }
 }

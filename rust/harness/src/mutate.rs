@@ -1,22 +1,11 @@
 //! Damage to any bytes of a file.
 
+use crate::fields::FIELDS;
 use crate::generate::{places_of, MARK};
 use crate::rng::Rng;
 
 /// Byte values that mean something in the format.
 const TELLING_BYTES: &[u8] = &[0x00, 0xFF, b'\n', b'\r', b'#', b'.', b'-', b' ', b'0', 0xD3];
-
-/// The fields of a block: where each begins and how many bytes it has.
-const FIELDS: &[(usize, usize)] = &[
-    (0, 4),
-    (4, 2),
-    (6, 4),
-    (10, 4),
-    (14, 8),
-    (22, 8),
-    (30, 8),
-    (38, 16),
-];
 
 /// Damages a file in one to three ways.
 pub fn damage(rng: &mut Rng, file: &mut Vec<u8>) {
@@ -100,10 +89,10 @@ fn overwrite_field(rng: &mut Rng, file: &mut [u8]) {
     let Some(&mark) = marks.get(rng.below(marks.len())) else {
         return;
     };
-    let (start, length) = rng.pick(FIELDS);
-    let value = extreme_value(rng, length);
-    if let Some(field) = file.get_mut(mark + start..mark + start + length) {
-        field.copy_from_slice(&value);
+    let field = rng.pick(FIELDS);
+    let value = extreme_value(rng, field.length);
+    if let Some(bytes) = file.get_mut(field.stretch(mark)) {
+        bytes.copy_from_slice(&value);
     }
 }
 

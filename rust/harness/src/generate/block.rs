@@ -3,12 +3,9 @@
 use super::content::content;
 use super::shape::{Part, Shape};
 use super::text::MARK;
+use crate::fields::{FIELD_BYTES, HEADER_SIZE_COUNTS_FROM};
 use crate::rng::Rng;
 
-/// H counts from this offset in the block.
-const HEADER_SIZE_COUNTS_FROM: usize = 6;
-/// The bytes of a block header with all its fields.
-const FIELD_BYTES: usize = 54;
 /// The bit that says that a block is streamed.
 const STREAMED: u32 = 1;
 

@@ -13,7 +13,7 @@ mod tree;
 
 pub use cut::places_of;
 pub use shape::{Part, Shape};
-pub use text::MARK;
+pub use text::{FILE_BEGIN, INDEX_LINE, MARK, YAML_LINE};
 
 use crate::rng::Rng;
 

@@ -1,0 +1,67 @@
+//! Counts what the files of a run reach.
+
+use crate::answers::Answers;
+use crate::goals::{goals, Goal};
+use std::collections::HashSet;
+use std::fmt;
+
+/// How often a goal was reached, and at which places.
+struct Reached {
+    goal: Goal,
+    times: u64,
+    places: HashSet<usize>,
+}
+
+/// What the files of a run reached so far.
+pub struct Coverage {
+    reached: Vec<Reached>,
+}
+
+impl Coverage {
+    /// Nothing is reached yet.
+    pub fn new() -> Coverage {
+        let reached = goals().into_iter().map(|goal| Reached {
+            goal,
+            times: 0,
+            places: HashSet::new(),
+        });
+        Coverage {
+            reached: reached.collect(),
+        }
+    }
+
+    /// Counts what one file reaches.
+    pub fn count(&mut self, file: &[u8], answers: &Answers) {
+        for reached in &mut self.reached {
+            let places = (reached.goal.places)(file, answers);
+            reached.times += places.len() as u64;
+            reached.places.extend(places);
+        }
+    }
+
+    /// The goals that were never reached.
+    pub fn missing(&self) -> Vec<String> {
+        self.reached
+            .iter()
+            .filter(|reached| reached.times == 0)
+            .map(|reached| reached.goal.name.clone())
+            .collect()
+    }
+}
+
+impl fmt::Display for Coverage {
+    /// A table with a line for each goal.
+    fn fmt(&self, f: &mut fmt::Formatter<'_>) -> fmt::Result {
+        writeln!(f, "{:<52}{:>10}{:>10}", "reached", "times", "places")?;
+        for reached in &self.reached {
+            writeln!(
+                f,
+                "{:<52}{:>10}{:>10}",
+                reached.goal.name,
+                reached.times,
+                reached.places.len()
+            )?;
+        }
+        Ok(())
+    }
+}
