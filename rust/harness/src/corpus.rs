@@ -14,3 +14,19 @@ pub fn numbered_file(seed: u64, number: u64) -> Vec<u8> {
     }
     bytes
 }
+
+#[cfg(test)]
+mod tests {
+    use super::*;
+
+    /// The first files of a seed.
+    fn first_files(seed: u64) -> Vec<Vec<u8>> {
+        (0..500).map(|number| numbered_file(seed, number)).collect()
+    }
+
+    #[test]
+    fn same_seed_gives_the_same_files_and_another_gives_others() {
+        assert_eq!(first_files(7), first_files(7));
+        assert_ne!(first_files(7), first_files(8));
+    }
+}

@@ -65,3 +65,25 @@ impl fmt::Display for Coverage {
         Ok(())
     }
 }
+
+#[cfg(test)]
+mod tests {
+    use super::*;
+
+    #[test]
+    fn reached_goals_are_no_longer_missing() {
+        let mut coverage = Coverage::new();
+        let all = coverage.missing().len();
+        let file = b"#ASDF 2.0.0\n";
+        coverage.count(file, &Answers::to(file));
+        assert_eq!(coverage.missing().len(), all - 1);
+        assert!(!coverage.missing().contains(&"refused 4".to_string()));
+    }
+
+    #[test]
+    fn no_two_goals_have_the_same_name() {
+        let names = Coverage::new().missing();
+        let different: HashSet<&String> = names.iter().collect();
+        assert_eq!(different.len(), names.len());
+    }
+}

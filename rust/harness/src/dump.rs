@@ -78,3 +78,26 @@ fn block_text(block: &Block) -> String {
         checksum as u64,
     )
 }
+
+#[cfg(test)]
+mod tests {
+    use super::*;
+
+    #[test]
+    fn refusal_and_layout_are_one_line_each() {
+        assert_eq!(answer_text(b""), "refused 2 0 ");
+        assert_eq!(answer_text(b"#ASDF 1.2.3\n"), "1 2 3 12 12 none 0 0 nomore");
+        let tree = b"#ASDF 1.0.0\n#\n%YAML 1.1\n---\n...\n  ";
+        assert_eq!(answer_text(tree), "1 0 0 12 14 14 32 34 0 0 nomore");
+    }
+
+    #[test]
+    fn each_block_is_told_with_all_its_fields() {
+        let mut file = b"#ASDF 1.0.0\n\xD3BLK\0\x30\0\0\x01\0\0\0\0\x01".to_vec();
+        file.extend([0u64, 0, 9, 5, 6].map(u64::to_be_bytes).concat());
+        assert_eq!(
+            answer_text(&file),
+            "1 0 0 12 12 none 1 0 | 0 12 48 256 1 0 0 9 5 6 nomore"
+        );
+    }
+}

@@ -9,6 +9,7 @@ mod dump;
 mod fields;
 mod generate;
 mod goals;
+mod limits;
 mod mutate;
 mod rng;
 mod run;

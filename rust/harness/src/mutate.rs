@@ -108,3 +108,30 @@ fn extreme_value(rng: &mut Rng, length: usize) -> Vec<u8> {
     }
     value
 }
+
+#[cfg(test)]
+mod tests {
+    use super::*;
+
+    #[test]
+    fn files_of_every_small_length_can_be_damaged() {
+        for number in 0..20_000 {
+            let mut rng = Rng::for_file(0, number);
+            let mut file = [MARK, b"#ASDF 1.0.0\n"].concat();
+            file.truncate(rng.below(file.len()));
+            damage(&mut rng, &mut file);
+        }
+    }
+
+    #[test]
+    fn fields_are_overwritten_behind_a_mark_only() {
+        let block = [MARK, &[7; 50]].concat();
+        for number in 0..100 {
+            let mut rng = Rng::for_file(0, number);
+            let mut file = [&[7; 9], &block[..], &[7; 9]].concat();
+            overwrite_field(&mut rng, &mut file);
+            assert_eq!((&file[..9], &file[63..]), (&[7; 9][..], &[7; 9][..]));
+            assert_ne!(file[9..63], block);
+        }
+    }
+}

@@ -66,3 +66,27 @@ impl Rng {
         (0..length).map(|_| self.pick(choices)).collect()
     }
 }
+
+#[cfg(test)]
+mod tests {
+    use super::*;
+
+    #[test]
+    fn same_file_number_gives_the_same_words_and_another_gives_others() {
+        let word = |seed, number| Rng::for_file(seed, number).word();
+        assert_eq!(word(1, 2), word(1, 2));
+        assert_ne!(word(1, 2), word(2, 1));
+        assert_ne!(word(1, 2), word(1, 3));
+    }
+
+    #[test]
+    fn numbers_keep_their_bounds() {
+        let mut rng = Rng::for_file(0, 0);
+        assert_eq!(rng.below(0), 0);
+        for _ in 0..1_000 {
+            assert!(rng.below(3) < 3);
+            assert!((5..=7).contains(&rng.between(5, 7)));
+            assert!(rng.chance(1));
+        }
+    }
+}

@@ -83,3 +83,17 @@ fn report(seed: u64, number: u64, file: &[u8], reason: &str) -> io::Result<()> {
     println!("{}: {reason}", path.display());
     Ok(())
 }
+
+#[cfg(test)]
+mod tests {
+    use super::*;
+    use crate::{DEFAULT_COUNT, DEFAULT_SEED};
+
+    #[test]
+    fn default_run_reaches_everything_and_nothing_fails() -> io::Result<()> {
+        let outcome = check_files(DEFAULT_SEED, DEFAULT_COUNT / 4)?;
+        assert_eq!(outcome.coverage.missing(), [""; 0]);
+        assert_eq!(outcome.failures, 0);
+        Ok(())
+    }
+}

@@ -219,3 +219,35 @@ fn check_edit(file: &[u8], answers: &Answers, tree: Tree, text: &[u8]) -> Result
         answers.records.clone(),
     )
 }
+
+#[cfg(test)]
+mod tests {
+    use super::*;
+
+    const A: &[u8] = b"#ASDF 1.0.0\n";
+
+    #[test]
+    fn answers_to_a_file_fit_it() {
+        let tree = [A, LEAST_TREE].concat();
+        for file in [&b""[..], A, &tree] {
+            assert_eq!(check(file, &Answers::to(file)), Ok(()));
+        }
+    }
+
+    #[test]
+    fn answers_to_another_file_are_found_out() {
+        let tree = [A, LEAST_TREE].concat();
+        assert!(check(A, &Answers::to(b"")).is_err());
+        assert!(check(b"", &Answers::to(A)).is_err());
+        assert!(check(&tree, &Answers::to(A)).is_err());
+    }
+
+    #[test]
+    fn trees_have_the_length_that_is_asked_for() {
+        for length in LEAST_TREE.len()..40 {
+            let file = [A, &tree_of_length(length)].concat();
+            let end = Answers::to(&file).tree().map(|tree| tree.end.0 as usize);
+            assert_eq!(end, Some(A.len() + length));
+        }
+    }
+}

@@ -24,33 +24,36 @@ const LIKE_A_FILE: &[&[u8]] = &[
 /// The content of a block; one that nests holds a file, if the shape asks for nesting.
 pub fn content(rng: &mut Rng, shape: &Shape, nests: bool) -> Vec<u8> {
     if nests && shape.nesting > 0 {
-        let inner = Shape::inner(rng, shape.nesting - 1);
-        return file(rng, &inner);
-    }
-    if shape.blocks > Shape::USUAL_BLOCKS {
-        return short_content(rng);
-    }
-    match rng.below(16) {
-        0..=3 => Vec::new(),
-        4..=6 => short_content(rng),
-        7 => {
-            let length = rng.between(0, 300);
-            rng.bytes(length)
-        }
-        8 => b"text, line by line\n...\n---\n".to_vec(),
-        9 | 10 => rng.pick(LIKE_A_FILE).to_vec(),
-        11 => [FILE_BEGIN, &short_content(rng)].concat(),
-        12 => [MARK, &short_content(rng)].concat(),
-        13 => vec![0; rng.between(1, 40)],
-        _ => {
-            let inner = Shape::inner(rng, 0);
-            file(rng, &inner)
-        }
+        nested_file(rng, shape.nesting - 1)
+    } else if shape.blocks > Shape::USUAL_BLOCKS {
+        plain_bytes(rng, 12)
+    } else {
+        any_content(rng)
     }
 }
 
-/// A few bytes of any value.
-fn short_content(rng: &mut Rng) -> Vec<u8> {
-    let length = rng.between(0, 12);
+fn any_content(rng: &mut Rng) -> Vec<u8> {
+    match rng.below(16) {
+        0..=3 => Vec::new(),
+        4..=6 => plain_bytes(rng, 12),
+        7 => plain_bytes(rng, 300),
+        8 => vec![0; rng.between(1, 40)],
+        9 => b"text, line by line\n...\n---\n".to_vec(),
+        10 => rng.pick(LIKE_A_FILE).to_vec(),
+        11 => [FILE_BEGIN, &plain_bytes(rng, 12)].concat(),
+        12 => [MARK, &plain_bytes(rng, 80)].concat(),
+        _ => nested_file(rng, 0),
+    }
+}
+
+/// A file with so many more in one another inside it.
+fn nested_file(rng: &mut Rng, nesting: usize) -> Vec<u8> {
+    let shape = Shape::inner(rng, nesting);
+    file(rng, &shape)
+}
+
+/// At most so many bytes of any value.
+fn plain_bytes(rng: &mut Rng, most: usize) -> Vec<u8> {
+    let length = rng.between(0, most);
     rng.bytes(length)
 }

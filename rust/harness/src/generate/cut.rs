@@ -3,21 +3,21 @@
 use super::text::MARK;
 use crate::rng::Rng;
 
-/// Cuts a file inside a line, inside a block header, or anywhere.
+/// Cuts a file at a line end, inside a block header, or anywhere.
 pub fn cut(rng: &mut Rng, file: &mut Vec<u8>) {
     let length = match rng.below(4) {
-        0 | 1 => before_line_end(rng, file),
+        0 | 1 => at_line_end(rng, file),
         2 => inside_block_header(rng, file),
         _ => None,
     };
     file.truncate(length.unwrap_or(rng.below(file.len())));
 }
 
-/// A place directly before a 0A, or before the 0D 0A.
-fn before_line_end(rng: &mut Rng, file: &[u8]) -> Option<usize> {
-    let places = places_of(file, b"\n");
-    let place = *places.get(rng.below(places.len().min(12)))?;
-    Some(place.saturating_sub(rng.below(2)))
+/// A place before or behind a 0A, or before the 0D 0A; the first lines are cut more often.
+fn at_line_end(rng: &mut Rng, file: &[u8]) -> Option<usize> {
+    let ends = places_of(file, b"\n");
+    let end = *ends.get(rng.below(ends.len().min(12)))?;
+    Some((end + 1).saturating_sub(rng.below(3)))
 }
 
 /// A place at most as far behind a mark as the shortest header reaches.

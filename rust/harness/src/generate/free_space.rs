@@ -1,6 +1,7 @@
 //! The free space behind a tree.
 
-use super::tail::good_index;
+use super::index::good_index;
+use super::places_of;
 use super::text::{part_of_mark, MARK};
 use crate::rng::Rng;
 
@@ -19,27 +20,24 @@ const MEANINGLESS: &[&[u8]] = &[
 
 /// Free space, none in half of the files; wrong one holds a mark that begins no good block.
 pub fn free_space(rng: &mut Rng, wrong: bool) -> Vec<u8> {
-    let space = harmless(rng);
+    let mut space = any_space(rng);
     if wrong {
         let length = rng.between(0, 60);
-        return [&space, MARK, &rng.bytes(length)].concat();
+        space.extend([MARK, &rng.bytes(length)].concat());
+    } else if !places_of(&space, MARK).is_empty() {
+        space.clear();
     }
     space
 }
 
-/// Free space without a mark, or with one only by accident.
-fn harmless(rng: &mut Rng) -> Vec<u8> {
+/// Free space with a mark at most by accident.
+fn any_space(rng: &mut Rng) -> Vec<u8> {
+    let length = rng.between(1, 40);
     match rng.below(12) {
-        0 | 1 => vec![b' '; rng.between(1, 40)],
-        2 => {
-            let length = rng.between(1, 40);
-            rng.bytes(length)
-        }
+        0 | 1 => vec![b' '; length],
+        2 => rng.bytes(length),
         3 => part_of_mark(rng),
-        4 => {
-            let length = rng.between(1, 12);
-            rng.bytes_of(MARK, length)
-        }
+        4 => rng.bytes_of(MARK, length),
         5 => rng.pick(MEANINGLESS).to_vec(),
         6 => good_index(rng, &[12]),
         _ => Vec::new(),

@@ -2,6 +2,9 @@
 
 use crate::rng::Rng;
 
+/// The most blocks a file may have.
+pub const MOST_BLOCKS: usize = 64;
+
 /// The parts of a file that can be made wrong.
 #[derive(Debug, Clone, Copy, PartialEq, Eq)]
 pub enum Part {
@@ -41,36 +44,39 @@ pub struct Shape {
     pub blocks: usize,
     /// How many files stand in one another inside one of the blocks.
     pub nesting: usize,
-    /// The length to which zeros lengthen the file.
-    pub length: Option<usize>,
+    /// The length to which zeros lengthen the file if it is shorter.
+    pub least_length: usize,
 }
 
 impl Shape {
     /// The most blocks of a file that is not near the limit.
     pub const USUAL_BLOCKS: usize = 5;
 
+    /// The plainest file: a header, at most comments, and nothing else.
     #[cfg(test)]
-    /// The plainest file: a header line and nothing else.
     pub fn plain() -> Shape {
         Shape {
             wrong: Vec::new(),
             tree: false,
             blocks: 0,
             nesting: 0,
-            length: None,
+            least_length: 0,
         }
     }
 
     /// The shape of an outermost file.
     pub fn outermost(rng: &mut Rng) -> Shape {
+        let blocks = block_count(rng, 30);
+        let mut wrong = wrong_parts(rng, 2);
+        if blocks == MOST_BLOCKS && rng.chance(4) {
+            wrong.push(Part::Tail);
+        }
         Shape {
-            wrong: wrong_parts(rng, 2),
+            wrong,
             tree: rng.chance(2),
-            blocks: block_count(rng, 40),
+            blocks,
             nesting: nesting(rng),
-            length: rng
-                .chance(800)
-                .then(|| rng.pick(&[65_535, 65_536, 65_537, 70_000])),
+            least_length: least_length(rng),
         }
     }
 
@@ -80,10 +86,15 @@ impl Shape {
         Shape {
             wrong: wrong_parts(rng, one_in),
             tree: rng.chance(3),
-            blocks: block_count(rng, 200).max(nesting.min(1)),
+            blocks: block_count(rng, 100).max(nesting.min(1)),
             nesting,
-            length: None,
+            least_length: 0,
         }
+    }
+
+    /// Whether bytes may follow the last block or the free space.
+    pub fn has_tail(&self) -> bool {
+        self.tree || self.blocks > 0 || self.is_wrong(Part::Tail)
     }
 
     /// Whether a part is to be wrong.
@@ -104,9 +115,18 @@ fn wrong_parts(rng: &mut Rng, one_in: usize) -> Vec<Part> {
 /// A number of blocks, once in so many times near the limit.
 fn block_count(rng: &mut Rng, near_limit_one_in: usize) -> usize {
     if rng.chance(near_limit_one_in) {
-        rng.between(62, 66)
+        rng.pick(&[62, 63, 64, 64, 64, 65, 66])
     } else {
         rng.between(0, Shape::USUAL_BLOCKS)
+    }
+}
+
+/// A length around the most that the program takes, mostly none.
+fn least_length(rng: &mut Rng) -> usize {
+    if rng.chance(300) {
+        rng.pick(&[65_535, 65_536, 65_537, 70_000])
+    } else {
+        0
     }
 }
 

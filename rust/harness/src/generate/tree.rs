@@ -54,8 +54,9 @@ const LINES_BEFORE_START: &[&[u8]] = &[
 
 /// What may not stand there (8).
 const WRONG_LINES_BEFORE_START: &[&[u8]] = &[
-    b"...", b"", b"\r", b" ", b"-", b"--", b"----", b"---x", b"---\t", b"---\r", b"---\0", b" ---",
-    b"--\r-", b" %TAG", b" #", b"....", b"a: b", b"$", b"&", b"!", b"\"", b"\xD3BLK", b"\xD3",
+    b"...", b"", b"\r", b" ", b"-", b"--", b"----", b"---x", b"---\t", b"---\r\r", b"---\0",
+    b" ---", b"--\r-", b" %TAG", b" #", b"....", b"a: b", b"$", b"&", b"!", b"\"", b"\xD3BLK",
+    b"\xD3",
 ];
 
 /// Start lines.
@@ -86,7 +87,6 @@ const CONTENT_LINES: &[&[u8]] = &[
     b"....",
     b"..",
     b".",
-    b"...\r",
     b"...\r\r",
     b"\r...",
     b"..\r.",
@@ -99,7 +99,7 @@ const CONTENT_LINES: &[&[u8]] = &[
     b"----",
     b"---x",
     b"---\t",
-    b"---\r",
+    b"---\r\r",
     b"---\r ",
     b"---\0",
     b" ---",
@@ -114,7 +114,7 @@ const CONTENT_LINES: &[&[u8]] = &[
 ];
 
 /// The ways in which a tree goes wrong.
-#[derive(Clone, Copy)]
+#[derive(Clone, Copy, PartialEq)]
 enum Fault {
     WrongLineBeforeStart,
     SecondStartLine,
@@ -134,10 +134,10 @@ pub fn tree(rng: &mut Rng, wrong: bool) -> Vec<u8> {
     });
     [
         line(rng, YAML_LINE),
-        before_start(rng, matches!(fault, Some(Fault::WrongLineBeforeStart))),
-        start(rng, matches!(fault, Some(Fault::NoStartLine))),
-        content(rng, matches!(fault, Some(Fault::SecondStartLine))),
-        end(rng, matches!(fault, Some(Fault::NoEndLine))),
+        before_start(rng, fault == Some(Fault::WrongLineBeforeStart)),
+        start(rng, fault == Some(Fault::NoStartLine)),
+        content(rng, fault == Some(Fault::SecondStartLine)),
+        end(rng, fault == Some(Fault::NoEndLine)),
     ]
     .concat()
 }
@@ -170,7 +170,7 @@ fn start(rng: &mut Rng, missing: bool) -> Vec<u8> {
 fn start_line(rng: &mut Rng) -> Vec<u8> {
     match rng.below(4) {
         0 => rng.pick(START_LINES).to_vec(),
-        1 => [b"--- ".to_vec(), bytes_of_one_line(rng, 30)].concat(),
+        1 => [b"--- ", &bytes_of_one_line(rng, 30)[..]].concat(),
         _ => b"---".to_vec(),
     }
 }
@@ -189,7 +189,7 @@ fn content(rng: &mut Rng, second_start: bool) -> Vec<u8> {
 /// The text of a line that neither starts nor ends a tree.
 fn content_line(rng: &mut Rng) -> Vec<u8> {
     match rng.below(8) {
-        0 => [b"x".to_vec(), bytes_of_one_line(rng, 50)].concat(),
+        0 => [b"x", &bytes_of_one_line(rng, 50)[..]].concat(),
         1 => [MARK, &bytes_of_one_line(rng, 20)].concat(),
         2 => part_of_mark(rng),
         _ => rng.pick(CONTENT_LINES).to_vec(),
@@ -202,5 +202,41 @@ fn end(rng: &mut Rng, missing: bool) -> Vec<u8> {
         Vec::new()
     } else {
         line(rng, END_LINE)
+    }
+}
+
+#[cfg(test)]
+mod tests {
+    use super::*;
+    use asdf_second::{read, Layout, Refusal};
+
+    /// What is said of a header line with something behind it, for many of them.
+    fn answers(behind: impl Fn(&mut Rng) -> Vec<u8>) -> Vec<Result<Layout, Refusal>> {
+        (0..500)
+            .map(|number| behind(&mut Rng::for_file(0, number)))
+            .map(|behind| read(&[b"#ASDF 1.0.0\n", &behind[..]].concat()))
+            .collect()
+    }
+
+    #[test]
+    fn right_tree_is_the_whole_room() {
+        for answer in answers(|rng| tree(rng, false)) {
+            let tree = answer.unwrap().tree.unwrap();
+            assert_eq!(tree.end, tree.room_end);
+        }
+    }
+
+    #[test]
+    fn wrong_tree_is_refused_with_8_9_or_10() {
+        for answer in answers(|rng| tree(rng, true)) {
+            assert!((8..=10).contains(&answer.unwrap_err().number));
+        }
+    }
+
+    #[test]
+    fn what_is_no_tree_is_refused_with_7() {
+        for answer in answers(no_tree) {
+            assert_eq!(answer.unwrap_err().number, 7);
+        }
     }
 }
