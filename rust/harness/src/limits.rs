@@ -1,7 +1,9 @@
 //! Both sides of each limit, as goals.
 
 use crate::answers::content_start;
-use crate::fields::{Field, ALLOCATED, DATA_SIZE, HEADER_SIZE, HEADER_SIZE_COUNTS_FROM, USED};
+use crate::fields::{
+    Field, ALLOCATED, DATA_SIZE, FIELD_BYTES, HEADER_SIZE, HEADER_SIZE_COUNTS_FROM, USED,
+};
 use crate::generate::{FILE_BEGIN, INDEX_LINE, MARK, YAML_LINE};
 use crate::goals::Goal;
 use asdf_second::{Block, Inner, Verdict};
@@ -37,6 +39,9 @@ fn block_counts() -> Vec<Goal> {
         }),
         Goal::of_file("64 blocks, the last streamed", |_, answers| {
             answers.blocks().get(63).is_some_and(Block::is_streamed)
+        }),
+        Goal::of_refusal("65 blocks (16)", 16, |file, place| {
+            file.len() - place >= FIELD_BYTES
         }),
         Goal::of_refusal("65 marks and nothing behind (16)", 16, |file, place| {
             file.len() - place == MARK.len()
@@ -96,6 +101,9 @@ fn header_size_limits() -> Vec<Goal> {
             file.len() - block == 5
         }),
         Goal::of_refusal("six bytes of a header (11)", 11, |file, block| {
+            file.len() - block == 6
+        }),
+        Goal::of_refusal("six bytes, H below 48 (12)", 12, |file, block| {
             file.len() - block == 6
         }),
     ]
@@ -183,13 +191,10 @@ fn streamed_blocks() -> Vec<Goal> {
         Goal::of_record("streamed block in an inner file", |record| {
             record.block.is_streamed() && record.depth > 0
         }),
-        Goal::of_block(
-            "streamed block with sizes that refuse others",
-            |file, block| {
-                block.is_streamed()
-                    && stored_end(file, block.offset.0 as usize) > Some(file.len() as u128)
-            },
-        ),
+        Goal::of_block("streamed block that ignores its sizes", |file, block| {
+            let end = stored_end(file, block.offset.0 as usize);
+            block.is_streamed() && end.is_some_and(|end| end > file.len() as u128)
+        }),
     ]
 }
 

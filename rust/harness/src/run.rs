@@ -6,7 +6,7 @@ use crate::coverage::Coverage;
 use crate::self_check;
 use std::fs;
 use std::io;
-use std::panic::catch_unwind;
+use std::panic::{catch_unwind, UnwindSafe};
 use std::path::Path;
 
 /// Says what is wrong with what is said of a file, if anything.
@@ -19,6 +19,8 @@ const CHECKS: &[Check] = &[self_check::check];
 const FAILING: &str = "build/failing";
 /// So many failing files are written and told of.
 const MOST_TOLD: u64 = 20;
+/// So much is told of a reason.
+const LONGEST_REASON: usize = 600;
 
 /// What came of a run.
 struct Outcome {
@@ -70,9 +72,16 @@ fn check_files(seed: u64, count: u64) -> io::Result<Outcome> {
 
 /// Counts what a file reaches and puts it through the checks.
 fn check_file(file: &[u8], coverage: &mut Coverage) -> Result<(), String> {
-    let answers = catch_unwind(|| Answers::to(file)).map_err(|_| "reading it panics")?;
+    let answers = without_panic(|| Answers::to(file))?;
     coverage.count(file, &answers);
-    CHECKS.iter().try_for_each(|check| check(file, &answers))
+    CHECKS
+        .iter()
+        .try_for_each(|check| without_panic(|| check(file, &answers))?)
+}
+
+/// What the work gives; a panic fails only the file at hand.
+fn without_panic<T>(work: impl FnOnce() -> T + UnwindSafe) -> Result<T, String> {
+    catch_unwind(work).map_err(|_| "a panic".to_string())
 }
 
 /// Writes a failing file and tells of it.
@@ -80,7 +89,7 @@ fn report(seed: u64, number: u64, file: &[u8], reason: &str) -> io::Result<()> {
     let path = Path::new(FAILING).join(format!("{seed}-{number}.asdf"));
     fs::create_dir_all(FAILING)?;
     fs::write(&path, file)?;
-    println!("{}: {reason}", path.display());
+    println!("{}: {reason:.LONGEST_REASON$}", path.display());
     Ok(())
 }
 

@@ -227,3 +227,43 @@ fn other_numbers(rng: &mut Rng, offsets: &[u64]) -> Vec<u64> {
     }
     numbers
 }
+
+#[cfg(test)]
+mod tests {
+    use super::*;
+    use asdf_second::{read, Verdict};
+
+    /// The verdicts on many indexes behind a file with one block, each once.
+    fn verdicts(index: fn(&mut Rng, &[u64]) -> Vec<u8>) -> Vec<Verdict> {
+        let file = [b"#ASDF 1.0.0\n\xD3BLK\0\x30", &[0; 48][..]].concat();
+        let mut found = Vec::new();
+        for number in 0..1_000 {
+            let text = index(&mut Rng::for_file(0, number), &[12]);
+            let verdict = read(&[&file[..], &text].concat()).unwrap().index;
+            if !found.contains(&verdict) {
+                found.push(verdict);
+            }
+        }
+        found
+    }
+
+    #[test]
+    fn good_index_is_good() {
+        assert_eq!(verdicts(good_index), [Verdict::Good]);
+    }
+
+    #[test]
+    fn index_of_another_list_is_ignored_for_its_list() {
+        assert_eq!(verdicts(index_of_other_list), [Verdict::IgnoredList]);
+    }
+
+    #[test]
+    fn each_wrong_line_is_ignored_for_its_form() {
+        let wrong_line = |rng: &mut Rng, offsets: &[u64]| {
+            let mut index = Index::of(rng, offsets);
+            index.replace_line(rng);
+            index.bytes(rng)
+        };
+        assert_eq!(verdicts(wrong_line), [Verdict::IgnoredForm]);
+    }
+}

@@ -62,8 +62,11 @@ fn wrong_tail(rng: &mut Rng, offsets: &[u64]) -> Vec<u8> {
     }
 }
 
-/// A mark with a few bytes behind it, or none (16 behind 64 blocks, else mostly 11 or 12).
+/// The first bytes of a block, often not more than its mark or its H (16 behind 64 blocks, else
+/// mostly 11 or 12).
 fn begun_block(rng: &mut Rng) -> Vec<u8> {
-    let length = rng.pick(&[0, 0, 1, 2, 3, 20]);
-    [MARK, &rng.bytes(length)].concat()
+    let header_size: u16 = rng.pick(&[0, 47, 48, u16::MAX]);
+    let mut block = [MARK, &header_size.to_be_bytes(), &rng.bytes(20)].concat();
+    block.truncate(rng.pick(&[4, 4, 5, 6, 6, 7, 26]));
+    block
 }
