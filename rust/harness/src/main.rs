@@ -29,7 +29,7 @@ usage: asdf-harness [SEED] [COUNT]
 
 The first form generates COUNT files (100,000 if it is not said), checks what is said of
 each, and prints what they reached. The status is 1 if a check fails or something was never
-reached; each failing file is written to build/failing/SEED-NUMBER.asdf.
+reached; the first 20 failing files are written as build/failing/SEED-NUMBER.asdf.
 
 The second form writes the files to DIR/in, each behind its length in 8 bytes, and what the
 second program says of each as a line of DIR/out; files above 65,536 bytes are left out.

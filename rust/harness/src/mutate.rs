@@ -3,6 +3,7 @@
 use crate::fields::FIELDS;
 use crate::generate::{places_of, MARK};
 use crate::rng::Rng;
+use std::ops::Range;
 
 /// Byte values that mean something in the format.
 const TELLING_BYTES: &[u8] = &[0x00, 0xFF, b'\n', b'\r', b'#', b'.', b'-', b' ', b'0', 0xD3];
@@ -14,6 +15,7 @@ pub fn damage(rng: &mut Rng, file: &mut Vec<u8>) {
     }
 }
 
+/// Damages a file in one way.
 fn damage_once(rng: &mut Rng, file: &mut Vec<u8>) {
     match rng.below(8) {
         0 => flip_bit(rng, file),
@@ -77,7 +79,7 @@ fn duplicate(rng: &mut Rng, file: &mut Vec<u8>) {
 }
 
 /// A stretch of a file, at most so long.
-fn any_stretch(rng: &mut Rng, file: &[u8], most: usize) -> std::ops::Range<usize> {
+fn any_stretch(rng: &mut Rng, file: &[u8], most: usize) -> Range<usize> {
     let start = rng.between(0, file.len());
     let length = rng.between(0, most.min(file.len() - start));
     start..start + length

@@ -20,6 +20,11 @@ const SPARE: usize = 3;
 /// The bytes of a written index without its numbers.
 const INDEX_FRAME: usize = 39;
 
+/// The smallest tree.
+const LEAST_TREE: &[u8] = b"%YAML 1.1\n---\n...\n";
+/// The bytes of it before its content.
+const LEAST_TREE_BEGIN: usize = 14;
+
 /// Says what does not fit together, if anything.
 pub fn check(file: &[u8], answers: &Answers) -> Result<(), String> {
     check_records(answers)?;
@@ -63,14 +68,11 @@ fn expected_rows(answers: &Answers) -> Result<Vec<Row>, Refusal> {
 /// The rows are those of the records, and no more than there may be.
 fn check_rows(file: &[u8], answers: &Answers) -> Result<(), String> {
     let expected = expected_rows(answers);
-    let count = expected.as_ref().map_or(0, Vec::len);
-    same(
-        "row count",
-        row_count(file),
-        expected.clone().map(|_| count),
-    )?;
+    let count = expected.clone().map(|rows| rows.len());
     same("rows", rows(file), expected)?;
-    same("rows fit the length", count <= most_rows(file.len()), true)
+    same("row count", row_count(file), count)?;
+    let too_many = count.is_ok_and(|count| count > most_rows(file.len()));
+    same("more rows than fit the length", too_many, false)
 }
 
 /// The outline is read back to the rows and written again as it was.
@@ -108,26 +110,23 @@ fn written(
     Ok(result.map(|_| buffer))
 }
 
-/// The index that is written has the stated length and is good behind the last block.
+/// The index is refused where there can be none.
 fn check_index(file: &[u8], answers: &Answers) -> Result<(), String> {
     let text = written("index", LONGEST_INDEX, |out| write_index(file, out))?;
-    let expected_refusal = match (&answers.layout, answers.chain_end()) {
-        (Err(refusal), _) => Some(*refusal),
-        (Ok(_), None) => Some(of_whole(NO_INDEX_POSSIBLE)),
-        (Ok(_), Some(_)) => None,
-    };
-    same("refusal of the index", text.clone().err(), expected_refusal)?;
-    match (text, answers.chain_end()) {
-        (Ok(text), Some(end)) => {
-            let blocks = answers.blocks();
-            same("length of the index", text.len(), index_length(blocks))?;
-            let with_index = read(&[&file[..end], &text].concat());
-            let found = with_index.map(|layout| (layout.index, layout.blocks));
-            let expected = (Verdict::Good, blocks.to_vec());
-            same("file with the written index", found, Ok(expected))
-        }
-        _ => Ok(()),
+    match (&answers.layout, answers.chain_end(), text) {
+        (Ok(_), Some(end), Ok(text)) => check_index_text(&file[..end], answers.blocks(), &text),
+        (Ok(_), Some(_), Err(refusal)) => Err(format!("index: {refusal}")),
+        (Ok(_), None, text) => same("index", text, Err(of_whole(NO_INDEX_POSSIBLE))),
+        (Err(refusal), _, text) => same("index", text, Err(*refusal)),
     }
+}
+
+/// The index that is written has the stated length and is good behind the last block.
+fn check_index_text(chain: &[u8], blocks: &[Block], text: &[u8]) -> Result<(), String> {
+    same("length of the index", text.len(), index_length(blocks))?;
+    let found = read(&[chain, text].concat()).map(|layout| (layout.index, layout.blocks));
+    let expected = (Verdict::Good, blocks.to_vec());
+    same("file with the written index", found, Ok(expected))
 }
 
 /// The length of the index of these blocks.
@@ -176,11 +175,6 @@ fn check_edits(file: &[u8], answers: &Answers) -> Result<(), String> {
     let refusal = of_whole(TEXT_LONGER_THAN_ROOM);
     check_refused_edit(file, &tree_of_length(room + 1), refusal)
 }
-
-/// The smallest tree.
-const LEAST_TREE: &[u8] = b"%YAML 1.1\n---\n...\n";
-/// The part of it before its content.
-const LEAST_TREE_BEGIN: usize = 14;
 
 /// A tree of this length, which is at least that of the smallest one.
 fn tree_of_length(length: usize) -> Vec<u8> {

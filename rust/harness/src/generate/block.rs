@@ -21,12 +21,12 @@ const COMPRESSIONS: &[[u8; 4]] = &[
 /// A block as it is stored.
 pub struct Block {
     pub header_size: u16,
-    pub flags: u32,
-    pub compression: [u8; 4],
+    flags: u32,
+    compression: [u8; 4],
     pub allocated: u64,
     pub used: u64,
     pub data_size: u64,
-    pub checksum: [u8; 16],
+    checksum: [u8; 16],
     /// The rest of the header, the content and the unused space.
     behind_fields: Vec<u8>,
 }

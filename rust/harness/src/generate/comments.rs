@@ -45,6 +45,7 @@ pub fn comments(rng: &mut Rng, wrong: bool) -> Vec<u8> {
     }
 }
 
+/// Comments with the index line, or with an unended one behind them.
 fn wrong_comments(rng: &mut Rng) -> Vec<u8> {
     let mut comments = texts(rng, MOST_COMMENTS, comment);
     if rng.chance(3) {

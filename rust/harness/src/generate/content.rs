@@ -32,6 +32,7 @@ pub fn content(rng: &mut Rng, shape: &Shape, nests: bool) -> Vec<u8> {
     }
 }
 
+/// Nothing, plain bytes, something like a file, or a file.
 fn any_content(rng: &mut Rng) -> Vec<u8> {
     match rng.below(16) {
         0..=3 => Vec::new(),

@@ -81,15 +81,18 @@ const WRONG_MAJORS: &[usize] = &[0, 2, 3, 9, 10, 11, 100, 257, 1001, 9999];
 
 /// A header line, which is wrong where that is asked for.
 pub fn header(rng: &mut Rng, wrong: bool) -> Vec<u8> {
-    if !wrong {
-        let version = version(rng, 1);
-        return header_line(rng, FILE_BEGIN, &version);
-    }
     match rng.below(3) {
+        _ if !wrong => header_of_major(rng, 1),
         0 => wrong_begin(rng),
         1 => malformed_version(rng),
         _ => wrong_major(rng),
     }
+}
+
+/// A header line with a version that has this first number.
+fn header_of_major(rng: &mut Rng, major: usize) -> Vec<u8> {
+    let version = version(rng, major);
+    header_line(rng, FILE_BEGIN, &version)
 }
 
 /// A header line of its two parts.
@@ -129,6 +132,5 @@ fn malformed_version(rng: &mut Rng) -> Vec<u8> {
 /// A header line whose first number is not 1 (4).
 fn wrong_major(rng: &mut Rng) -> Vec<u8> {
     let major = rng.pick(WRONG_MAJORS);
-    let version = version(rng, major);
-    header_line(rng, FILE_BEGIN, &version)
+    header_of_major(rng, major)
 }

@@ -32,7 +32,7 @@ pub fn lines(rng: &mut Rng, texts: &[Vec<u8>]) -> Vec<u8> {
     texts.iter().flat_map(|text| line(rng, text)).collect()
 }
 
-/// So many texts from one source.
+/// At most so many texts from one source.
 pub fn texts(rng: &mut Rng, most: usize, text: fn(&mut Rng) -> Vec<u8>) -> Vec<Vec<u8>> {
     (0..rng.between(0, most)).map(|_| text(rng)).collect()
 }
