@@ -191,3 +191,7 @@ module _ (s : Bytes) (at : ℕ) (r : Line) (read : LineRead s at r) where
     -- its text ends inside
     pub ended-end : m ≤ length s
     ended-end = omega (arith, ended-inside)
+
+    -- less is left behind it
+    pub ended-less : length s - next < length s - at
+    ended-less = omega (arith, ended-inside)

@@ -1,0 +1,245 @@
+-- The layout of a file: one law for each way out of its steps.
+use Prim.Native.Nat.{ℕ, _-_, _≤_, _<_}
+use native.Mathlib.Omega.{arith}
+use mathlib.Core.Path.{_≡_, refl, sym, ap, _∙_}
+use mathlib.Core.Bool.{Bool, true, false, not}
+use lib.ListN.{length, take, drop, getElem?, drop-of-length-le, length-drop}
+use lib.Seq.{drop-cons}
+use borrow.Author.Tests.{le-leb, lt-leb, not-true, not-false}
+use Rattle.format.specs.declared.answer.LayoutAnswer.{LayoutAnswer}
+use Rattle.format.specs.declared.answer.LayoutAnswer.the-variants as LayoutAnswer·is
+use Rattle.format.specs.declared.answer.BlockAnswer.the-variants as BlockAnswer·is
+use Rattle.format.specs.declared.layout.Header.{Header}
+use Rattle.format.specs.declared.layout.Tree.{Tree}
+use Rattle.format.specs.declared.layout.Tree.the-variants.{NoTree, Found}
+use Rattle.format.specs.declared.layout.Layout.{Layout}
+use Rattle.format.specs.declared.layout.Verdict.{Verdict}
+use Rattle.format.specs.declared.layout.Verdict.the-variants.{Absent}
+use Rattle.format.specs.declared.offset.Offset.{Offset}
+use Rattle.format.specs.declared.refusal.Refusal.{Refusal}
+use Rattle.format.specs.Bytes.{Bytes, begins}
+use Rattle.format.specs.Outcome.{Outcome, accepted, refused, refusal, _>>=_}
+use Rattle.format.specs.Line.{lines}
+use Rattle.format.specs.Header.{header}
+use Rattle.format.specs.Comments.{comments}
+use Rattle.format.specs.Tree.{tree, mark}
+use Rattle.format.specs.Chain.{Chain, mostBlocks, chain}
+use Rattle.format.specs.Index.{indexed, judged, verdict}
+use Rattle.format.specs.File.{File, mostBytes, firstBlock, goesOn, offsets, file, layoutOf, layout, blockAt}
+use Rattle.format.specs.Answer.{layoutAnswer, blockAnswer}
+use Rattle.format.proofs.ReadLaws.{header-bounds, comments-bounds, first-block-bounds}
+use Rattle.file.specs.declared.step.HeaderStep.{HeaderStep}
+use Rattle.file.specs.declared.step.HeaderStep.the-variants as HeaderStep·is
+use Rattle.file.specs.declared.step.EndStep.{EndStep}
+use Rattle.file.specs.declared.step.EndStep.the-variants as EndStep·is
+use Rattle.file.specs.declared.step.TreeStep.{TreeStep}
+use Rattle.file.specs.declared.step.TreeStep.the-variants as TreeStep·is
+use Rattle.file.specs.declared.step.ChainStep.{ChainStep}
+use Rattle.file.specs.declared.step.ChainStep.the-variants as ChainStep·is
+use Rattle.file.specs.Step.{headerOf, endOf, treeOf}
+use Rattle.file.specs.Chain.{Chained, WalkedAlone, WalkedTo, Walked}
+use Rattle.file.specs.Layout.{fileWith, withBlocks, behindTree, behindComments, behindHeader, layoutWith, Judged, Kept}
+use Rattle.file.proofs.PartLaws.{part-all}
+use Rattle.file.proofs.KeptLaws.{enough-kept}
+
+-- a refused file is answered by its refusal
+refused-judged : (o : Outcome File) (out : Bytes) (r : Refusal) → o ≡ refused r → Judged o out (LayoutAnswer·is.Refused r)
+unfolding layoutAnswer
+refused-judged o out r h = record { is = rw h; kept = λ f e. cc }
+
+-- an accepted file is answered by its layout, where the first of out are where its blocks begin
+accepted-judged : (o : Outcome File) (out : Bytes) (l : Layout) (f : File) → o ≡ accepted f → l ≡ layoutOf f
+    → take (length (f .blocks)) out ≡ offsets (f .blocks) → Judged o out (LayoutAnswer·is.Accepted l)
+unfolding layoutAnswer
+accepted-judged o out l f h e k = record { is = rw (h, e); kept = λ g q. let same : f ≡ g = cc in rw same at k }
+
+module _ {A : Type 0} (o : Outcome File) (p : Outcome A) (then : A → Outcome File) (step : o ≡ _>>=_ p then) (out : Bytes) where
+  -- a step that refuses
+  step-refused : (r : Refusal) → p ≡ refused r → Judged o out (LayoutAnswer·is.Refused r)
+  step-refused r h = refused-judged o out r (rw (step, h))
+
+  -- a step that accepts hands on to what comes behind it
+  step-accepted : (a : A) → p ≡ accepted a → (x : LayoutAnswer) → Judged (then a) out x → Judged o out x
+  step-accepted a h x j = rw (step, h) j
+
+-- a file that is short enough is read from its header on
+file-begins : (s : Bytes) → length s ≤ mostBytes → file s ≡ _>>=_ (header s) (behindHeader s)
+unfolding file behindHeader behindComments behindTree withBlocks
+file-begins s h = rw (le-leb (length s) mostBytes h, file)
+
+-- a file that is too long is refused
+pub file-long : (s : Bytes) → mostBytes < length s → (r : Refusal) → r ≡ refusal 1 0 → (out : Bytes) → Judged (file s) out (LayoutAnswer·is.Refused r)
+unfolding file
+file-long s h r e out = refused-judged (file s) out r (rw (lt-leb (length s) mostBytes h, file, e))
+
+module _ (s : Bytes) (x : HeaderStep) (read : headerOf x ≡ header s) where
+  module _ (few : length s ≤ mostBytes) (out : Bytes) where
+    -- the header is refused
+    pub header-refused : (r : Refusal) → x ≡ HeaderStep·is.Refused r → Judged (file s) out (LayoutAnswer·is.Refused r)
+    unfolding headerOf
+    header-refused r e = step-refused (file s) (header s) (behindHeader s) (file-begins s few) out r (sym read ∙ ap headerOf e)
+
+    -- the header is read
+    pub header-read : (h : Header) → x ≡ HeaderStep·is.Read h → (a : LayoutAnswer) → Judged (behindHeader s h) out a → Judged (file s) out a
+    unfolding headerOf
+    header-read h e = step-accepted (file s) (header s) (behindHeader s) (file-begins s few) out h (sym read ∙ ap headerOf e)
+
+  -- it ends inside
+  pub header-inside : (h : Header) → x ≡ HeaderStep·is.Read h → h .end .0 ≤ length s
+  unfolding headerOf
+  header-inside h e = header-bounds s h (sym read ∙ ap headerOf e)
+
+module _ (s : Bytes) (h : Header) (x : EndStep) (read : endOf x ≡ comments (h .end .0) (lines (drop (h .end .0) s))) where
+  -- the comments are refused
+  pub comments-refused : (out : Bytes) (r : Refusal) → x ≡ EndStep·is.Refused r → Judged (behindHeader s h) out (LayoutAnswer·is.Refused r)
+  unfolding endOf behindHeader
+  comments-refused out r e = step-refused (behindHeader s h) _ (behindComments s h) refl out r (sym read ∙ ap endOf e)
+
+  module _ (n : ℕ) (e : x ≡ EndStep·is.At n) where
+    -- the comments are read
+    pub comments-read : (out : Bytes) (a : LayoutAnswer) → Judged (behindComments s h n) out a → Judged (behindHeader s h) out a
+    unfolding endOf behindHeader
+    comments-read out = step-accepted (behindHeader s h) _ (behindComments s h) refl out n (sym read ∙ ap endOf e)
+
+    -- they end inside
+    pub comments-inside : h .end .0 ≤ length s → n ≤ length s
+    unfolding endOf
+    comments-inside q =
+        omega (arith, simp length-drop at (comments-bounds (h .end .0) (drop (h .end .0) s) n (sym read ∙ ap endOf e)))
+
+module _ (s : Bytes) (h : Header) (n : ℕ) (x : TreeStep) (read : treeOf x ≡ tree n s) where
+  -- the tree is refused
+  pub tree-refused : (out : Bytes) (r : Refusal) → x ≡ TreeStep·is.Refused r → Judged (behindComments s h n) out (LayoutAnswer·is.Refused r)
+  unfolding treeOf behindComments
+  tree-refused out r e = step-refused (behindComments s h n) _ (behindTree s h n) refl out r (sym read ∙ ap treeOf e)
+
+  module _ (t : Tree) (e : x ≡ TreeStep·is.Read t) where
+    -- the tree is read
+    pub tree-read : (out : Bytes) (a : LayoutAnswer) → Judged (behindTree s h n t) out a → Judged (behindComments s h n) out a
+    unfolding treeOf behindComments
+    tree-read out = step-accepted (behindComments s h n) _ (behindTree s h n) refl out t (sym read ∙ ap treeOf e)
+
+    -- the blocks begin inside
+    pub tree-inside : n ≤ length s → firstBlock n t ≤ length s
+    unfolding treeOf
+    tree-inside q = omega (arith, first-block-bounds n s t q (sym read ∙ ap treeOf e))
+
+module _ (s : Bytes) (h : Header) (n : ℕ) (t : Tree) where
+  module _ (x y m : Offset) (e : t ≡ Found x y m) where
+    -- the blocks begin behind the tree's room
+    pub blocks-behind : (out : Bytes) (a : LayoutAnswer) → Judged (withBlocks s h n (Found x y m) (m .0)) out a → Judged (behindTree s h n t) out a
+    unfolding behindTree goesOn firstBlock
+    blocks-behind out a j = rw e j
+
+    -- the room ends inside
+    pub room-inside : firstBlock n t ≤ length s → m .0 ≤ length s
+    unfolding firstBlock
+    room-inside q = rw e at q
+
+  module _ (e : t ≡ NoTree) (b : Bool) (goes : b ≡ goesOn NoTree (drop n s)) (out : Bytes) where
+    -- something else stands where no tree begins
+    pub blocks-none : not b ≡ true → (r : Refusal) → r ≡ refusal 7 n → Judged (behindTree s h n t) out (LayoutAnswer·is.Refused r)
+    unfolding behindTree
+    blocks-none q r i = refused-judged _ out r (rw (e, behindTree, sym goes ∙ not-true b q, i))
+
+    -- the blocks begin there, or the file ends
+    pub blocks-here : not b ≡ false → (a : LayoutAnswer) → Judged (withBlocks s h n t n) out a → Judged (behindTree s h n t) out a
+    unfolding behindTree firstBlock
+    blocks-here q a j = rw (e, behindTree, sym goes ∙ not-false b q) (rw e at j)
+
+  -- the comments end inside
+  pub here-inside : t ≡ NoTree → firstBlock n t ≤ length s → n ≤ length s
+  unfolding firstBlock
+  here-inside e q = rw e at q
+
+-- the file ends
+pub goes-end : (s : Bytes) (at : ℕ) → length s ≤ at → true ≡ goesOn NoTree (drop at s)
+unfolding goesOn
+goes-end s at h = rw (drop-of-length-le s h)
+
+-- a block is to begin
+pub goes-mark : (s : Bytes) (at : ℕ) → at < length s → (b : Bool) → b ≡ begins mark (drop at s) → b ≡ goesOn NoTree (drop at s)
+unfolding goesOn
+goes-mark s at h b e = rw (drop-cons s at 0 h) (rw (drop-cons s at 0 h) at e)
+
+module _ (s : Bytes) (h : Header) (n : ℕ) (t : Tree) (first : ℕ) (out : Bytes) where
+  -- the chain c was walked, and v is the verdict on its tail
+  chain-judged : (c : Chain) (k : ℕ) → Chained (chain mostBlocks 0 first (drop first s)) out k c → (v : Verdict) → v ≡ verdict (offsets (c .blocks)) (c .tail)
+      → (l : Layout) → l ≡ layoutWith h n t k v → Judged (withBlocks s h n t first) out (LayoutAnswer·is.Accepted l)
+  unfolding withBlocks layoutOf
+  chain-judged c k w v q l e = accepted-judged _ out l (fileWith h n t c) (rw (w .is, withBlocks)) (rw (e, w .count, q)) (rw (w .count) (w .kept))
+
+  module _ (x : ChainStep) (walked : Walked s (chain mostBlocks 0 first (drop first s)) out x) where
+    -- the chain is refused
+    pub walk-refused : (r : Refusal) → x ≡ ChainStep·is.Refused r → Judged (withBlocks s h n t first) out (LayoutAnswer·is.Refused r)
+    unfolding withBlocks
+    walk-refused r e = step-refused (withBlocks s h n t first) (chain mostBlocks 0 first (drop first s)) _ refl out r (rw e at walked)
+
+    module _ (k : ℕ) (e : x ≡ ChainStep·is.Walked k) where
+      -- the walk ended at zeros, or at the end
+      walked-alone : WalkedAlone (chain mostBlocks 0 first (drop first s)) out k
+      walked-alone = rw e at walked
+
+      -- few blocks were walked
+      pub alone-few : k ≤ 64
+      alone-few = walked-alone .chained .few
+
+      -- no index stands behind the blocks
+      pub alone-judged : (l : Layout) → l ≡ layoutWith h n t k Absent → Judged (withBlocks s h n t first) out (LayoutAnswer·is.Accepted l)
+      unfolding verdict
+      alone-judged = let w = walked-alone in chain-judged (w .c) k (w .chained) Absent (rw (verdict, w .zeros))
+
+    module _ (k m : ℕ) (e : x ≡ ChainStep·is.Indexed k m) where
+      -- the walk ended at what begins like an index
+      walked-to : WalkedTo s (chain mostBlocks 0 first (drop first s)) out k m
+      walked-to = rw e at walked
+
+      -- few blocks were walked
+      pub to-few : k ≤ 64
+      to-few = walked-to .chained .few
+
+      -- where they begin is kept
+      pub to-kept : k ≤ length out
+      to-kept = enough-kept out k (walked-to .c .blocks) (walked-to .chained .count) (walked-to .chained .kept)
+
+      -- the tail begins inside
+      pub to-inside : m ≤ length s
+      to-inside = walked-to .inside
+
+      -- the tail is judged
+      pub to-judged : (v : Verdict) → v ≡ judged (take k out) (indexed (lines (take (length s - m) (drop m s))))
+          → (l : Layout) → l ≡ layoutWith h n t k v → Judged (withBlocks s h n t first) out (LayoutAnswer·is.Accepted l)
+      unfolding verdict
+      to-judged v q =
+          let w = walked-to in
+          chain-judged (w .c) k (w .chained) v (q ∙ rw (part-all s m, verdict, w .zeros, w .chained .kept, w .tail))
+
+module _ (s out : Bytes) (a : LayoutAnswer) (judged : Judged (file s) out a) where
+  -- the answer is the layout
+  pub layout-judged : layoutAnswer a ≡ layout s
+  unfolding layout
+  layout-judged = judged .is
+
+  -- a refused file has no blocks
+  pub block-refused : (j : ℕ) (r : Refusal) → a ≡ LayoutAnswer·is.Refused r → blockAnswer (BlockAnswer·is.Refused r) ≡ blockAt s j
+  unfolding layoutAnswer blockAnswer blockAt
+  block-refused j r e = go (file s) refl
+    where
+      go : (o : Outcome File) → file s ≡ o → refused r ≡ _>>=_ o (λ f. accepted (getElem? (f .blocks) j))
+      go (accepted f) h = let clash = sym (ap layoutAnswer e) ∙ rw h at (judged .is) in cc
+      go (refused q) h = let same : _≡_ {A = Outcome Layout} (refused r) (refused q) = sym (ap layoutAnswer e) ∙ rw h at (judged .is) in cc
+
+  -- the blocks of an accepted file begin where it is kept
+  pub blocks-kept : (l : Layout) → a ≡ LayoutAnswer·is.Accepted l → Kept s out (l .blocks)
+  unfolding layoutAnswer layoutOf
+  blocks-kept l e = go (file s) refl
+    where
+      go : (o : Outcome File) → file s ≡ o → Kept s out (l .blocks)
+      go (accepted f) h =
+          let same : accepted l ≡ accepted (layoutOf f) = sym (ap layoutAnswer e) ∙ rw h at (judged .is) in
+          let count : length (f .blocks) ≡ l .blocks = cc in
+          record { f = f; is = h; count = count; begin = rw count at (judged .kept f h) }
+      go (refused q) h =
+          let clash : accepted l ≡ refused q = sym (ap layoutAnswer e) ∙ rw h at (judged .is) in
+          let z : _≡_ {A = ℕ} 0 1 = cc in
+          absurd (omega arith)

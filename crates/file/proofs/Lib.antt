@@ -1,0 +1,14 @@
+-- Laws that the proofs of the steps cite.
+pub mod PartLaws
+pub mod SplitLaws
+pub mod HeaderLaws
+pub mod CommentsLaws
+pub mod TreeLaws
+pub mod BlockLaws
+pub mod ChainLaws
+pub mod TrimLaws
+pub mod ListLaws
+pub mod BracketLaws
+pub mod IndexLaws
+pub mod KeptLaws
+pub mod LayoutLaws

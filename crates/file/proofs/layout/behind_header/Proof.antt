@@ -1,0 +1,16 @@
+-- What the comments' step refuses is refused, and what it accepts is handed on.
+use borrow.Author.Needs.{needs}
+use Rattle.file.proofs.LayoutLaws.{comments-inside, comments-refused, comments-read}
+use Rattle.file.proofs.layout.behind_header.Statement.{statement}
+use Rattle.file.proofs.layout.behind_header.Tie as tie
+
+pub behind-header-spec : {M : Type 1} → statement M
+behind-header-spec =
+    tie.close
+    (tie.spec
+    (λ c κs. search needs)
+    (λ c. search needs)
+    (λ c. search needs)
+    (λ c κs. search (comments-inside, needs))
+    (λ c. search (comments-refused, needs))
+    (λ c. search (comments-read, needs)))

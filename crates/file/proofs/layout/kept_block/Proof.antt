@@ -1,0 +1,22 @@
+-- The block of a kept offset is the one that is read there.
+use borrow.Author.Needs.{needs}
+use Rattle.file.proofs.KeptLaws.{kept-none, kept-room, kept-inside, kept-found, kept-refused}
+use Rattle.file.proofs.layout.kept_block.Statement.{statement}
+use Rattle.file.proofs.layout.kept_block.Tie as tie
+
+pub kept-block-spec : {M : Type 1} → statement M
+kept-block-spec =
+    tie.close
+    (tie.spec
+    (λ c. search (kept-none, needs))
+    (λ c. search needs)
+    (λ c. search (kept-room, needs))
+    (λ c. search (kept-inside, needs))
+    (λ c. search (kept-inside, needs))
+    (λ c. search needs)
+    (λ c. search needs)
+    (λ c κs. search needs)
+    (λ c. search needs)
+    (λ c. search needs)
+    (λ c. search (kept-found, needs))
+    (λ c. search (kept-refused, needs)))

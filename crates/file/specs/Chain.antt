@@ -1,0 +1,71 @@
+-- What stands where a block may begin, and what a walk along the chain finds.
+use Prim.Native.Nat.{ℕ, _+_, _-_, _≤_, _<_}
+use mathlib.Core.Path.{_≡_}
+use mathlib.Core.Bool.{Bool, true, false}
+use mathlib.Core.List.{[]}
+use lib.ListN.{length, take, drop}
+use Rattle.format.specs.declared.block.Block.{Block}
+use Rattle.format.specs.Bytes.{Bytes, allZero}
+use Rattle.format.specs.Outcome.{Outcome, accepted, refused, _>>=_}
+use Rattle.format.specs.Block.{isStreamed}
+use Rattle.format.specs.Chain.{Chain, mostBlocks, extent, ended, linked, chain}
+use Rattle.format.specs.File.{offsets}
+use Rattle.file.specs.declared.step.LinkStep.{LinkStep}
+use Rattle.file.specs.declared.step.LinkStep.the-variants as LinkStep·is
+use Rattle.file.specs.declared.step.ChainStep.{ChainStep}
+use Rattle.file.specs.declared.step.ChainStep.the-variants as ChainStep·is
+
+-- the chain from offset n of the file s on, where block i may begin
+abbrev pub onward : Bytes → ℕ → ℕ → Outcome Chain
+onward s i n = chain (mostBlocks - i) i n (drop n s)
+
+-- no block begins there, but the tail, which is zeros only or not
+pub record TailBegins (s : Bytes) (i n : ℕ) (zeros : Bool) : Type 0 where
+  pub is : onward s i n ≡ accepted (ended (drop n s))
+  pub tail : allZero (drop n s) ≡ zeros
+
+-- a block begins there, and the chain o behind it
+pub record BlockBegins (s : Bytes) (i n : ℕ) (o : Outcome Chain) : Type 0 where
+  pub first : Block
+  pub is : onward s i n ≡ _>>=_ o (λ c. accepted (linked first c))
+  pub at : first .at .0 ≡ n
+  pub few : i < mostBlocks
+
+-- what an answer says of the chain from there on
+abbrev pub LinkIs : Bytes → ℕ → ℕ → LinkStep → Type 0
+LinkIs s i n (LinkStep·is.Block e) = BlockBegins s i n (onward s (i + 1) (n + e)) × (n + e ≤ length s)
+LinkIs s i n LinkStep·is.Streamed = BlockBegins s i n (accepted (ended []))
+LinkIs s i n LinkStep·is.Zeros = TailBegins s i n true
+LinkIs s i n LinkStep·is.Index = TailBegins s i n false
+LinkIs s i n (LinkStep·is.Refused r) = onward s i n ≡ refused r
+
+-- how a block leads on
+unfoldable pub blockLink : Block → LinkStep
+blockLink b = elim (isStreamed (b .flags)) [ true ↦ LinkStep·is.Streamed | false ↦ LinkStep·is.Block (extent b) ]
+
+-- the chain c of k blocks was walked, and the first k of out are where they begin
+pub record Chained (o : Outcome Chain) (out : Bytes) (k : ℕ) (c : Chain) : Type 0 where
+  pub is : o ≡ accepted c
+  pub count : length (c .blocks) ≡ k
+  pub few : k ≤ mostBlocks
+  pub kept : take k out ≡ offsets (c .blocks)
+
+-- a chain was walked behind which no index stands
+pub record WalkedAlone (o : Outcome Chain) (out : Bytes) (k : ℕ) : Type 0 where
+  pub c : Chain
+  pub chained : Chained o out k c
+  pub zeros : allZero (c .tail) ≡ true
+
+-- a chain was walked behind which, at offset n, stands what begins like one
+pub record WalkedTo (s : Bytes) (o : Outcome Chain) (out : Bytes) (k n : ℕ) : Type 0 where
+  pub c : Chain
+  pub chained : Chained o out k c
+  pub zeros : allZero (c .tail) ≡ false
+  pub tail : c .tail ≡ drop n s
+  pub inside : n ≤ length s
+
+-- what a walk of the file s answers whose outcome is o, where out is what it kept
+abbrev pub Walked : Bytes → Outcome Chain → Bytes → ChainStep → Type 0
+Walked s o out (ChainStep·is.Refused r) = o ≡ refused r
+Walked s o out (ChainStep·is.Walked k) = WalkedAlone o out k
+Walked s o out (ChainStep·is.Indexed k n) = WalkedTo s o out k n

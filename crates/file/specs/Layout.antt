@@ -1,0 +1,62 @@
+-- The steps of reading a file, each with what comes behind it.
+use Prim.Native.Nat.{ℕ}
+use mathlib.Core.Path.{_≡_}
+use lib.ListN.{length, take, drop}
+use Rattle.format.specs.declared.answer.LayoutAnswer.{LayoutAnswer}
+use Rattle.format.specs.declared.layout.Header.{Header}
+use Rattle.format.specs.declared.layout.Tree.{Tree}
+use Rattle.format.specs.declared.layout.Verdict.{Verdict}
+use Rattle.format.specs.declared.layout.Layout.{Layout}
+use Rattle.format.specs.Bytes.{Bytes}
+use Rattle.format.specs.Outcome.{Outcome, accepted, need, _>>=_, _>>_}
+use Rattle.format.specs.Line.{lines}
+use Rattle.format.specs.Comments.{comments}
+use Rattle.format.specs.Tree.{tree}
+use Rattle.format.specs.Chain.{Chain, chain, mostBlocks}
+use Rattle.format.specs.Index.{verdict}
+use Rattle.format.specs.File.{File, file, firstBlock, goesOn, offsets, layoutOf}
+use Rattle.format.specs.Answer.{layoutAnswer}
+
+-- the file that has these parts and this chain
+abbrev pub fileWith : Header → ℕ → Tree → Chain → File
+fileWith h n t c = record { header = h; commentsEnd = n; tree = t; blocks = c .blocks; verdict = verdict (offsets (c .blocks)) (c .tail) }
+
+-- the file from its first block on, which begins at an offset if there is one
+unfoldable pub withBlocks : Bytes → Header → ℕ → Tree → ℕ → Outcome File
+withBlocks s h n t first = do
+  c ← chain mostBlocks 0 first (drop first s)
+  accepted (fileWith h n t c)
+
+-- the file from behind its tree on
+unfoldable pub behindTree : Bytes → Header → ℕ → Tree → Outcome File
+behindTree s h n t = do
+  need (goesOn t (drop n s)) 7 n
+  withBlocks s h n t (firstBlock n t)
+
+-- the file from behind its comments on, which end at n
+unfoldable pub behindComments : Bytes → Header → ℕ → Outcome File
+behindComments s h n = do
+  t ← tree n s
+  behindTree s h n t
+
+-- the file from behind its header on
+unfoldable pub behindHeader : Bytes → Header → Outcome File
+behindHeader s h = do
+  n ← comments (h .end .0) (lines (drop (h .end .0) s))
+  behindComments s h n
+
+-- the layout that has these parts
+abbrev pub layoutWith : Header → ℕ → Tree → ℕ → Verdict → Layout
+layoutWith h n t blocks v = record { header = h; «comments_end» = record { 0 = n }; tree = t; blocks = blocks; verdict = v }
+
+-- r answers for the outcome o, and the first of out are where the blocks begin
+pub record Judged (o : Outcome File) (out : Bytes) (r : LayoutAnswer) : Type 0 where
+  pub is : layoutAnswer r ≡ _>>=_ o (λ f. accepted (layoutOf f))
+  pub kept : (f : File) → o ≡ accepted f → take (length (f .blocks)) out ≡ offsets (f .blocks)
+
+-- s is an accepted file of so many blocks, which begin at the first of out
+pub record Kept (s : Bytes) (out : Bytes) (blocks : ℕ) : Type 0 where
+  pub f : File
+  pub is : file s ≡ accepted f
+  pub count : length (f .blocks) ≡ blocks
+  pub begin : take blocks out ≡ offsets (f .blocks)

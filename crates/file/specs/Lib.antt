@@ -1,0 +1,6 @@
+-- What the contracts of the steps cite.
+pub mod Step
+pub mod Block
+pub mod Chain
+pub mod Index
+pub mod Layout

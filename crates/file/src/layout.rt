@@ -1,0 +1,164 @@
+// The layout of a file, front to back.
+ghost use mathlib.Core.Path.{_≡_};
+ghost use Rattle.format.specs.Answer.{layoutAnswer, blockAnswer};
+ghost use Prim.Native.Nat.{_≤_};
+ghost use lib.ListN.{length, drop};
+ghost use Rattle.format.specs.File.{file, layout, blockAt, firstBlock, goesOn};
+ghost use Rattle.format.specs.declared.layout.Tree.the-variants.{NoTree};
+ghost use Rattle.file.specs.Layout.{behindHeader, behindComments, behindTree, withBlocks, layoutWith, Judged, Kept};
+use crate::block::BlockStep;
+use crate::block::read_block;
+use crate::chain;
+use crate::comments;
+use crate::header;
+use crate::index;
+use crate::step::ChainStep;
+use crate::step::EndStep;
+use crate::step::HeaderStep;
+use crate::step::TreeStep;
+use crate::step::refusal;
+use crate::tree;
+use format::answer::BlockAnswer;
+use format::answer::LayoutAnswer;
+use format::layout::Header;
+use format::layout::Layout;
+use format::layout::Tree;
+use format::layout::Verdict;
+use format::offset::Offset;
+use scan::mark;
+
+// The layout of a file, or its refusal.
+pub fn read(s: &[u8]) -> LayoutAnswer
+    ensures { λ r. ⌜ layoutAnswer r ≡ layout (now (s .entry)) ⌝ }
+{
+    let mut offsets = [0u64; 64];
+    judge(s, &mut offsets)
+}
+
+// The block of this ordinal in the file, that there is none, or the file's refusal.
+pub fn block(s: &[u8], ordinal: u64) -> BlockAnswer
+    ensures { λ r. ⌜ blockAnswer r ≡ blockAt (now (s .entry)) ordinal ⌝ }
+{
+    let mut offsets = [0u64; 64];
+    match judge(s, &mut offsets) {
+        LayoutAnswer::Refused(r) => BlockAnswer::Refused(r),
+        LayoutAnswer::Accepted(l) => kept_block(s, offsets, l.blocks, ordinal),
+    }
+}
+
+// The block of this ordinal, of an accepted file with so many blocks that begin at these offsets.
+fn kept_block(s: &[u8], offsets: [u64; 64], blocks: u8, ordinal: u64) -> BlockAnswer
+    requires { ⌜ Kept (now s) offsets blocks ⌝ }
+    ensures { λ r. ⌜ blockAnswer r ≡ blockAt (now (s .entry)) ordinal ⌝ }
+{
+    if blocks as u64 <= ordinal {
+        return BlockAnswer::NoSuchBlock;
+    }
+    let at = offsets[ordinal as usize] as usize;
+    match read_block(&s[at..], ordinal as u8, at) {
+        BlockStep::Read(b) => BlockAnswer::Found(b),
+        BlockStep::Refused(r) => BlockAnswer::Refused(r),
+    }
+}
+
+// Reads the whole layout, and keeps where each block begins.
+fn judge(s: &[u8], offsets: &mut [u64; 64]) -> LayoutAnswer
+    ensures { λ r. ⌜ Judged (file (now (s .entry))) (now (offsets .exit)) r ⌝ }
+{
+    if 4294967295 < s.len() {
+        return LayoutAnswer::Refused(refusal(1, 0));
+    }
+    match header::read_header(s) {
+        HeaderStep::Refused(r) => LayoutAnswer::Refused(r),
+        HeaderStep::Read(h) => behind_header(s, h, offsets),
+    }
+}
+
+fn behind_header(s: &[u8], h: Header, offsets: &mut [u64; 64]) -> LayoutAnswer
+    requires { ⌜ h .end .0 ≤ length (now s) ⌝ }
+    ensures { λ r. ⌜ Judged (behindHeader (now (s .entry)) h) (now (offsets .exit)) r ⌝ }
+{
+    match comments::comments_end(s, h.end.0 as usize) {
+        EndStep::Refused(r) => LayoutAnswer::Refused(r),
+        EndStep::At(n) => behind_comments(s, h, n, offsets),
+    }
+}
+
+fn behind_comments(s: &[u8], h: Header, n: usize, offsets: &mut [u64; 64]) -> LayoutAnswer
+    requires { ⌜ n ≤ length (now s) ⌝ }
+    ensures { λ r. ⌜ Judged (behindComments (now (s .entry)) h n) (now (offsets .exit)) r ⌝ }
+{
+    match tree::read_tree(s, n) {
+        TreeStep::Refused(r) => LayoutAnswer::Refused(r),
+        TreeStep::Read(t) => behind_tree(s, h, n, t, offsets),
+    }
+}
+
+fn behind_tree(s: &[u8], h: Header, n: usize, t: Tree, offsets: &mut [u64; 64]) -> LayoutAnswer
+    requires { ⌜ firstBlock n t ≤ length (now s) ⌝ }
+    ensures { λ r. ⌜ Judged (behindTree (now (s .entry)) h n t) (now (offsets .exit)) r ⌝ }
+{
+    match t {
+        Tree::Found {
+            start: _,
+            end: _,
+            room_end,
+        } => with_blocks(s, h, n, t, room_end.0 as usize, offsets),
+        Tree::NoTree => {
+            if !goes_on(s, n) {
+                return LayoutAnswer::Refused(refusal(7, n));
+            }
+            with_blocks(s, h, n, t, n, offsets)
+        }
+    }
+}
+
+// Whether the file ends at an offset, or a block begins there.
+fn goes_on(s: &[u8], at: usize) -> bool
+    ensures { λ r. ⌜ r ≡ goesOn NoTree (drop at (now (s .entry))) ⌝ }
+{
+    if s.len() <= at {
+        return true;
+    }
+    mark::is_mark(s, at)
+}
+
+fn with_blocks(
+    s: &[u8],
+    h: Header,
+    n: usize,
+    t: Tree,
+    first: usize,
+    offsets: &mut [u64; 64],
+) -> LayoutAnswer
+    requires { ⌜ first ≤ length (now s) ⌝ }
+    ensures { λ r. ⌜ Judged (withBlocks (now (s .entry)) h n t first) (now (offsets .exit)) r ⌝ }
+{
+    match chain::walk(s, first, offsets) {
+        ChainStep::Refused(r) => LayoutAnswer::Refused(r),
+        ChainStep::Walked(blocks) => LayoutAnswer::Accepted(layout_with(
+            h,
+            n,
+            t,
+            blocks,
+            Verdict::Absent,
+        )),
+        ChainStep::Indexed { blocks, tail } => {
+            let v = index::verdict(&s[tail..], offsets, blocks);
+            LayoutAnswer::Accepted(layout_with(h, n, t, blocks, v))
+        }
+    }
+}
+
+fn layout_with(h: Header, n: usize, t: Tree, blocks: usize, v: Verdict) -> Layout
+    requires { ⌜ blocks ≤ 64 ⌝ }
+    ensures { λ r. ⌜ r ≡ layoutWith h n t blocks v ⌝ }
+{
+    Layout {
+        header: h,
+        comments_end: Offset(n as u64),
+        tree: t,
+        blocks: blocks as u8,
+        verdict: v,
+    }
+}

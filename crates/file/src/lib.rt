@@ -1,0 +1,9 @@
+// One file by itself: its layout, and its blocks one by one.
+pub mod block;
+mod chain;
+mod comments;
+mod header;
+mod index;
+pub mod layout;
+mod step;
+mod tree;

@@ -1,0 +1,66 @@
+// What the steps of reading a file answer one another.
+ghost use mathlib.Core.Path.{_≡_};
+ghost use Rattle.format.specs.Outcome.{refusal as Outcome·refusal};
+use format::layout::Header;
+use format::layout::Tree;
+use format::layout::Version;
+use format::offset::Offset;
+use format::refusal::Refusal;
+
+pub enum VersionStep {
+    Read(Version),
+    Malformed,
+}
+
+pub enum HeaderStep {
+    Read(Header),
+    Refused(Refusal),
+}
+
+// Where something ends.
+pub enum EndStep {
+    At(usize),
+    Refused(Refusal),
+}
+
+pub enum TreeStep {
+    Read(Tree),
+    Refused(Refusal),
+}
+
+// What stands where a block may begin.
+pub enum LinkStep {
+    // A block whose allocated space ends so far from its first byte.
+    Block(usize),
+    // A block that reaches to the end of the file.
+    Streamed,
+    // No block: nothing, or zero bytes only.
+    Zeros,
+    // No block, but what begins like an index.
+    Index,
+    Refused(Refusal),
+}
+
+// A chain of so many blocks.
+pub enum ChainStep {
+    // No index stands behind it.
+    Walked(usize),
+    // What begins like an index stands behind it, from `tail` on.
+    Indexed { blocks: usize, tail: usize },
+    Refused(Refusal),
+}
+
+// Where the list of an index stands.
+pub enum ListStep {
+    Between { from: usize, to: usize },
+    Nowhere,
+}
+
+pub(crate) fn refusal(number: u8, place: usize) -> Refusal
+    ensures { λ r. ⌜ r ≡ Outcome·refusal number place ⌝ }
+{
+    Refusal {
+        number,
+        place: Offset(place as u64),
+    }
+}
