@@ -1,0 +1,2 @@
+-- Laws of buffers that bytes are put into.
+pub mod PutLaws

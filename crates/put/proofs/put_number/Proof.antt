@@ -1,0 +1,16 @@
+-- Where the bytes do not fit nothing changes, and where they fit they are put.
+use borrow.Author.Needs.{needs}
+use Rattle.put.proofs.PutLaws.{number-outside, number-long, number-placed}
+use Rattle.put.proofs.put_number.Statement.{statement}
+use Rattle.put.proofs.put_number.Tie as tie
+
+pub put-number-spec : {M : Type 1} → statement M
+put-number-spec =
+    tie.close
+    (tie.spec
+    (λ c. search (number-outside, needs))
+    (λ c. search needs)
+    (λ c. search (number-long, needs))
+    (λ c κs. search needs)
+    (λ c. search needs)
+    (λ c. search (number-placed, needs)))
