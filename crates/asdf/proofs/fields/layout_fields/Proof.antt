@@ -1,0 +1,21 @@
+-- The tree's four numbers stand among the layout's.
+use borrow.Author.Needs.{needs}
+use Rattle.asdf.proofs.FieldLaws.{layout-four}
+use Rattle.asdf.proofs.fields.layout_fields.Statement.{statement}
+use Rattle.asdf.proofs.fields.layout_fields.Tie as tie
+
+pub layout-fields-spec : {M : Type 1} → statement M
+layout-fields-spec =
+    tie.close
+    (tie.spec
+    (λ c κs. search needs)
+    (λ c. search needs)
+    (λ c. search needs)
+    (λ c. search needs)
+    (λ c. search needs)
+    (λ c. search needs)
+    (λ c. search needs)
+    (λ c. search needs)
+    (λ c. search needs)
+    (λ c κs. search needs)
+    (λ c. search (layout-four, needs)))

@@ -1,0 +1,32 @@
+// Answers as one number, and numbers in the lent buffer.
+ghost use mathlib.Core.Path.{_≡_};
+ghost use Rattle.format.specs.Outcome.{accepted, refused as Outcome·refused};
+ghost use Rattle.asdf.specs.Export.{Exported, numberBytes, word};
+use format::offset::Offset;
+use format::refusal::Refusal;
+
+// A refusal: its number in the top byte, and the place below.
+pub(crate) fn refused(r: Refusal) -> u64
+    ensures { λ w. ⌜ w ≡ word (Outcome·refused r) ⌝ }
+{
+    r.number as u64 * 72057594037927936 + r.place.0 % 72057594037927936
+}
+
+// Puts numbers at the buffer's start, each in eight bytes, and answers how many bytes that are; refuses a buffer that is too
+// short.
+pub(crate) fn put_numbers(out: &mut [u8], numbers: &[u64]) -> u64
+    ensures { λ r. ⌜ Exported (accepted (numberBytes (now (numbers .entry)))) (now (out .entry)) (now (out .exit)) r ⌝ }
+{
+    if out.len() / 8 < numbers.len() {
+        return refused(Refusal {
+            number: 21,
+            place: Offset(0),
+        });
+    }
+    let mut k = 0;
+    while k < numbers.len() {
+        put::put_number(out, 8 * k, 8, numbers[k]);
+        k += 1;
+    }
+    8 * k as u64
+}
