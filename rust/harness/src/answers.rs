@@ -3,6 +3,14 @@
 use crate::fields::HEADER_SIZE_COUNTS_FROM;
 use asdf_second::{read, records, Block, Layout, Record, Refusal, Tree, Verdict};
 
+/// The number that refuses a lent buffer.
+pub const BUFFER_TOO_SHORT: u8 = 21;
+
+/// A refusal that concerns the whole.
+pub fn of_whole(number: u8) -> Refusal {
+    Refusal { number, place: 0 }
+}
+
 /// What the second program says of a file.
 pub struct Answers {
     pub layout: Result<Layout, Refusal>,

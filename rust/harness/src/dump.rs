@@ -1,7 +1,8 @@
 //! Files and what the second program says of them, for a reader that runs elsewhere.
 
 use crate::corpus::numbered_file;
-use asdf_second::{read, Block, Layout, Tree, Verdict, PROGRAM_LIMIT};
+use crate::numbers::{block_numbers, layout_numbers};
+use asdf_second::{read, Block, Layout, PROGRAM_LIMIT};
 use std::fs::{create_dir_all, File};
 use std::io::{self, BufWriter, Write};
 use std::path::Path;
@@ -30,53 +31,26 @@ fn answer_text(file: &[u8]) -> String {
     }
 }
 
+/// A layout with its blocks; where there is no tree, one word stands for its numbers.
 fn layout_text(layout: &Layout) -> String {
-    let version = layout.version;
-    let blocks: String = layout.blocks.iter().map(block_text).collect();
-    format!(
-        "{} {} {} {} {} {}{} {} {blocks}nomore",
-        version.major,
-        version.minor,
-        version.patch,
-        layout.header_end.0,
-        layout.comments.end.0,
-        tree_text(layout.tree),
-        layout.blocks.len(),
-        verdict_number(layout.index),
-    )
-}
-
-fn tree_text(tree: Option<Tree>) -> String {
-    match tree {
+    let [front @ .., _, start, end, room_end, count, verdict] = layout_numbers(layout);
+    let tree = match layout.tree {
         None => "none ".to_string(),
-        Some(tree) => format!("{} {} {} ", tree.start.0, tree.end.0, tree.room_end.0),
-    }
+        Some(_) => words(&[start, end, room_end]),
+    };
+    let blocks: String = layout.blocks.iter().map(block_text).collect();
+    let (front, back) = (words(&front), words(&[count, verdict]));
+    format!("{front}{tree}{back}{blocks}nomore")
 }
 
-fn verdict_number(verdict: Verdict) -> u8 {
-    match verdict {
-        Verdict::Absent => 0,
-        Verdict::Good => 1,
-        Verdict::IgnoredForm => 2,
-        Verdict::IgnoredList => 3,
-    }
-}
-
+/// A block behind a bar.
 fn block_text(block: &Block) -> String {
-    let checksum = u128::from_be_bytes(block.checksum);
-    format!(
-        "| {} {} {} {} {} {} {} {} {} {} ",
-        block.ordinal,
-        block.offset.0,
-        block.header_size,
-        block.flags,
-        u32::from_be_bytes(block.compression),
-        block.allocated,
-        block.used,
-        block.data_size,
-        (checksum >> 64) as u64,
-        checksum as u64,
-    )
+    format!("| {}", words(&block_numbers(block)))
+}
+
+/// Numbers, each with a space behind it.
+fn words(numbers: &[u64]) -> String {
+    numbers.iter().map(|number| format!("{number} ")).collect()
 }
 
 #[cfg(test)]

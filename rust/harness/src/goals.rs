@@ -72,7 +72,7 @@ impl Goal {
     }
 }
 
-/// All goals. Number 1 is none of them: no file of a run is so long.
+/// All goals.
 pub fn goals() -> Vec<Goal> {
     [
         refusals(),
@@ -90,7 +90,7 @@ pub fn goals() -> Vec<Goal> {
 
 /// Each number that refuses a file.
 fn refusals() -> Vec<Goal> {
-    (2..=17)
+    (1..=17)
         .map(|number| Goal::of_refusal(format!("refused {number}"), number, |_, _| true))
         .collect()
 }

@@ -278,9 +278,9 @@ fn begins_like_file(file: &[u8], block: &Block, length: usize) -> bool {
     block.used as usize == length && file[content_start(block)..].starts_with(&FILE_BEGIN[..length])
 }
 
-/// Lengths around what the program takes.
+/// Lengths around what the program takes, and the greatest.
 fn length_limits() -> Vec<Goal> {
-    [65_535, 65_536, 65_537]
+    [65_535, 65_536, 65_537, 4_294_967_295]
         .map(|length| {
             Goal::of_file(format!("file of {length} bytes"), move |file, _| {
                 file.len() == length

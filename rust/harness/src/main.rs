@@ -1,35 +1,22 @@
-//! Generates test files and checks what is said of them.
+//! The command: generates test files and compares what is said of them.
 
 #![deny(unsafe_code)]
 
-mod answers;
-mod corpus;
-mod coverage;
-mod dump;
-mod fields;
-mod generate;
-mod goals;
-mod limits;
-mod mutate;
-mod rng;
-mod run;
-mod self_check;
-
+use asdf_harness::run::{DEFAULT_COUNT, DEFAULT_SEED};
+use asdf_harness::{dump, run};
 use std::env::args;
 use std::io;
 use std::path::Path;
 use std::process::ExitCode;
 
-const DEFAULT_SEED: u64 = 1;
-const DEFAULT_COUNT: u64 = 100_000;
-
 const USAGE: &str = "\
 usage: asdf-harness [SEED] [COUNT]
        asdf-harness --dump SEED COUNT DIR
 
-The first form generates COUNT files (100,000 if it is not said), checks what is said of
-each, and prints what they reached. The status is 1 if a check fails or something was never
-reached; the first 20 failing files are written as build/failing/SEED-NUMBER.asdf.
+The first form generates COUNT files (100,000 if it is not said), compares what the proved
+functions and the second program say of each, and prints what they reached. A few sparse
+files at the limit of 4 GiB are compared too. The status is 1 if something differs or was
+never reached; the first 20 failing files are written as build/failing/SEED-NUMBER.asdf.
 
 The second form writes the files to DIR/in, each behind its length in 8 bytes, and what the
 second program says of each as a line of DIR/out; files above 65,536 bytes are left out.

@@ -1,19 +1,22 @@
-//! A run: generates files, checks each, and tells what they reached.
+//! A run: generates files, compares what is said of each, and tells what they reached.
 
 use crate::answers::Answers;
+use crate::calls::Calls;
+use crate::compare::compare;
 use crate::corpus::numbered_file;
 use crate::coverage::Coverage;
+use crate::long_files::{long_files, LongFile};
+use crate::same::same;
 use crate::self_check;
 use std::fs;
 use std::io;
-use std::panic::{catch_unwind, UnwindSafe};
+use std::panic::{catch_unwind, AssertUnwindSafe};
 use std::path::Path;
 
-/// Says what is wrong with what is said of a file, if anything.
-type Check = fn(&[u8], &Answers) -> Result<(), String>;
-
-/// What each file is put through.
-const CHECKS: &[Check] = &[self_check::check];
+/// The seed of a run for which none is said.
+pub const DEFAULT_SEED: u64 = 1;
+/// The number of files of a run for which none is said.
+pub const DEFAULT_COUNT: u64 = 100_000;
 
 /// Where failing files are written.
 const FAILING: &str = "build/failing";
@@ -25,6 +28,7 @@ const LONGEST_REASON: usize = 600;
 /// What came of a run.
 struct Outcome {
     coverage: Coverage,
+    calls: Calls,
     bytes: u64,
     longest: usize,
     failures: u64,
@@ -34,8 +38,8 @@ struct Outcome {
 pub fn run(seed: u64, count: u64) -> io::Result<bool> {
     println!("seed {seed}, {count} files");
     let outcome = check_files(seed, count)?;
-    let missing = outcome.coverage.missing();
-    print!("{}", outcome.coverage);
+    let missing = outcome.missing();
+    print!("{}{}", outcome.coverage, outcome.calls);
     println!("{} bytes, longest file {}", outcome.bytes, outcome.longest);
     for name in &missing {
         println!("never reached: {name}");
@@ -48,19 +52,18 @@ pub fn run(seed: u64, count: u64) -> io::Result<bool> {
     Ok(outcome.failures == 0 && missing.is_empty())
 }
 
-/// Generates and checks files.
+/// Checks the long files, then generates and checks others.
 fn check_files(seed: u64, count: u64) -> io::Result<Outcome> {
-    let mut outcome = Outcome {
-        coverage: Coverage::new(),
-        bytes: 0,
-        longest: 0,
-        failures: 0,
-    };
+    let mut outcome = Outcome::new();
+    for long in long_files()? {
+        if let Err(reason) = outcome.check_long_file(&long) {
+            outcome.failures += 1;
+            println!("{}: {reason:.LONGEST_REASON$}", long.name);
+        }
+    }
     for number in 0..count {
         let file = numbered_file(seed, number);
-        outcome.bytes += file.len() as u64;
-        outcome.longest = outcome.longest.max(file.len());
-        if let Err(reason) = check_file(&file, &mut outcome.coverage) {
+        if let Err(reason) = outcome.check_file(&file) {
             outcome.failures += 1;
             if outcome.failures <= MOST_TOLD {
                 report(seed, number, &file, &reason)?;
@@ -70,18 +73,51 @@ fn check_files(seed: u64, count: u64) -> io::Result<Outcome> {
     Ok(outcome)
 }
 
-/// Counts what a file reaches and puts it through the checks.
-fn check_file(file: &[u8], coverage: &mut Coverage) -> Result<(), String> {
-    let answers = without_panic(|| Answers::to(file))?;
-    coverage.count(file, &answers);
-    CHECKS
-        .iter()
-        .try_for_each(|check| without_panic(|| check(file, &answers))?)
+impl Outcome {
+    /// Nothing came of a run yet.
+    fn new() -> Outcome {
+        Outcome {
+            coverage: Coverage::new(),
+            calls: Calls::new(),
+            bytes: 0,
+            longest: 0,
+            failures: 0,
+        }
+    }
+
+    /// What was never reached.
+    fn missing(&self) -> Vec<String> {
+        [self.coverage.missing(), self.calls.missing()].concat()
+    }
+
+    /// Puts a generated file through all checks.
+    fn check_file(&mut self, file: &[u8]) -> Result<(), String> {
+        self.bytes += file.len() as u64;
+        self.longest = self.longest.max(file.len());
+        let lent = file.to_vec();
+        let answers = self.compare_file(&lent)?;
+        same("the file after all calls", &lent[..], file)?;
+        without_panic(|| self_check::check(file, &answers))?
+    }
+
+    /// Compares a long file, and what is said of it with what is told by hand.
+    fn check_long_file(&mut self, long: &LongFile) -> Result<(), String> {
+        let answers = self.compare_file(&long.file)?;
+        long.check(&answers)
+    }
+
+    /// Counts what a file reaches, and compares what is said of it.
+    fn compare_file(&mut self, file: &[u8]) -> Result<Answers, String> {
+        let answers = without_panic(|| Answers::to(file))?;
+        self.coverage.count(file, &answers);
+        without_panic(|| compare(file, &answers, &mut self.calls))??;
+        Ok(answers)
+    }
 }
 
 /// What the work gives; a panic fails only the file at hand.
-fn without_panic<T>(work: impl FnOnce() -> T + UnwindSafe) -> Result<T, String> {
-    catch_unwind(work).map_err(|_| "a panic".to_string())
+fn without_panic<T>(work: impl FnOnce() -> T) -> Result<T, String> {
+    catch_unwind(AssertUnwindSafe(work)).map_err(|_| "a panic".to_string())
 }
 
 /// Writes a failing file and tells of it.
@@ -96,12 +132,11 @@ fn report(seed: u64, number: u64, file: &[u8], reason: &str) -> io::Result<()> {
 #[cfg(test)]
 mod tests {
     use super::*;
-    use crate::{DEFAULT_COUNT, DEFAULT_SEED};
 
     #[test]
     fn default_run_reaches_everything_and_nothing_fails() -> io::Result<()> {
         let outcome = check_files(DEFAULT_SEED, DEFAULT_COUNT / 4)?;
-        assert_eq!(outcome.coverage.missing(), [""; 0]);
+        assert_eq!(outcome.missing(), [""; 0]);
         assert_eq!(outcome.failures, 0);
         Ok(())
     }

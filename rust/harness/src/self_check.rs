@@ -1,16 +1,15 @@
 //! Whether the second program's answers to a file fit together.
 
-use crate::answers::Answers;
+use crate::answers::{of_whole, Answers, BUFFER_TOO_SHORT};
+use crate::same::same;
 use asdf_second::{
     edit, listing, most_rows, outline, read, read_outline, records, rewrite_outline, row_count,
     rows, write_index, Block, Layout, Record, Refusal, Row, Tree, Verdict, LONGEST_INDEX,
     PROGRAM_LIMIT, ROW_LENGTH,
 };
-use std::fmt::Debug;
 
 const EDIT_WITHOUT_TREE: u8 = 18;
 const TEXT_LONGER_THAN_ROOM: u8 = 20;
-const BUFFER_TOO_SHORT: u8 = 21;
 const NO_INDEX_POSSIBLE: u8 = 22;
 
 /// What a lent buffer holds before it is written to.
@@ -33,20 +32,6 @@ pub fn check(file: &[u8], answers: &Answers) -> Result<(), String> {
     check_index(file, answers)?;
     check_listing(file, answers)?;
     check_edits(file, answers)
-}
-
-/// Fails where two things that have to be the same are not.
-fn same<T: PartialEq + Debug>(what: &str, found: T, expected: T) -> Result<(), String> {
-    if found == expected {
-        Ok(())
-    } else {
-        Err(format!("{what}: {found:?} instead of {expected:?}"))
-    }
-}
-
-/// A refusal that concerns the whole.
-fn of_whole(number: u8) -> Refusal {
-    Refusal { number, place: 0 }
 }
 
 /// Layout and records refuse the same files and report the same blocks.

@@ -1,0 +1,172 @@
+//! The proved functions, and what is taken from libc: the only unsafe code of the harness.
+
+#![allow(unsafe_code)]
+
+use std::ffi::{c_int, c_void};
+use std::io;
+use std::ops::Deref;
+use std::ptr::null_mut;
+use std::slice;
+
+extern "C" {
+    fn asdf_read(file: *const u8, file_len: usize, out: *mut u8, out_len: usize) -> u64;
+    fn asdf_block(
+        file: *const u8,
+        file_len: usize,
+        ordinal: u64,
+        out: *mut u8,
+        out_len: usize,
+    ) -> u64;
+}
+
+extern "C" {
+    fn mmap(
+        address: *mut c_void,
+        length: usize,
+        protection: c_int,
+        flags: c_int,
+        file: c_int,
+        offset: i64,
+    ) -> *mut c_void;
+    fn mprotect(address: *mut c_void, length: usize, protection: c_int) -> c_int;
+    fn munmap(address: *mut c_void, length: usize) -> c_int;
+    fn memchr(bytes: *const c_void, byte: c_int, length: usize) -> *mut c_void;
+    fn memmem(
+        bytes: *const c_void,
+        length: usize,
+        wanted: *const c_void,
+        wanted_length: usize,
+    ) -> *mut c_void;
+}
+
+const PROT_READ: c_int = 1;
+const PROT_WRITE: c_int = 2;
+const MAP_PRIVATE: c_int = 0x2;
+const MAP_ANONYMOUS: c_int = 0x20;
+const MAP_NORESERVE: c_int = 0x4000;
+const NO_FILE: c_int = -1;
+
+/// Asks for the layout of a file.
+pub fn read(file: &[u8], out: &mut [u8]) -> u64 {
+    // SAFETY: both pointers come from slices with these lengths, and live through the call.
+    unsafe { asdf_read(file.as_ptr(), file.len(), out.as_mut_ptr(), out.len()) }
+}
+
+/// Asks for the block of an ordinal.
+pub fn block(file: &[u8], ordinal: u64, out: &mut [u8]) -> u64 {
+    // SAFETY: both pointers come from slices with these lengths, and live through the call.
+    unsafe {
+        asdf_block(
+            file.as_ptr(),
+            file.len(),
+            ordinal,
+            out.as_mut_ptr(),
+            out.len(),
+        )
+    }
+}
+
+/// Where libc finds a byte first.
+pub fn find_byte(bytes: &[u8], byte: u8) -> Option<usize> {
+    // SAFETY: the pointer comes from a slice with this length.
+    let found = unsafe { memchr(bytes.as_ptr().cast(), c_int::from(byte), bytes.len()) };
+    place_in(bytes, found)
+}
+
+/// Where libc finds these bytes first.
+pub fn find_bytes(bytes: &[u8], wanted: &[u8]) -> Option<usize> {
+    // SAFETY: both pointers come from slices with these lengths.
+    let found = unsafe {
+        memmem(
+            bytes.as_ptr().cast(),
+            bytes.len(),
+            wanted.as_ptr().cast(),
+            wanted.len(),
+        )
+    };
+    place_in(bytes, found)
+}
+
+/// The place in these bytes to which libc points, if it points at all.
+fn place_in(bytes: &[u8], found: *mut c_void) -> Option<usize> {
+    (!found.is_null()).then(|| found as usize - bytes.as_ptr() as usize)
+}
+
+/// A long stretch of zeros with other bytes at some places. Only what is not zero takes memory.
+pub struct SparseFile {
+    start: *mut c_void,
+    length: usize,
+}
+
+impl SparseFile {
+    /// A file of this length, which is not 0, with these bytes at these places in it.
+    pub fn new(length: usize, parts: &[(usize, &[u8])]) -> io::Result<SparseFile> {
+        let mut file = SparseFile::zeros(length)?;
+        for (place, bytes) in parts {
+            file.bytes_mut()[*place..][..bytes.len()].copy_from_slice(bytes);
+        }
+        // SAFETY: the map is ours alone, and no one holds a writable slice of it any more.
+        let status = unsafe { mprotect(file.start, length, PROT_READ) };
+        if status == 0 {
+            Ok(file)
+        } else {
+            Err(io::Error::last_os_error())
+        }
+    }
+
+    /// So many zeros, still writable.
+    fn zeros(length: usize) -> io::Result<SparseFile> {
+        let protection = PROT_READ | PROT_WRITE;
+        let flags = MAP_PRIVATE | MAP_ANONYMOUS | MAP_NORESERVE;
+        // SAFETY: a new map at an address that the system chooses touches no memory in use.
+        let start = unsafe { mmap(null_mut(), length, protection, flags, NO_FILE, 0) };
+        // Failure is the address of all ones.
+        if start as isize == -1 {
+            return Err(io::Error::last_os_error());
+        }
+        Ok(SparseFile { start, length })
+    }
+
+    /// The bytes while they are still writable.
+    fn bytes_mut(&mut self) -> &mut [u8] {
+        // SAFETY: the map has this length, is writable until `new` ends, and is lent with `self`.
+        unsafe { slice::from_raw_parts_mut(self.start.cast(), self.length) }
+    }
+}
+
+impl Deref for SparseFile {
+    type Target = [u8];
+
+    fn deref(&self) -> &[u8] {
+        // SAFETY: the map has this length and is readable until it is dropped.
+        unsafe { slice::from_raw_parts(self.start.cast(), self.length) }
+    }
+}
+
+impl Drop for SparseFile {
+    fn drop(&mut self) {
+        // SAFETY: the map was made by `zeros` with this length, and every slice of it is gone.
+        unsafe { munmap(self.start, self.length) };
+    }
+}
+
+#[cfg(test)]
+mod tests {
+    use super::*;
+
+    #[test]
+    fn sparse_file_holds_its_parts_and_zeros() -> io::Result<()> {
+        let file = SparseFile::new(10_000, &[(0, b"ab"), (9_998, b"yz")])?;
+        let expected = [b"ab", &[0; 9_996][..], b"yz"].concat();
+        assert_eq!(file[..], expected);
+        Ok(())
+    }
+
+    #[test]
+    fn libc_finds_what_is_there_and_nothing_else() {
+        assert_eq!(find_byte(b"abcb", b'b'), Some(1));
+        assert_eq!(find_byte(b"abcb", b'x'), None);
+        assert_eq!(find_bytes(b"abcb", b"cb"), Some(2));
+        assert_eq!(find_bytes(b"abcb", b"ba"), None);
+    }
+}

@@ -1,0 +1,23 @@
+//! Generates test files, and compares what is said of them.
+
+#![deny(unsafe_code)]
+
+mod answers;
+mod calls;
+mod compare;
+mod corpus;
+mod coverage;
+pub mod dump;
+pub mod exports;
+mod fields;
+mod generate;
+mod goals;
+mod limits;
+mod long_files;
+mod mutate;
+mod numbers;
+mod rng;
+pub mod run;
+mod same;
+mod self_check;
+pub mod sparse;
