@@ -2,7 +2,7 @@
 
 use crate::exports::SparseFile;
 use crate::fields::FIELD_BYTES;
-use crate::generate::MARK;
+pub use crate::generate::MARK;
 use std::io;
 
 /// A header line.

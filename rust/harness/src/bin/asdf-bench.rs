@@ -1,0 +1,169 @@
+//! The benchmark: the proved reader against the second program's and a bare search of libc.
+
+#![deny(unsafe_code)]
+
+use asdf_harness::exports::{self, SparseFile};
+use asdf_harness::sparse::{block_header, chain_of_blocks, HEADER_LINE, MARK};
+use std::hint::black_box;
+use std::io;
+use std::time::{Duration, Instant};
+
+/// So many times each is measured.
+const RUNS: usize = 31;
+/// What is measured lasts at least about so long; a short call is repeated.
+const LEAST_TIME: Duration = Duration::from_millis(1);
+/// The bytes of an answer.
+const LAYOUT_BYTES: usize = 88;
+
+const MIB: usize = 1 << 20;
+const GIB: usize = 1 << 30;
+const BLOCKS: usize = 64;
+
+/// The lines around a tree's content.
+const TREE_BEGIN: &[u8] = b"%YAML 1.1\n---\n";
+const TREE_END: &[u8] = b"...\n";
+
+/// A search of libc that has to look at the same bytes as a reader.
+type Floor = fn(&[u8]) -> usize;
+
+/// A file to be read.
+struct Case {
+    name: &'static str,
+    file: SparseFile,
+    floor: Floor,
+}
+
+fn main() -> io::Result<()> {
+    println!("median of {RUNS} runs each; times in microseconds; floor: memchr or memmem of libc");
+    println!(
+        "{:<36}{:>12}{:>12}{:>12}{:>12}{:>12}",
+        "file", "asdf_read", "second", "floor", "to second", "to floor"
+    );
+    for case in cases()? {
+        print_row(&case);
+    }
+    Ok(())
+}
+
+/// All files that are measured.
+fn cases() -> io::Result<Vec<Case>> {
+    let line_of_41 = [vec![b'x'; 40], vec![b'\n']].concat();
+    let long_line = [vec![b'x'; MIB - 1], vec![b'\n']].concat();
+    Ok(vec![
+        tree_case("tree of 1 MiB in lines of 41 bytes", &line_of_41)?,
+        tree_case("tree of 1 MiB in lines of 1 byte", b"\n")?,
+        tree_case("tree of 1 MiB in one line", &long_line)?,
+        Case {
+            name: "1 MiB of free space",
+            file: tree_file(b"", &[b' '; MIB])?,
+            floor: find_mark,
+        },
+        Case {
+            name: "64 blocks over a sparse gigabyte",
+            file: chain_of_blocks(BLOCKS, GIB / BLOCKS)?,
+            floor: find_each_block,
+        },
+    ])
+}
+
+/// A file whose tree has 1 MiB of content in copies of a line.
+fn tree_case(name: &'static str, line: &[u8]) -> io::Result<Case> {
+    Ok(Case {
+        name,
+        file: tree_file(&line.repeat(MIB / line.len()), b"")?,
+        floor: find_line_ends,
+    })
+}
+
+/// A file with this content of its tree, this free space, and an empty block.
+fn tree_file(content: &[u8], free_space: &[u8]) -> io::Result<SparseFile> {
+    let block = block_header(0, 0);
+    let parts = [
+        HEADER_LINE,
+        TREE_BEGIN,
+        content,
+        TREE_END,
+        free_space,
+        &block,
+    ];
+    let file = parts.concat();
+    SparseFile::new(file.len(), &[(0, &file)])
+}
+
+/// Finds each line's end with memchr, and counts them.
+fn find_line_ends(file: &[u8]) -> usize {
+    let (mut start, mut lines) = (0, 0);
+    while let Some(length) = exports::find_byte(&file[start..], b'\n') {
+        start += length + 1;
+        lines += 1;
+    }
+    lines
+}
+
+/// Finds the first mark with memmem.
+fn find_mark(file: &[u8]) -> usize {
+    exports::find_bytes(file, MARK).unwrap_or(file.len())
+}
+
+/// Finds the mark at each block's place with memmem.
+fn find_each_block(file: &[u8]) -> usize {
+    let blocks = file[HEADER_LINE.len()..].chunks(GIB / BLOCKS);
+    blocks.map(find_mark).sum()
+}
+
+/// Measures one file and prints what came of it.
+fn print_row(case: &Case) {
+    let file: &[u8] = &case.file;
+    let mut out = [0; LAYOUT_BYTES];
+    assert_eq!(exports::read(file, &mut out), LAYOUT_BYTES as u64);
+    let [ours, second, floor] = medians([
+        &mut || black_box(exports::read(black_box(file), &mut out)) as usize,
+        &mut || {
+            black_box(asdf_second::read(black_box(file))).map_or(0, |layout| layout.blocks.len())
+        },
+        &mut || (case.floor)(black_box(file)),
+    ]);
+    println!(
+        "{:<36}{ours:>12.2}{second:>12.2}{floor:>12.2}{:>12.2}{:>12.2}",
+        case.name,
+        ours / second,
+        ours / floor
+    );
+}
+
+/// The median time of each, in microseconds. They take turns, so that what disturbs one run
+/// disturbs all.
+fn medians<const N: usize>(mut works: [&mut dyn FnMut() -> usize; N]) -> [f64; N] {
+    let repeats = works.each_mut().map(|work| repeats_of(*work));
+    let mut times = [(); N].map(|()| Vec::new());
+    for _ in 0..RUNS {
+        for (place, work) in works.iter_mut().enumerate() {
+            times[place].push(microseconds(*work, repeats[place]));
+        }
+    }
+    times.map(median)
+}
+
+/// How often a work has to be repeated to last long enough.
+fn repeats_of(work: &mut dyn FnMut() -> usize) -> u32 {
+    let mut repeats = 1;
+    while microseconds(work, repeats) * f64::from(repeats) < LEAST_TIME.as_micros() as f64 {
+        repeats *= 2;
+    }
+    repeats
+}
+
+/// How long a work lasts if it is done so many times.
+fn microseconds(work: &mut dyn FnMut() -> usize, repeats: u32) -> f64 {
+    let began = Instant::now();
+    for _ in 0..repeats {
+        black_box(work());
+    }
+    began.elapsed().as_secs_f64() * 1e6 / f64::from(repeats)
+}
+
+/// The middle of an odd number of times.
+fn median(mut times: Vec<f64>) -> f64 {
+    times.sort_by(f64::total_cmp);
+    times[times.len() / 2]
+}
