@@ -152,22 +152,22 @@ impl Loan {
     fn check(self, expected: &Expected, ask: impl Fn(&mut [u8]) -> u64) -> Result<(), String> {
         let mut bytes = self.filled();
         let word = ask(&mut bytes[self.stretch()]);
-        let written = expected
-            .as_ref()
-            .map_or(Vec::new(), |numbers| bytes_of(numbers));
-        let returned = expected.as_ref().map(|_| written.len() as u64);
-        same(
-            "returned",
-            result_of(word),
-            returned.map_err(|&refusal| refusal),
-        )?;
+        let written = bytes_of(expected.as_deref().unwrap_or(&[]));
+        let returned = expected.clone().map(|_| written.len() as u64);
+        same("returned", result_of(word), returned)?;
+        self.check_bytes(&bytes, &written)
+    }
 
-        let result = self.stretch().start..self.stretch().start + written.len();
-        let found = numbers_of(&bytes[result.clone()]);
-        same("numbers", found, numbers_of(&written))?;
+    /// Compares all bytes after a call that has to write these.
+    fn check_bytes(self, bytes: &[u8], written: &[u8]) -> Result<(), String> {
+        let start = self.stretch().start;
+        let found = numbers_of(&bytes[start..][..written.len()]);
+        same("numbers", found, numbers_of(written))?;
         let mut left = self.filled();
-        left[result].copy_from_slice(&written);
-        same("buffer", bytes, left)
+        left[start..][..written.len()].copy_from_slice(written);
+        let changed = (0..bytes.len()).find(|&place| bytes[place] != left[place]);
+        let from_start = changed.map(|place| place as isize - start as isize);
+        same("changed byte, from the buffer's start", from_start, None)
     }
 }
 
