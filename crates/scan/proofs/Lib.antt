@@ -2,5 +2,6 @@
 pub mod TextLaws
 pub mod MarkLaws
 pub mod NumberLaws
+pub mod FindLaws
 pub mod LineLaws
 pub mod ExactLaws

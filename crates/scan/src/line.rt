@@ -6,6 +6,7 @@ ghost use lib.ListN.{length, getD};
 ghost use lib.Dec.{ltb, eqb};
 ghost use Rattle.format.specs.Tree.{yamlLine};
 ghost use Rattle.scan.specs.Line.{LineRead, ExactRead};
+use crate::find;
 use crate::text;
 
 // What the line at an offset is.
@@ -23,7 +24,7 @@ pub fn line_at(s: &[u8], at: usize) -> Line
     if s.len() <= at {
         return Line::Unended;
     }
-    let end = bytes::scan::find(s, at, s.len(), b'\n');
+    let end = find::find_byte(s, at, b'\n');
     if end == s.len() {
         return Line::Unended;
     }
