@@ -23,7 +23,7 @@ pub exported-short : (bytes out : Bytes) → length out < length bytes → (w : 
     → Exported (accepted bytes) out out w
 unfolding writes leaves
 exported-short bytes out h w e =
-    record { answer = rw (lt-leb (length bytes) (length out) h) e; buffer = sym (placed-none out 0 bytes (omega arith)) }
+    record { answer = rw (lt-leb (length bytes) (length out) h) e; buffer = placed-none out 0 bytes (omega arith) }
 
 -- the bytes are put
 pub exported-placed : (bytes out : Bytes) → length bytes ≤ length out → (after : Bytes) → after ≡ placed out 0 bytes → (w : ℕ) → w ≡ length bytes

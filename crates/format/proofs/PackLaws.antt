@@ -14,7 +14,7 @@ use Rattle.format.specs.Bytes.{Bytes, IsBytes, bigEndian, number, toByte
 use Rattle.format.specs.Outline.{sum, packed, unpacked}
 
 -- two byte strings, one behind the other, hold bytes only where each of them does
-is-bytes-append : (s t : Bytes) → IsBytes s → IsBytes t → IsBytes (s ++ t)
+pub is-bytes-append : (s t : Bytes) → IsBytes s → IsBytes t → IsBytes (s ++ t)
 is-bytes-append [] t hs ht i = ht i
 is-bytes-append (b ∷ s) t hs ht zero = hs 0
 is-bytes-append (b ∷ s) t hs ht (suc i) = is-bytes-append s t (λ j. hs (suc j)) ht i

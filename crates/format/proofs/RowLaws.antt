@@ -33,7 +33,7 @@ unfolding encodeRow
 encoded-bytes r = to-bytes-are-bytes 16 (packed rowWidths (fieldsOf r))
 
 -- a flag is one bit
-bit-lt : (t : Bool) → bit t < 2
+pub bit-lt : (t : Bool) → bit t < 2
 bit-lt true = omega arith
 bit-lt false = omega arith
 
@@ -43,7 +43,7 @@ flag-of-bit true = refl
 flag-of-bit false = refl
 
 -- a bit is written back from its flag
-bit-of-flag : (x : ℕ) → bit (eqb (x % 2) 1) ≡ x % 2
+pub bit-of-flag : (x : ℕ) → bit (eqb (x % 2) 1) ≡ x % 2
 bit-of-flag x = small (x % 2) (omega arith)
   where
     small : (y : ℕ) → y < 2 → bit (eqb y 1) ≡ y

@@ -1,12 +1,14 @@
--- Bytes put into a buffer: what is left to put is what was to be put.
+-- Bytes put into a buffer.
 use Prim.Native.Nat.{ℕ, zero, suc, _+_, _-_, _/_, _%_, _≤_, _<_}
 use native.Mathlib.Nat.{add-zero}
 use native.Mathlib.Omega.{arith}
-use mathlib.Core.Path.{_≡_, sym, _∙_}
+use mathlib.Core.Path.{_≡_, refl, sym, _∙_}
+use mathlib.Core.Bool.{Bool, true, false}
 use mathlib.Core.List.{[], _∷_, _++_}
 use lib.ListN.{length, set, length-append}
 use lib.Seq.{sets, sets-eq, length-sets, set-comm}
-use borrow.Author.Tests.{le-leb, lt-leb}
+use lib.Dec.{leb}
+use borrow.Author.Tests.{leb-true, le-leb, lt-leb}
 use Rattle.format.specs.Bytes.{Bytes, toBytes}
 use Rattle.format.specs.Lent.{placed}
 use Rattle.format.proofs.PackLaws.{to-bytes-length}
@@ -18,31 +20,35 @@ sets-last out n (a ∷ bytes) b =
     let e : suc n + length bytes ≡ n + suc (length bytes) = omega arith in
     rw (sets-last (set out n a) (suc n) bytes b, e, set-comm out n (n + suc (length bytes)) a b (omega arith))
 
--- the last byte is put
-pub put-step : (out : Bytes) (at left rest : ℕ) (whole : Bytes) → sets out at (toBytes left rest) ≡ whole → 0 < left
+-- the last byte is put: what is left to put is what was to be put
+pub number-step : (out : Bytes) (at left rest : ℕ) (whole : Bytes) → sets out at (toBytes left rest) ≡ whole → 0 < left
     → sets (set out (at + (left - 1)) (rest % 256)) at (toBytes (left - 1) (rest / 256)) ≡ whole
-put-step out at zero rest whole inv h = absurd (omega arith)
-put-step out at (suc left) rest whole inv h =
+number-step out at zero rest whole inv h = absurd (omega arith)
+number-step out at (suc left) rest whole inv h =
     let e : suc left - 1 ≡ left = omega arith in
     rw e (rw to-bytes-length at (sym (sets-last out at (toBytes left (rest / 256)) (rest % 256)) ∙ inv))
 
 -- nothing is left
-pub put-done : (out : Bytes) (at left rest : ℕ) (whole : Bytes) → sets out at (toBytes left rest) ≡ whole → left ≤ 0 → out ≡ whole
-put-done out at zero rest whole inv h = inv
-put-done out at (suc left) rest whole inv h = absurd (omega arith)
+pub number-done : (out : Bytes) (at left rest : ℕ) (whole : Bytes) → sets out at (toBytes left rest) ≡ whole → left ≤ 0 → out ≡ whole
+number-done out at zero rest whole inv h = inv
+number-done out at (suc left) rest whole inv h = absurd (omega arith)
 
 -- bytes that fit are put one after another
 pub placed-sets : (out : Bytes) (n : ℕ) (bytes : Bytes) → n + length bytes ≤ length out → placed out n bytes ≡ sets out n bytes
 unfolding placed
 placed-sets out n bytes h = rw (placed, le-leb (n + length bytes) (length out) h) (sym (sets-eq bytes out n h))
 
--- others change nothing
-pub placed-none : (out : Bytes) (n : ℕ) (bytes : Bytes) → length out < n + length bytes → placed out n bytes ≡ out
+-- a buffer keeps its length
+pub placed-length : (out : Bytes) (n : ℕ) (bytes : Bytes) → length (placed out n bytes) ≡ length out
 unfolding placed
-placed-none out n bytes h = rw (placed, lt-leb (n + length bytes) (length out) h)
+placed-length out n bytes = by-test (leb (n + length bytes) (length out)) refl
+  where
+    by-test : (t : Bool) → leb (n + length bytes) (length out) ≡ t → length (placed out n bytes) ≡ length out
+    by-test true e = rw (placed-sets out n bytes (leb-true (n + length bytes) (length out) e), length-sets)
+    by-test false e = rw (placed, e)
 
 -- bytes and others behind them are put in two steps
-sets-append : (out : Bytes) (n : ℕ) (bytes others : Bytes) → sets out n (bytes ++ others) ≡ sets (sets out n bytes) (n + length bytes) others
+pub sets-append : (out : Bytes) (n : ℕ) (bytes others : Bytes) → sets out n (bytes ++ others) ≡ sets (sets out n bytes) (n + length bytes) others
 sets-append out n [] others = rw (add-zero n)
 sets-append out n (a ∷ bytes) others =
     let e : suc n + length bytes ≡ n + suc (length bytes) = omega arith in
@@ -57,20 +63,32 @@ placed-append out n bytes others h =
     let second = placed-sets (sets out n bytes) (n + length bytes) others (rw length-sets h) in
     rw (first, second, placed-sets out n (bytes ++ others) both) (sym (sets-append out n bytes others))
 
-module _ (out : Bytes) (at width x : ℕ) where
-  -- a number that does not fit changes nothing
-  number-none : length out < at + width → out ≡ placed out at (toBytes width x)
-  number-none h = sym (placed-none out at (toBytes width x) (rw to-bytes-length h))
+-- the same, of a buffer that holds the first bytes already
+pub placed-behind : (out mid after : Bytes) (at n : ℕ) (bytes others : Bytes) → mid ≡ placed out at bytes → length bytes ≡ n
+    → after ≡ placed mid (at + n) others → at + n + length others ≤ length out → after ≡ placed out at (bytes ++ others)
+placed-behind out mid after at n bytes others e l f h =
+    let next : after ≡ placed (placed out at bytes) (at + length bytes) others = rw (← e, l) f in
+    next ∙ placed-append out at bytes others (rw l h)
 
-  -- it begins behind the buffer
-  pub number-outside : length out < at → out ≡ placed out at (toBytes width x)
-  number-outside h = number-none (omega arith)
+module _ (out : Bytes) (at : ℕ) (bytes : Bytes) where
+  -- bytes that do not fit change nothing
+  pub placed-none : length out < at + length bytes → out ≡ placed out at bytes
+  unfolding placed
+  placed-none h = rw (placed, lt-leb (at + length bytes) (length out) h)
 
-  -- it ends behind the buffer
-  pub number-long : length out - at < width → out ≡ placed out at (toBytes width x)
-  number-long h = number-none (omega arith)
+  -- they begin behind the buffer
+  pub placed-outside : length out < at → out ≡ placed out at bytes
+  placed-outside h = placed-none (omega arith)
 
-  -- it fits
-  pub number-placed : (after : Bytes) → after ≡ sets out at (toBytes width x) → at ≤ length out → width ≤ length out - at
-      → after ≡ placed out at (toBytes width x)
-  number-placed after e h g = e ∙ sym (placed-sets out at (toBytes width x) (rw to-bytes-length (omega arith)))
+  -- they end behind the buffer
+  pub placed-long : (n : ℕ) → length out - at < n → length bytes ≡ n → out ≡ placed out at bytes
+  placed-long n h e = placed-none (omega arith)
+
+  -- they fit
+  pub placed-fits : (after : Bytes) (n : ℕ) → after ≡ sets out at bytes → at ≤ length out → n ≤ length out - at → length bytes ≡ n
+      → after ≡ placed out at bytes
+  placed-fits after n f h g e = f ∙ sym (placed-sets out at bytes (omega arith))
+
+-- a number that ends behind the buffer
+pub number-long : (out : Bytes) (at width x : ℕ) → length out - at < width → out ≡ placed out at (toBytes width x)
+number-long out at width x h = placed-long out at (toBytes width x) width h (to-bytes-length width x)

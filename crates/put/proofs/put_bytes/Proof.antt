@@ -5,7 +5,7 @@ use lib.ListN.{length}
 use lib.Seq.{sets}
 use borrow.Author.Needs.{needs}
 use Rattle.format.specs.Bytes.{toBytes}
-use Rattle.put.proofs.PutLaws.{put-step, put-done}
+use Rattle.put.proofs.PutLaws.{number-step, number-done}
 use Rattle.put.proofs.put_bytes.Statement.{statement}
 use Rattle.put.proofs.put_bytes.Tie as tie
 
@@ -28,6 +28,6 @@ put-bytes-spec =
     (λ c. search needs)
     (λ c. search needs)
     (λ c. search needs)
-    (λ c. search (put-step, needs))
+    (λ c. search (number-step, needs))
     (λ c. search needs)
-    (λ c. search (put-done, needs)))
+    (λ c. search (number-done, needs)))

@@ -1,6 +1,7 @@
 -- Where the bytes do not fit nothing changes, and where they fit they are put.
 use borrow.Author.Needs.{needs}
-use Rattle.put.proofs.PutLaws.{number-outside, number-long, number-placed}
+use Rattle.format.proofs.PackLaws.{to-bytes-length}
+use Rattle.put.proofs.PutLaws.{placed-outside, number-long, placed-fits}
 use Rattle.put.proofs.put_number.Statement.{statement}
 use Rattle.put.proofs.put_number.Tie as tie
 
@@ -8,9 +9,9 @@ pub put-number-spec : {M : Type 1} → statement M
 put-number-spec =
     tie.close
     (tie.spec
-    (λ c. search (number-outside, needs))
+    (λ c. search (placed-outside, needs))
     (λ c. search needs)
     (λ c. search (number-long, needs))
     (λ c κs. search needs)
     (λ c. search needs)
-    (λ c. search (number-placed, needs)))
+    (λ c. search (placed-fits, to-bytes-length, needs)))

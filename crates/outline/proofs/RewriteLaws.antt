@@ -1,0 +1,90 @@
+-- A stored outline that is accepted is written again as it was.
+use Prim.Native.Nat.{ℕ, _+_, _%_, _≤_, _<_}
+use native.Mathlib.Nat.{zero-add}
+use native.Mathlib.Omega.{arith}
+use mathlib.Core.Path.{_≡_, refl, sym, ap, _∙_}
+use mathlib.Core.List.{[]}
+use lib.ListN.{length, take, drop, getD}
+use lib.Seq.{length-take-le, take-all, take-add}
+use mir.Syntax.{w8}
+use mir.Val.{Fits}
+use borrow.Author.Tests.{le-leb, lt-leb}
+use Rattle.format.specs.declared.answer.CountAnswer.{CountAnswer}
+use Rattle.format.specs.declared.answer.CountAnswer.the-variants.{Counted, Refused}
+use Rattle.format.specs.declared.refusal.Refusal.{Refusal}
+use Rattle.format.specs.declared.row.Row.{Row}
+use Rattle.format.specs.Answer.{countAnswer}
+use Rattle.format.specs.Bytes.{Bytes}
+use Rattle.format.specs.Lent.{placed, writes, leaves}
+use Rattle.format.specs.Outcome.{accepted, refused, refusal}
+use Rattle.format.specs.Outline.{encodeRow, decodeRow, storedCount, rewritten}
+use Rattle.format.proofs.RowLaws.{encode-decode}
+use Rattle.format.proofs.OutlineLaws.{same-bytes}
+use Rattle.put.specs.Written.{Written}
+use Rattle.put.proofs.PutLaws.{placed-none, placed-sets, placed-length, placed-behind}
+use Rattle.outline.proofs.RowLaws.{part-length, part-bytes}
+use Rattle.outline.proofs.StoredLaws.{has-rows, no-rows}
+
+-- the rows before an offset are put
+pub record Putting (b before after : Bytes) (at : ℕ) : Type 0 where
+  pub begin : at % 16 ≡ 0
+  pub inside : at ≤ length b
+  pub size : length after ≡ length before
+  pub put : after ≡ placed before 0 (take at b)
+
+-- no row is put yet
+pub rows-start : (b out : Bytes) → Putting b out out 0
+rows-start b out = record { begin = refl; inside = omega arith; size = refl; put = sym (placed-sets out 0 [] (omega arith)) }
+
+-- one row more is put, in the bytes that it was read from
+pub rows-step : (b before out after : Bytes) (at : ℕ) (r : Row) → Putting b before out at → after ≡ placed out at (encodeRow r)
+    → r ≡ decodeRow (take 16 (drop at b))
+    → ((i : ℕ) → Fits w8 (getD b i 0))
+    → at < length b
+    → length b % 16 ≡ 0
+    → length b ≤ length before
+    → Putting b before after (at + 16)
+rows-step b before out after at r h e f known p whole room =
+    let t = take 16 (drop at b) in
+    let inside : at + 16 ≤ length b = omega arith in
+    let long = part-length b at 16 inside in
+    let next : after ≡ placed out (0 + at) t = rw (zero-add at) (e ∙ ap (placed out at) (rw f (encode-decode t (part-bytes b at 16 known) long))) in
+    let put : after ≡ placed before 0 (take (at + 16) b)
+    = rw (take-add at 16 b) (placed-behind before out after 0 at (take at b) t (h .put) (length-take-le at b (h .inside)) next (omega arith)) in
+    record { begin = omega arith; inside = inside; size = ap length put ∙ placed-length before 0 _; put = put }
+
+-- all rows are put
+pub rows-done : (b before after : Bytes) (at : ℕ) → Putting b before after at → length b ≤ at → after ≡ placed before 0 b
+rows-done b before after at h p = rw (take-all at b p) at (h .put)
+
+-- the outline is refused
+pub rewrite-refused : (b out : Bytes) (a : CountAnswer) (r : Refusal) → countAnswer a ≡ storedCount b → a ≡ Refused r
+    → Written (rewritten b) out out (Refused r)
+unfolding countAnswer rewritten writes leaves
+rewrite-refused b out a r h e =
+    let none : rewritten b ≡ refused r = rw (rewritten, no-rows b a r h e) in
+    rw none (record { answer = refl; buffer = refl })
+
+module _ (b : Bytes) (a : CountAnswer) (n : ℕ) (h : countAnswer a ≡ storedCount b) (e : a ≡ Counted n) where
+  -- it is accepted, and has whole rows
+  pub rewrite-whole : length b % 16 ≡ 0
+  rewrite-whole = omega (arith, has-rows b a n h e .size)
+
+  module _ (known : (i : ℕ) → Fits w8 (getD b i 0)) (out : Bytes) where
+    -- its rows are written as it was
+    same-again : rewritten b ≡ accepted b
+    unfolding rewritten
+    same-again =
+        let rows = has-rows b a n h e .is in
+        rw (rewritten, rows) (ap accepted (same-bytes b _ (λ i. known i .fits) rows))
+
+    -- there is no room
+    pub rewrite-long : (x : CountAnswer) → length out < length b → x ≡ Refused (refusal 21 0) → Written (rewritten b) out out x
+    unfolding countAnswer writes leaves
+    rewrite-long x p f =
+        rw (same-again, f) (record { answer = rw (lt-leb (length b) (length out) p); buffer = placed-none out 0 b (omega arith) })
+
+    -- there is
+    pub rewrite-done : (after : Bytes) → length b ≤ length out → after ≡ placed out 0 b → Written (rewritten b) out after (Counted (length b))
+    unfolding countAnswer writes leaves
+    rewrite-done after p f = rw same-again (record { answer = rw (le-leb (length b) (length out) p); buffer = f })

@@ -1,0 +1,123 @@
+-- The rows of a stored outline that is counted are those in its bytes, sixteen for each.
+use Prim.Native.Nat.{ℕ, zero, suc, _+_, _*_, _/_, _%_, _^_, _≤_, _<_}
+use native.Mathlib.Omega.{arith}
+use mathlib.Core.Path.{_≡_, refl, ap, _∙_}
+use mathlib.Core.Bool.{true}
+use mathlib.Core.Option.{none, some}
+use mathlib.Core.List.{List, [], _∷_}
+use lib.ListN.{length, take, drop, getElem?, length-drop}
+use lib.Seq.{drop-drop}
+use lib.Dec.{eqb}
+use mir.Syntax.{w64}
+use mir.Val.{Fits}
+use borrow.Author.Tests.{eqb-true}
+use Rattle.format.specs.declared.answer.CountAnswer.{CountAnswer}
+use Rattle.format.specs.declared.answer.CountAnswer.the-variants.{Counted, Refused}
+use Rattle.format.specs.declared.answer.RowAnswer.the-variants as RowAnswer·is
+use Rattle.format.specs.declared.refusal.Refusal.{Refusal}
+use Rattle.format.specs.declared.row.Row.{Row}
+use Rattle.format.specs.Answer.{countAnswer, rowAnswer}
+use Rattle.format.specs.Bytes.{Bytes}
+use Rattle.format.specs.Outcome.{Outcome, accepted, refused, _>>=_}
+use Rattle.format.specs.Outline.{decodeRow, storedFrom, stored, storedCount, storedAt}
+use Rattle.format.proofs.OutcomeLaws.{Accepts, accepted-holds, accepts-bind, accepts-need}
+
+-- the n rows in the first bytes
+abbrev pub rowsIn : ℕ → Bytes → List Row
+rowsIn zero b = []
+rowsIn (suc n) b = decodeRow (take 16 b) ∷ rowsIn n (drop 16 b)
+
+-- rs are all the rows in b
+record Read (b : Bytes) (rs : List Row) : Type 0 where
+  size : length b ≡ length rs * 16
+  rows : rs ≡ rowsIn (length rs) b
+
+-- a row and the rows behind it
+read-next : (b : Bytes) (o : Outcome (List Row)) (rs : List Row) → 16 ≤ length b → Accepts (Read (drop 16 b)) o → o ≡ accepted rs
+    → Read b (decodeRow (take 16 b) ∷ rs)
+read-next b o rs h others e =
+    let behind = accepted-holds (Read (drop 16 b)) o rs others e in
+    record {
+      size = omega (arith, length-drop 16 b, behind .size);
+      rows = ap (λ (l : List Row). decodeRow (take 16 b) ∷ l) (behind .rows);
+    }
+
+-- what is accepted are the rows in the bytes
+read-from : (k n most : ℕ) (b : Bytes) → length b ≡ k * 16 → Accepts (Read b) (storedFrom k n most b)
+unfolding storedFrom
+read-from zero n most b h = record { size = h; rows = refl }
+read-from (suc k) n most b h =
+    let others = read-from k (n + 16) (decodeRow (take 16 b) .depth + 1) (drop 16 b) (omega (arith, length-drop 16 b)) in
+    let long : 16 ≤ length b = omega arith in
+    search (accepts-need, accepts-bind, read-next)
+
+-- also of a whole outline
+read-stored : (b : Bytes) → Accepts (Read b) (stored b)
+unfolding stored
+read-stored b =
+    accepts-need _ _ 23 0 _
+    λ (e : eqb (length b % 16) 0 ≡ true). read-from (length b / 16) 0 0 b (omega (arith, eqb-true (length b % 16) 0 e))
+
+-- an outline of n rows
+pub record HasRows (b : Bytes) (n : ℕ) : Type 0 where
+  pub size : length b ≡ n * 16
+  pub is : stored b ≡ accepted (rowsIn n b)
+
+-- where n rows are counted the outline has them
+pub has-rows : (b : Bytes) (a : CountAnswer) (n : ℕ) → countAnswer a ≡ storedCount b → a ≡ Counted n → HasRows b n
+unfolding countAnswer storedCount
+has-rows b a n h e = go (stored b) refl (read-stored b) (rw e at h)
+  where
+    go : (o : Outcome (List Row)) → stored b ≡ o → Accepts (Read b) o → accepted n ≡ _>>=_ o (λ rs. accepted (length rs)) → HasRows b n
+    go (accepted rs) q read c =
+        let l : n ≡ length rs = cc in
+        record { size = rw l (read .size); is = rw l (q ∙ ap accepted (read .rows)) }
+    go (refused r) q read c = let z : _≡_ {A = ℕ} 0 1 = cc in absurd (omega arith)
+
+-- where the count is refused the outline is
+pub no-rows : (b : Bytes) (a : CountAnswer) (r : Refusal) → countAnswer a ≡ storedCount b → a ≡ Refused r → stored b ≡ refused r
+unfolding countAnswer storedCount
+no-rows b a r h e = go (stored b) refl (rw e at h)
+  where
+    go : (o : Outcome (List Row)) → stored b ≡ o → refused r ≡ _>>=_ o (λ rs. accepted (length rs)) → stored b ≡ refused r
+    go (accepted rs) q c = cc
+    go (refused t) q c = cc
+
+-- each row is in its sixteen bytes
+row-in : (n k : ℕ) (b : Bytes) → k < n → getElem? (rowsIn n b) k ≡ some (decodeRow (take 16 (drop (k * 16) b)))
+row-in zero k b h = absurd (omega arith)
+row-in (suc n) zero b h = refl
+row-in (suc n) (suc k) b h =
+    let e : suc k * 16 ≡ 16 + k * 16 = omega arith in
+    rw (row-in n k (drop 16 b) (omega arith), drop-drop (k * 16) 16 b, e)
+
+-- there are no others
+row-out : (n k : ℕ) (b : Bytes) → n ≤ k → getElem? (rowsIn n b) k ≡ none
+row-out zero k b h = refl
+row-out (suc n) zero b h = absurd (omega arith)
+row-out (suc n) (suc k) b h = row-out n k (drop 16 b) (omega arith)
+
+-- the outline is refused
+pub row-refused : (b : Bytes) (k : ℕ) (a : CountAnswer) (r : Refusal) → countAnswer a ≡ storedCount b → a ≡ Refused r
+    → rowAnswer (RowAnswer·is.Refused r) ≡ storedAt b k
+unfolding rowAnswer storedAt
+row-refused b k a r h e = rw (storedAt, no-rows b a r h e)
+
+module _ (b : Bytes) (k : ℕ) (a : CountAnswer) (n : ℕ) (h : countAnswer a ≡ storedCount b) (e : a ≡ Counted n) where
+  -- there is no such row
+  pub row-none : n ≤ k → rowAnswer RowAnswer·is.NoSuchRow ≡ storedAt b k
+  unfolding rowAnswer storedAt
+  row-none p = rw (storedAt, has-rows b a n h e .is, row-out n k b p)
+
+  -- there is, and it lies inside
+  pub row-inside : k < n → k * 16 + 16 ≤ length b
+  row-inside p = omega (arith, has-rows b a n h e .size)
+
+  -- so its offset fits
+  pub row-fits : k < n → length b < 2 ^ 64 → Fits w64 (k * 16)
+  row-fits p f = omega (arith, row-inside p)
+
+  -- and is the one asked for
+  pub row-found : (r : Row) → k < n → r ≡ decodeRow (take 16 (drop (k * 16) b)) → rowAnswer (RowAnswer·is.Found r) ≡ storedAt b k
+  unfolding rowAnswer storedAt
+  row-found r p f = rw (storedAt, has-rows b a n h e .is, row-in n k b p, f)

@@ -1,0 +1,129 @@
+// A row as sixteen bytes, and back.
+ghost use Prim.Native.Nat.{_+_, _≤_, _<_};
+ghost use mathlib.Core.Path.{_≡_};
+ghost use lib.ListN.{length, take, drop};
+ghost use Rattle.format.specs.Bytes.{bit as Bytes·bit};
+ghost use Rattle.format.specs.Lent.{placed};
+ghost use Rattle.format.specs.Outline.{encodeRow, decodeRow, innerNumber, rowOf};
+ghost use Rattle.outline.specs.Row.{hasChecksum, stateOf, frontOf, Field};
+use format::block::Block;
+use format::block::Inner;
+use format::block::Record;
+use format::offset::Offset;
+use format::offset::OutermostOffset;
+use format::row::Row;
+use scan::number;
+
+// The row of a block.
+pub fn row_of(r: Record) -> Row
+    ensures { λ row. ⌜ row ≡ rowOf r ⌝ }
+{
+    let b = r.block;
+    let inner = r.inner;
+    let at = r.at;
+    Row {
+        depth: r.depth,
+        streamed: b.flags % 2 == 1,
+        compressed: b.compression != 0,
+        checksum: has_checksum(b),
+        inner: inner_number(inner),
+        ordinal: b.ordinal,
+        header_size: b.header_size,
+        at,
+        allocated: b.allocated,
+        used: b.used,
+    }
+}
+
+// Whether a block's checksum is not all zeros.
+fn has_checksum(b: Block) -> bool
+    ensures { λ r. ⌜ r ≡ hasChecksum b ⌝ }
+{
+    if b.checksum_high != 0 {
+        return true;
+    }
+    b.checksum_low != 0
+}
+
+// The number of an inner state in a row.
+fn inner_number(inner: Inner) -> u8
+    ensures { λ n. ⌜ n ≡ innerNumber inner ⌝ }
+{
+    match inner {
+        Inner::Plain => 0,
+        Inner::Opened => 1,
+        Inner::Refused(_) => 2,
+        Inner::TooDeep => 3,
+    }
+}
+
+// Puts a row at an offset. Where it does not fit, nothing changes.
+pub fn put_row(out: &mut [u8], at: usize, r: Row)
+    ensures { λ _. ⌜ now (out .exit) ≡ placed (now (out .entry)) at (encodeRow r) ⌝ }
+{
+    if out.len() < at {
+        return;
+    }
+    if out.len() - at < 16 {
+        return;
+    }
+    put::put_number(out, at, 4, front(r));
+    put::put_number(out, at + 4, 4, r.at.number());
+    put::put_number(out, at + 8, 4, r.allocated);
+    put::put_number(out, at + 12, 4, r.used);
+}
+
+// The first four bytes of a row: its state, its ordinal and its header size.
+fn front(r: Row) -> u64
+    ensures { λ n. ⌜ n ≡ frontOf r ⌝ }
+{
+    (state(r) * 256 + r.ordinal as u64) * 65536 + r.header_size as u64
+}
+
+// The first byte of a row: its depth, its flags and its inner state.
+fn state(r: Row) -> u64
+    ensures { λ n. ⌜ (n ≡ stateOf r) × (n < 256) ⌝ }
+{
+    (r.depth % 8) as u64 * 32
+        + bit(r.streamed) * 16
+        + bit(r.compressed) * 8
+        + bit(r.checksum) * 4
+        + (r.inner % 4) as u64
+}
+
+// A flag as a number.
+fn bit(b: bool) -> u64
+    ensures { λ n. ⌜ (n ≡ Bytes·bit b) × (n < 2) ⌝ }
+{
+    if b { 1 } else { 0 }
+}
+
+// The row in the sixteen bytes at an offset.
+pub(crate) fn row_at(s: &[u8], at: usize) -> Row
+    requires { ⌜ at + 16 ≤ length (now s) ⌝ }
+    ensures { λ r. ⌜ r ≡ decodeRow (take 16 (drop at (now (s .entry)))) ⌝ }
+{
+    let front = field(s, at, 4);
+    let state = front / 16777216;
+    Row {
+        depth: (state / 32) as u8,
+        streamed: state / 16 % 2 == 1,
+        compressed: state / 8 % 2 == 1,
+        checksum: state / 4 % 2 == 1,
+        inner: (state % 4) as u8,
+        ordinal: (front / 65536 % 256) as u8,
+        header_size: (front % 65536) as u16,
+        at: Offset(field(s, at + 4, 4)).outermost(OutermostOffset::start()),
+        allocated: field(s, at + 8, 4),
+        used: field(s, at + 12, 4),
+    }
+}
+
+// The number in `width` bytes at an offset.
+fn field(s: &[u8], at: usize, width: usize) -> u64
+    requires { ⌜ at + width ≤ length (now s) ⌝ }
+    requires { ⌜ width ≤ 8 ⌝ }
+    ensures { λ r. ⌜ Field (now (s .entry)) at width r ⌝ }
+{
+    number::big_endian(&s[at..at + width])
+}

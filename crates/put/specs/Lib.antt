@@ -1,0 +1,2 @@
+-- What the contracts of writers cite.
+pub mod Written
