@@ -12,8 +12,9 @@ use borrow.Author.Tests.{ltb-true, ltb-false, lt-ltb, le-ltb, eqb-true}
 use Rattle.bytes.specs.Bytes.{indexOf, indexAfter, slice}
 use Rattle.format.specs.Bytes.{Bytes, begins}
 use Rattle.format.specs.Line.{LineEnd, lf, crlf, lineEnd, Lines, unended, line, behind, lines}
-use Rattle.format.proofs.ByteLaws.{and-left, and-right, lacks, lacks-cons}
+use Rattle.format.proofs.ByteLaws.{and-left, and-right, begins-true, lacks, lacks-cons}
 use Rattle.format.proofs.LineLaws.{joinLines, endsIn, ends-snoc, IsLine, plain-line, join-lines, lines-unended, lines-line, line-split, lines-behind}
+use Rattle.scan.proofs.TextLaws.{begins-inside}
 use Rattle.scan.specs.declared.line.Line.{Line}
 use Rattle.scan.specs.declared.line.Line.the-variants.{Ended, Unended}
 use Rattle.scan.specs.Line.{lineAt, EndsInside, LineRead}
@@ -80,6 +81,15 @@ text-read s at m next e l d n i =
 pub line-none : (s : Bytes) (at : ℕ) → length s ≤ at → LineRead s at Unended
 unfolding lineAt lines
 line-none s at h = record { is = rw (drop-of-length-le s h); inside = tt }
+
+-- a 0A at the offset ends an empty line
+pub line-empty : (s : Bytes) (at : ℕ) (x : Bool) → x ≡ begins (10 ∷ []) (drop at s) → x ≡ true → LineRead s at (Ended at (at + 1))
+line-empty s at x h e =
+    let b = sym h ∙ e in
+    let none : at - at ≡ 0 = omega arith in
+    let rest = rw drop-drop at (begins-true (10 ∷ []) (drop at s) b) in
+    let inside : EndsInside (length s) at at (at + 1) = omega (arith, begins-inside (10 ∷ []) at s b (omega arith)) in
+    text-read s at at (at + 1) lf (rw none (plain-line [] lf refl refl)) rest refl inside
 
 -- end is where the first 0A stands, or the end
 module _ (s : Bytes) (at end : ℕ) (f : end ≡ at + indexOf 10 (slice at (length s) s)) where

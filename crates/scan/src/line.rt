@@ -17,8 +17,22 @@ pub enum Line {
     Unended,
 }
 
-// The line that begins at an offset.
+// The line that begins at an offset. An empty one is told by its first byte.
 pub fn line_at(s: &[u8], at: usize) -> Line
+    ensures { λ r. ⌜ LineRead (now (s .entry)) at r ⌝ }
+{
+    if text::begins_at(s, at, b"\n") {
+        return Line::Ended {
+            text_end: at,
+            next: at + 1,
+        };
+    }
+    long_line(s, at)
+}
+
+// The same, with no short way for an empty line. Two functions call it, so the compiler leaves it a function of its own,
+// and line_at small enough to stand in its callers' loops.
+fn long_line(s: &[u8], at: usize) -> Line
     ensures { λ r. ⌜ LineRead (now (s .entry)) at r ⌝ }
 {
     if s.len() <= at {
@@ -62,7 +76,7 @@ pub enum Exact {
 pub fn exact_line(s: &[u8], at: usize, word: &[u8]) -> Exact
     ensures { λ r. ⌜ ExactRead (now (s .entry)) (now (word .entry)) at r ⌝ }
 {
-    let Line::Ended { text_end, next } = line_at(s, at) else {
+    let Line::Ended { text_end, next } = long_line(s, at) else {
         return Exact::Other;
     };
     if text::is(&s[at..text_end], word) {

@@ -1,6 +1,6 @@
--- The first byte decides, or the search behind blocks that have no b.
+-- The first b is one of the next eight bytes, or is far.
 use borrow.Author.Needs.{needs}
-use Rattle.scan.proofs.FindLaws.{first-here}
+use Rattle.scan.proofs.FindLaws.{first-near, first-far}
 use Rattle.scan.proofs.find.find_byte.Statement.{statement}
 use Rattle.scan.proofs.find.find_byte.Tie as tie
 
@@ -9,8 +9,10 @@ find-byte-spec =
     tie.close
     (tie.spec
     (λ c. search needs)
-    (λ c. search (first-here, needs))
     (λ c κs. search needs)
+    (λ c. search needs)
+    (λ c. search needs)
     (λ c κs. search needs)
+    (λ c. search (first-near, needs))
     (λ c κs. search needs)
-    (λ c. search needs))
+    (λ c. search (first-far, needs)))

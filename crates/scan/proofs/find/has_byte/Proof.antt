@@ -1,20 +1,20 @@
 -- The invariant: b was found already, or stands from j on, where it stands at all.
-use Prim.Native.Nat.{_≤_, _-_}
+use Prim.Native.Nat.{_-_}
 use mathlib.Core.Path.{_≡_}
 use mathlib.Core.Bool.{_||_}
 use mathlib.Core.Logic.{⊎-elim}
-use lib.ListN.{length, drop}
 use borrow.Author.Needs.{needs}
+use Rattle.bytes.specs.Bytes.{slice}
 use Rattle.scan.specs.Find.{has}
 use Rattle.scan.proofs.FindLaws.{has-hit, has-miss, has-done}
 use Rattle.scan.proofs.find.has_byte.Statement.{statement}
 use Rattle.scan.proofs.find.has_byte.Tie as tie
 
 abbrev Inv-loop : tie.InvT-loop
-Inv-loop s b found₀ j₀ j-end found j = (j ≤ length s) × ((found || has b (drop j s)) ≡ has b s)
+Inv-loop s from to b found₀ j₀ found j = (found || has b (slice j to s)) ≡ has b (slice from to s)
 
 abbrev μ-loop : tie.MeasureT-loop
-μ-loop s b found₀ j₀ j-end found j = length s - j
+μ-loop s from to b found₀ j₀ found j = to - j
 
 pub has-byte-spec : {M : Type 1} → statement M
 has-byte-spec =

@@ -1,6 +1,7 @@
--- The first 0A ends the line, and the byte before it says whether the line end has a 0D.
+-- An empty line is its line end.
 use borrow.Author.Needs.{needs}
-use Rattle.scan.proofs.LineLaws.{line-none, line-unended, line-some, line-crlf, line-lf}
+use Rattle.scan.proofs.TextLaws.{begins-fits}
+use Rattle.scan.proofs.LineLaws.{line-empty}
 use Rattle.scan.proofs.line.line_at.Statement.{statement}
 use Rattle.scan.proofs.line.line_at.Tie as tie
 
@@ -8,12 +9,9 @@ pub line-at-spec : {M : Type 1} → statement M
 line-at-spec =
     tie.close
     (tie.spec
-    (λ c. search (line-none, needs))
-    (λ c κs. search needs)
-    (λ c. search (line-unended, needs))
-    (λ c κs. search needs)
-    (λ c. search (line-some, needs))
     (λ c. search needs)
-    (λ c. search (line-crlf, needs))
-    (λ c. search needs)
-    (λ c. search (line-lf, needs)))
+    (λ c κs. search needs)
+    (λ c. search (begins-fits, needs))
+    (λ c. search (line-empty, needs))
+    (λ c κs. search needs)
+    (λ c. search needs))
