@@ -14,8 +14,10 @@ use Rattle.format.specs.Bytes.{Bytes}
 use Rattle.format.specs.Outcome.{accepted, refused}
 use Rattle.format.specs.File.{layout, blockAt}
 use Rattle.format.specs.Answer.{layoutAnswer, blockAnswer}
-use Rattle.asdf.specs.Export.{Exported, word, numberBytes, layoutFields, blockFields, foundBytes, layoutBytes, blockBytes}
-use Rattle.asdf.proofs.ExportLaws.{exported-refused, exported-placed, placed-nothing}
+use Rattle.format.specs.Fields.{numberBytes, blockFields}
+use Rattle.asdf.specs.Export.{Exported, word, layoutFields, foundBytes, layoutBytes, blockBytes}
+use Rattle.put.proofs.PutLaws.{placed-nothing}
+use Rattle.asdf.proofs.ExportLaws.{exported-refused, exported-placed}
 
 module _ (s : Bytes) (a : LayoutAnswer) (read : layoutAnswer a ≡ layout s) where
   -- the file is refused

@@ -1,15 +1,14 @@
 -- What is returned and left in the buffer: a refusal, a buffer that is too short, bytes that fit.
 use Prim.Native.Nat.{ℕ, _≤_, _<_}
 use native.Mathlib.Omega.{arith}
-use mathlib.Core.Path.{_≡_, sym}
-use mathlib.Core.List.{[]}
+use mathlib.Core.Path.{_≡_}
 use lib.ListN.{length}
 use borrow.Author.Tests.{le-leb, lt-leb}
 use Rattle.format.specs.declared.refusal.Refusal.{Refusal}
 use Rattle.format.specs.Bytes.{Bytes}
 use Rattle.format.specs.Outcome.{Outcome, accepted, refused, refusal}
 use Rattle.format.specs.Lent.{writes, placed, leaves}
-use Rattle.put.proofs.PutLaws.{placed-sets, placed-none}
+use Rattle.put.proofs.PutLaws.{placed-none}
 use Rattle.asdf.specs.Export.{Exported, word}
 
 -- a refusal changes no byte
@@ -30,7 +29,3 @@ pub exported-placed : (bytes out : Bytes) → length bytes ≤ length out → (a
     → Exported (accepted bytes) out after w
 unfolding writes leaves
 exported-placed bytes out h after p w e = record { answer = rw (le-leb (length bytes) (length out) h) e; buffer = p }
-
--- no bytes change nothing
-pub placed-nothing : (out : Bytes) (n : ℕ) → n ≤ length out → out ≡ placed out n []
-placed-nothing out n h = sym (placed-sets out n [] (omega arith))

@@ -1,7 +1,7 @@
 -- What the exported functions return, and the bytes that they put into the lent buffer.
 use Prim.Native.Nat.{ℕ, _+_, _*_, _%_, _^_}
 use mathlib.Core.Path.{_≡_}
-use mathlib.Core.List.{List, [], _∷_, _++_, flatMap}
+use mathlib.Core.List.{List, [], _∷_, _++_}
 use mathlib.Core.Option.{Option, none, some}
 use Rattle.format.specs.declared.block.Block.{Block}
 use Rattle.format.specs.declared.layout.Layout.{Layout}
@@ -9,10 +9,11 @@ use Rattle.format.specs.declared.layout.Tree.{Tree}
 use Rattle.format.specs.declared.layout.Tree.the-variants.{NoTree, Found}
 use Rattle.format.specs.declared.layout.Verdict.{Verdict}
 use Rattle.format.specs.declared.layout.Verdict.the-variants.{Absent, Good, IgnoredForm, IgnoredList}
-use Rattle.format.specs.Bytes.{Bytes, toBytes}
+use Rattle.format.specs.Bytes.{Bytes}
 use Rattle.format.specs.Outcome.{Outcome, accepted, refused, _>>=_}
 use Rattle.format.specs.Lent.{writes, leaves}
 use Rattle.format.specs.File.{layout, blockAt}
+use Rattle.format.specs.Fields.{numberBytes, blockFields}
 
 -- an answer as one number: a count, or a refusal's number in the top byte and its place below
 abbrev pub word : Outcome ℕ → ℕ
@@ -23,10 +24,6 @@ word (refused r) = r .number * 2 ^ 56 + r .place .0 % 2 ^ 56
 pub record Exported (result : Outcome Bytes) (before after : Bytes) (r : ℕ) : Type 0 where
   pub answer : r ≡ word (writes result before)
   pub buffer : after ≡ leaves result before
-
--- numbers of eight bytes each, the most significant byte first
-unfoldable pub numberBytes : List ℕ → Bytes
-numberBytes ns = flatMap (toBytes 8) ns
 
 -- the verdict on the block index
 abbrev pub verdictNumber : Verdict → ℕ
@@ -45,13 +42,6 @@ unfoldable pub layoutFields : Layout → List ℕ
 layoutFields l =
     l .header .version .major ∷ l .header .version .minor ∷ l .header .version .patch ∷ l .header .end .0 ∷ l .«comments_end» .0
     ∷ (treeFields (l .tree) ++ (l .blocks ∷ verdictNumber (l .verdict) ∷ []))
-
--- ordinal, place, header size, flags, compression, the three sizes, the checksum's two halves
-abbrev pub blockFields : Block → List ℕ
-blockFields b =
-    b .ordinal ∷ b .at .0 ∷ b .«header_size» ∷ b .flags ∷ b .compression ∷ b .allocated ∷ b .used ∷ b .«data_size» ∷ b .«checksum_high»
-    ∷ b .«checksum_low»
-    ∷ []
 
 -- no bytes where there is no such block
 unfoldable pub foundBytes : Option Block → Bytes

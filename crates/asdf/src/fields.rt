@@ -1,7 +1,6 @@
 // What is answered, as lists of numbers.
 ghost use mathlib.Core.Path.{_≡_};
-ghost use Rattle.asdf.specs.Export.{layoutFields, treeFields, verdictNumber, blockFields};
-use format::block::Block;
+ghost use Rattle.asdf.specs.Export.{layoutFields, treeFields, verdictNumber};
 use format::layout::Layout;
 use format::layout::Tree;
 use format::layout::Verdict;
@@ -53,22 +52,4 @@ fn verdict_number(v: Verdict) -> u64
         Verdict::IgnoredForm => 2,
         Verdict::IgnoredList => 3,
     }
-}
-
-// A block: its ordinal, place, header size, flags, compression, sizes and checksum.
-pub(crate) fn block_fields(b: Block) -> [u64; 10]
-    ensures { λ r. ⌜ r ≡ blockFields b ⌝ }
-{
-    [
-        b.ordinal as u64,
-        b.at.0,
-        b.header_size as u64,
-        b.flags as u64,
-        b.compression as u64,
-        b.allocated,
-        b.used,
-        b.data_size,
-        b.checksum_high,
-        b.checksum_low,
-    ]
 }

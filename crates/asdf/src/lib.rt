@@ -30,7 +30,7 @@ pub extern "C" fn asdf_block(file: &[u8], ordinal: u64, out: &mut [u8]) -> u64
         BlockAnswer::Refused(r) => word::refused(r),
         BlockAnswer::NoSuchBlock => 0,
         BlockAnswer::Found(b) => {
-            let numbers = fields::block_fields(b);
+            let numbers = put::fields::block_fields(b);
             word::put_numbers(out, &numbers)
         }
     }

@@ -1,7 +1,8 @@
 // Answers as one number, and numbers in the lent buffer.
 ghost use mathlib.Core.Path.{_≡_};
 ghost use Rattle.format.specs.Outcome.{accepted, refused as Outcome·refused};
-ghost use Rattle.asdf.specs.Export.{Exported, numberBytes, word};
+ghost use Rattle.format.specs.Fields.{numberBytes};
+ghost use Rattle.asdf.specs.Export.{Exported, word};
 use format::offset::Offset;
 use format::refusal::Refusal;
 
@@ -23,10 +24,6 @@ pub(crate) fn put_numbers(out: &mut [u8], numbers: &[u64]) -> u64
             place: Offset(0),
         });
     }
-    let mut k = 0;
-    while k < numbers.len() {
-        put::put_number(out, 8 * k, 8, numbers[k]);
-        k += 1;
-    }
-    8 * k as u64
+    put::put_numbers(out, 0, numbers);
+    8 * numbers.len() as u64
 }

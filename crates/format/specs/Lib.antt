@@ -12,6 +12,7 @@ pub mod Index
 pub mod File
 pub mod IndexWriter
 pub mod Nest
+pub mod Fields
 pub mod Outline
 pub mod Lent
 pub mod Edit

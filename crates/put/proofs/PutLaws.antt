@@ -38,6 +38,10 @@ pub placed-sets : (out : Bytes) (n : ℕ) (bytes : Bytes) → n + length bytes �
 unfolding placed
 placed-sets out n bytes h = rw (placed, le-leb (n + length bytes) (length out) h) (sym (sets-eq bytes out n h))
 
+-- no bytes change nothing
+pub placed-nothing : (out : Bytes) (n : ℕ) → n ≤ length out → out ≡ placed out n []
+placed-nothing out n h = sym (placed-sets out n [] (omega arith))
+
 -- a buffer keeps its length
 pub placed-length : (out : Bytes) (n : ℕ) (bytes : Bytes) → length (placed out n bytes) ≡ length out
 unfolding placed

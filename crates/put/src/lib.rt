@@ -1,9 +1,12 @@
 // Numbers put into a lent buffer.
+pub mod fields;
+
 ghost use Prim.Native.Nat.{_+_, _≤_};
 ghost use mathlib.Core.Path.{_≡_};
 ghost use lib.ListN.{length};
 ghost use lib.Seq.{sets};
 ghost use Rattle.format.specs.Bytes.{toBytes};
+ghost use Rattle.format.specs.Fields.{numberBytes};
 ghost use Rattle.format.specs.Lent.{placed};
 
 // Puts the last `width` bytes of a number at an offset, the most significant first. Where they do not fit, nothing changes.
@@ -30,5 +33,22 @@ fn put_bytes(out: &mut [u8], at: usize, width: usize, x: u64)
         left -= 1;
         out[at + left] = (rest % 256) as u8;
         rest /= 256;
+    }
+}
+
+// Puts numbers at an offset, each in eight bytes. Where they do not all fit, nothing changes.
+pub fn put_numbers(out: &mut [u8], at: usize, numbers: &[u64])
+    ensures { λ _. ⌜ now (out .exit) ≡ placed (now (out .entry)) at (numberBytes (now (numbers .entry))) ⌝ }
+{
+    if out.len() < at {
+        return;
+    }
+    if (out.len() - at) / 8 < numbers.len() {
+        return;
+    }
+    let mut k = 0;
+    while k < numbers.len() {
+        put_number(out, at + 8 * k, 8, numbers[k]);
+        k += 1;
     }
 }

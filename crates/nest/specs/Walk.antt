@@ -1,0 +1,60 @@
+-- The walk through the blocks of a file and the files inside them.
+use Prim.Native.Nat.{ℕ, zero, suc, _+_, _-_, _≤_}
+use mathlib.Core.Path.{_≡_}
+use mathlib.Core.Bool.{true, false}
+use mathlib.Core.List.{List, [], _∷_}
+use lib.ListN.{length, drop}
+use Rattle.format.specs.declared.block.Block.{Block}
+use Rattle.format.specs.declared.block.Record.{Record}
+use Rattle.format.specs.declared.block.Inner.{Inner}
+use Rattle.format.specs.declared.block.Inner.the-variants.{TooDeep, Plain, Opened}
+use Rattle.format.specs.Bytes.{Bytes}
+use Rattle.format.specs.Outcome.{Outcome, accepted, refused}
+use Rattle.format.specs.Block.{block}
+use Rattle.format.specs.Chain.{extent}
+use Rattle.format.specs.Nest.{deepest, Inside, closed, opened, isFile, walk, recordsFrom, records}
+use Rattle.nest.specs.declared.walk.ContentStep.{ContentStep}
+use Rattle.nest.specs.declared.walk.ContentStep.the-variants.{Closed, Open}
+
+-- so many blocks, one after another: the first is number i and at offset n, where t stands
+unfoldable pub blocksFrom : ℕ → ℕ → ℕ → Bytes → List Block
+blocksFrom zero i n t = []
+blocksFrom (suc k) i n t =
+    elim (block i n t) [ accepted b ↦ b ∷ blocksFrom k (i + 1) (n + extent b) (drop (extent b) t) | refused r ↦ [] ]
+
+-- what a content is that begins like a file, in a block at this depth, where files are read for so many levels more
+unfoldable pub readsFor : ℕ → ℕ → ℕ → Bytes → Inside
+readsFor zero depth n t = closed TooDeep
+readsFor (suc levels) depth n t = opened (recordsFrom levels (depth + 1) n t)
+
+-- the same, for as many levels as are left
+abbrev pub reads : ℕ → ℕ → Bytes → Inside
+reads depth = readsFor (deepest - depth) depth
+
+-- what the content t of a block at this depth is, where n is the content's start in the outermost file
+unfoldable pub insideOf : ℕ → ℕ → Block → Bytes → Inside
+insideOf depth n b t = elim (isFile b t) [ true ↦ reads depth n t | false ↦ closed Plain ]
+
+-- a record with its inner state, and behind it those of the blocks inside
+abbrev pub recordsWith : Record → Inside → List Record
+recordsWith r i = record { depth = r .depth; at = r .at; block = r .block; inner = i .state } ∷ i .records
+
+-- the records of so many blocks of the file s, the first of which is number i and at offset n
+abbrev pub recordsOf : ℕ → ℕ → Bytes → ℕ → ℕ → ℕ → List Record
+recordsOf depth start s n i left = walk (reads depth) depth start s (blocksFrom left i n (drop n s))
+
+-- all records of an accepted file
+unfoldable pub allRecords : Bytes → List Record
+allRecords s = elim (records s) [ accepted rs ↦ rs | refused r ↦ [] ]
+
+-- what a step answers of a content: its state, and where it is opened, how many blocks begin where
+pub record IsOpen (depth start : ℕ) (b : Block) (t : Bytes) (first blocks : ℕ) : Type 0 where
+  pub state : insideOf depth start b t .state ≡ Opened
+  pub records : insideOf depth start b t .records ≡ recordsOf (depth + 1) start t first 0 blocks
+  pub inside : first ≤ length t
+  pub few : blocks ≤ 64
+  pub higher : depth + 1 ≤ deepest
+
+abbrev pub ContentIs : ℕ → ℕ → Block → Bytes → ContentStep → Type 0
+ContentIs depth start b t (Closed i) = insideOf depth start b t ≡ closed i
+ContentIs depth start b t (Open first blocks) = IsOpen depth start b t first blocks

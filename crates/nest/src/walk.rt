@@ -1,0 +1,141 @@
+// The walk: the reader of a block's content and the walker along the blocks call each other.
+ghost use mathlib.Core.Path.{_≡_};
+ghost use Prim.Native.Nat.{_+_, _≤_};
+ghost use lib.ListN.{length};
+ghost use Rattle.format.specs.File.{mostBytes, layout as File·layout};
+ghost use Rattle.format.specs.Nest.{deepest};
+ghost use Rattle.format.specs.Outcome.{accepted};
+ghost use Rattle.nest.specs.Sink.{Delivered, begun};
+ghost use Rattle.nest.specs.Walk.{recordsOf, recordsWith, insideOf, ContentIs, allRecords};
+use crate::sink;
+use crate::sink::Form;
+use crate::sink::Sink;
+use file::block;
+use file::block::BlockStep;
+use format::answer::LayoutAnswer;
+use format::block::Block;
+use format::block::Inner;
+use format::block::Record;
+use format::layout::Layout;
+use format::layout::Tree;
+use format::offset::Offset;
+use format::offset::OutermostOffset;
+use scan::text;
+
+// What a block's content is.
+pub(crate) enum ContentStep {
+    // It is not walked.
+    Closed(Inner),
+    // It is a file with so many blocks, the first at this offset.
+    Open { first: usize, blocks: u8 },
+}
+
+// Walks all blocks of an accepted file.
+pub(crate) fn walk_all(s: &[u8], l: Layout, form: Form, out: &mut [u8]) -> Sink
+    requires { ⌜ File·layout (now s) ≡ accepted l ⌝ }
+    ensures { λ x. ⌜ Delivered (begun form) (now (out .entry)) (allRecords (now (s .entry))) (now (out .exit)) x ⌝ }
+{
+    let first = first_block(l);
+    let k = sink::begin(form);
+    walk_blocks(s, 0, OutermostOffset::start(), first, 0, l.blocks, k, out)
+}
+
+// Where the first block begins, if there is one.
+fn first_block(l: Layout) -> usize {
+    let tree = l.tree;
+    match tree {
+        Tree::NoTree => l.comments_end.0 as usize,
+        Tree::Found {
+            start: _,
+            end: _,
+            room_end,
+        } => room_end.0 as usize,
+    }
+}
+
+// Walks so many blocks of a file at this depth, the first with this ordinal and at this offset. The file's own first byte
+// is at `start` of the outermost file.
+fn walk_blocks(
+    s: &[u8],
+    depth: u8,
+    start: OutermostOffset,
+    at: usize,
+    ordinal: u8,
+    left: u8,
+    k: Sink,
+    out: &mut [u8],
+) -> Sink
+    requires { ⌜ start .0 + length (now s) ≤ mostBytes ⌝ }
+    requires { ⌜ depth ≤ deepest ⌝ }
+    requires { ⌜ at ≤ length (now s) ⌝ }
+    requires { ⌜ ordinal + left ≤ 64 ⌝ }
+    ensures { λ x. ⌜ Delivered k (now (out .entry)) (recordsOf depth (start .0) (now (s .entry)) at ordinal left) (now (out .exit)) x ⌝ }
+{
+    if left == 0 {
+        return k;
+    }
+    match block::read_block(&s[at..], ordinal, at) {
+        BlockStep::Refused(_) => k,
+        BlockStep::Read(b) => {
+            let from = at + 6 + b.header_size as usize;
+            let used = b.used as usize;
+            let next = from + b.allocated as usize;
+            let r = Record {
+                depth,
+                at: Offset(at as u64).outermost(start),
+                block: b,
+                inner: Inner::Plain,
+            };
+            let content = Offset(from as u64).outermost(start);
+            let mid = walk_content(&s[from..from + used], content, r, k, out);
+            walk_blocks(s, depth, start, next, ordinal + 1, left - 1, mid, out)
+        }
+    }
+}
+
+// Takes the record of a block whose content is t, and behind it the records of the blocks inside.
+fn walk_content(t: &[u8], start: OutermostOffset, r: Record, k: Sink, out: &mut [u8]) -> Sink
+    requires { ⌜ start .0 + length (now t) ≤ mostBytes ⌝ }
+    requires { ⌜ r .depth ≤ deepest ⌝ }
+    ensures { λ x. ⌜ Delivered k (now (out .entry)) (recordsWith r (insideOf (r .depth) (start .0) (r .block) (now (t .entry)))) (now (out .exit)) x ⌝ }
+{
+    match content_of(t, r.depth, r.block) {
+        ContentStep::Closed(inner) => sink::take_record(k, with_inner(r, inner), out),
+        ContentStep::Open { first, blocks } => {
+            let mid = sink::take_record(k, with_inner(r, Inner::Opened), out);
+            walk_blocks(t, r.depth + 1, start, first, 0, blocks, mid, out)
+        }
+    }
+}
+
+// What the content t of a block at this depth is.
+fn content_of(t: &[u8], depth: u8, b: Block) -> ContentStep
+{
+    if b.compression != 0 {
+        return ContentStep::Closed(Inner::Plain);
+    }
+    if !text::begins_at(t, 0, b"#ASDF ") {
+        return ContentStep::Closed(Inner::Plain);
+    }
+    if 7 <= depth {
+        return ContentStep::Closed(Inner::TooDeep);
+    }
+    match file::layout::read(t) {
+        LayoutAnswer::Refused(r) => ContentStep::Closed(Inner::Refused(r)),
+        LayoutAnswer::Accepted(l) => ContentStep::Open {
+            first: first_block(l),
+            blocks: l.blocks,
+        },
+    }
+}
+
+// The record with this inner state.
+fn with_inner(r: Record, inner: Inner) -> Record
+{
+    Record {
+        depth: r.depth,
+        at: r.at,
+        block: r.block,
+        inner,
+    }
+}

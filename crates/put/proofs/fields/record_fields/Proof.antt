@@ -1,0 +1,21 @@
+-- The inner state's numbers stand among the record's.
+use borrow.Author.Needs.{needs}
+use Rattle.put.proofs.FieldLaws.{record-three}
+use Rattle.put.proofs.fields.record_fields.Statement.{statement}
+use Rattle.put.proofs.fields.record_fields.Tie as tie
+
+pub record-fields-spec : {M : Type 1} → statement M
+record-fields-spec =
+    tie.close
+    (tie.spec
+    (λ c κs. search needs)
+    (λ c. search needs)
+    (λ c κs. search needs)
+    (λ c. search needs)
+    (λ c. search needs)
+    (λ c. search needs)
+    (λ c. search needs)
+    (λ c. search needs)
+    (λ c. search needs)
+    (λ c. search needs)
+    (λ c. search (record-three, needs)))

@@ -1,0 +1,62 @@
+// What is reported of a block, as a list of numbers.
+ghost use mathlib.Core.Path.{_≡_};
+ghost use Rattle.format.specs.Fields.{blockFields, innerFields, recordFields};
+use format::block::Block;
+use format::block::Inner;
+use format::block::Record;
+
+// A block: its ordinal, place, header size, flags, compression, sizes and checksum.
+pub fn block_fields(b: Block) -> [u64; 10]
+    ensures { λ r. ⌜ r ≡ blockFields b ⌝ }
+{
+    [
+        b.ordinal as u64,
+        b.at.0,
+        b.header_size as u64,
+        b.flags as u64,
+        b.compression as u64,
+        b.allocated,
+        b.used,
+        b.data_size,
+        b.checksum_high,
+        b.checksum_low,
+    ]
+}
+
+// The inner state, and the number and place of a refusal.
+fn inner_fields(inner: Inner) -> [u64; 3]
+    ensures { λ r. ⌜ r ≡ innerFields inner ⌝ }
+{
+    match inner {
+        Inner::Plain => [0, 0, 0],
+        Inner::Opened => [1, 0, 0],
+        Inner::Refused(r) => [2, r.number as u64, r.place.0],
+        Inner::TooDeep => [3, 0, 0],
+    }
+}
+
+// A record: its depth, its offset in the outermost file, the inner state, the block.
+pub fn record_fields(r: Record) -> [u64; 15]
+    ensures { λ x. ⌜ x ≡ recordFields r ⌝ }
+{
+    let b = r.block;
+    let inner = r.inner;
+    let state = inner_fields(inner);
+    [
+        r.depth as u64,
+        r.at.number(),
+        state[0],
+        state[1],
+        state[2],
+        b.ordinal as u64,
+        b.at.0,
+        b.header_size as u64,
+        b.flags as u64,
+        b.compression as u64,
+        b.allocated,
+        b.used,
+        b.data_size,
+        b.checksum_high,
+        b.checksum_low,
+    ]
+}
