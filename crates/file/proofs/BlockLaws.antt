@@ -156,12 +156,13 @@ module _ (i n : ℕ) (t : Bytes) (h f : ℕ) (read : FieldRead t 4 6 h) (least :
 pub record Starts (n : ℕ) (t : Bytes) (b : Block) : Type 0 where
   pub at : b .at .0 ≡ n
   pub inside : extent b ≤ length t
+  pub used : b .used ≤ b .allocated
 
 module _ (i n : ℕ) (t : Bytes) where
   -- a block starts where its tests hold
-  with-starts : (a u d : ℕ) → leb (contentStart t) (length t) ≡ true → a ≤ bytesLeft t → Starts n t (blockWith i n t a u d)
+  with-starts : (a u d : ℕ) → leb (contentStart t) (length t) ≡ true → a ≤ bytesLeft t → u ≤ a → Starts n t (blockWith i n t a u d)
   unfolding blockWith
-  with-starts a u d h k = record { at = refl; inside = omega (arith, leb-true (contentStart t) (length t) h) }
+  with-starts a u d h k used = record { at = refl; inside = omega (arith, leb-true (contentStart t) (length t) h); used = used }
 
   -- and so does an accepted block
   pub block-starts : Accepts (Starts n t) (block i n t)

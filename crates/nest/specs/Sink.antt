@@ -16,13 +16,13 @@ use Rattle.nest.specs.declared.sink.Form.the-variants.{Count, Rows, Tabl
 use Rattle.nest.specs.declared.sink.Sink.{Sink}
 
 -- what is put for a record, and how many bytes that are
-unfoldable pub encoded : Form → Record → Bytes
+abbrev pub encoded : Form → Record → Bytes
 encoded Count r = []
 encoded Rows r = encodeRow (rowOf r)
 encoded Table r = encodeRecord r
 encoded (One w) r = []
 
-unfoldable pub width : Form → ℕ
+abbrev pub width : Form → ℕ
 width Count = 0
 width Rows = rowBytes
 width Table = recordBytes
@@ -37,14 +37,14 @@ abbrev pub begun : Form → Sink
 begun form = record { form = form; number = 0; found = NoSuchBlock }
 
 -- what is found when record number n has come
-unfoldable pub foundAt : Form → ℕ → Record → RecordAnswer → RecordAnswer
+abbrev pub foundAt : Form → ℕ → Record → RecordAnswer → RecordAnswer
 foundAt Count n r a = a
 foundAt Rows n r a = a
 foundAt Table n r a = a
 foundAt (One w) n r a = elim (eqb w n) [ true ↦ Found r | false ↦ a ]
 
 -- one record more has come
-unfoldable pub taken : Sink → Record → Sink
+abbrev pub taken : Sink → Record → Sink
 taken k r = record { form = k .form; number = wrapped (k .number) 1; found = foundAt (k .form) (k .number) r (k .found) }
 
 -- and several more

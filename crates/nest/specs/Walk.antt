@@ -8,10 +8,11 @@ use Rattle.format.specs.declared.block.Block.{Block}
 use Rattle.format.specs.declared.block.Record.{Record}
 use Rattle.format.specs.declared.block.Inner.{Inner}
 use Rattle.format.specs.declared.block.Inner.the-variants.{TooDeep, Plain, Opened}
+use Rattle.format.specs.declared.offset.OutermostOffset.{OutermostOffset}
 use Rattle.format.specs.Bytes.{Bytes}
 use Rattle.format.specs.Outcome.{Outcome, accepted, refused}
 use Rattle.format.specs.Block.{block}
-use Rattle.format.specs.Chain.{extent}
+use Rattle.format.specs.Chain.{extent, mostBlocks}
 use Rattle.format.specs.Nest.{deepest, Inside, closed, opened, isFile, walk, recordsFrom, records}
 use Rattle.nest.specs.declared.walk.ContentStep.{ContentStep}
 use Rattle.nest.specs.declared.walk.ContentStep.the-variants.{Closed, Open}
@@ -35,9 +36,9 @@ reads depth = readsFor (deepest - depth) depth
 unfoldable pub insideOf : ℕ → ℕ → Block → Bytes → Inside
 insideOf depth n b t = elim (isFile b t) [ true ↦ reads depth n t | false ↦ closed Plain ]
 
--- a record with its inner state, and behind it those of the blocks inside
-abbrev pub recordsWith : Record → Inside → List Record
-recordsWith r i = record { depth = r .depth; at = r .at; block = r .block; inner = i .state } ∷ i .records
+-- the record of a block, with its inner state, and behind it those of the blocks inside
+abbrev pub recordsWith : ℕ → OutermostOffset → Block → Inside → List Record
+recordsWith depth here b i = record { depth = depth; at = here; block = b; inner = i .state } ∷ i .records
 
 -- the records of so many blocks of the file s, the first of which is number i and at offset n
 abbrev pub recordsOf : ℕ → ℕ → Bytes → ℕ → ℕ → ℕ → List Record
@@ -47,14 +48,14 @@ recordsOf depth start s n i left = walk (reads depth) depth start s (blocksFrom 
 unfoldable pub allRecords : Bytes → List Record
 allRecords s = elim (records s) [ accepted rs ↦ rs | refused r ↦ [] ]
 
--- what a step answers of a content: its state, and where it is opened, how many blocks begin where
-pub record IsOpen (depth start : ℕ) (b : Block) (t : Bytes) (first blocks : ℕ) : Type 0 where
-  pub state : insideOf depth start b t .state ≡ Opened
-  pub records : insideOf depth start b t .records ≡ recordsOf (depth + 1) start t first 0 blocks
+-- the content t of a block at this depth is a file, with so many blocks, the first at this offset
+pub record IsOpen (depth : ℕ) (b : Block) (t : Bytes) (first blocks : ℕ) : Type 0 where
+  pub opens : (start : ℕ) → insideOf depth start b t ≡ record { state = Opened; records = recordsOf (depth + 1) start t first 0 blocks }
   pub inside : first ≤ length t
-  pub few : blocks ≤ 64
+  pub few : blocks ≤ mostBlocks
   pub higher : depth + 1 ≤ deepest
 
-abbrev pub ContentIs : ℕ → ℕ → Block → Bytes → ContentStep → Type 0
-ContentIs depth start b t (Closed i) = insideOf depth start b t ≡ closed i
-ContentIs depth start b t (Open first blocks) = IsOpen depth start b t first blocks
+-- what an answer says of it
+abbrev pub ContentIs : ℕ → Block → Bytes → ContentStep → Type 0
+ContentIs depth b t (Closed i) = (start : ℕ) → insideOf depth start b t ≡ closed i
+ContentIs depth b t (Open first blocks) = IsOpen depth b t first blocks

@@ -3,7 +3,7 @@ ghost use mathlib.Core.Path.{_≡_};
 ghost use mathlib.Core.List.{[], _∷_};
 ghost use Prim.Native.Nat.{_*_};
 ghost use Rattle.format.specs.Lent.{placed};
-ghost use Rattle.nest.specs.Sink.{Delivered, encoded, width, taken, begun};
+ghost use Rattle.nest.specs.Sink.{Delivered, encoded, width, foundAt, begun};
 use format::answer::RecordAnswer;
 use format::block::Record;
 use outline::row;
@@ -55,8 +55,14 @@ pub(crate) fn width_of(form: Form) -> u64
 pub(crate) fn take_record(k: Sink, r: Record, out: &mut [u8]) -> Sink
     ensures { λ x. ⌜ Delivered k (now (out .entry)) (r ∷ []) (now (out .exit)) x ⌝ }
 {
-    put_entry(k.form, k.number, r, out);
-    next(k, r)
+    let form = k.form;
+    let found = k.found;
+    put_entry(form, k.number, r, out);
+    Sink {
+        form,
+        number: std::num::wrapping_add_u64(k.number, 1),
+        found: found_with(form, k.number, r, found),
+    }
 }
 
 // Puts what the form wants of record number n. Where it does not fit, nothing changes.
@@ -67,54 +73,34 @@ fn put_entry(form: Form, n: u64, r: Record, out: &mut [u8])
         Form::Count => {}
         Form::One(_) => {}
         Form::Rows => {
-            if n < (out.len() / 16) as u64 {
-                row::put_row(out, n as usize * 16, row::row_of(r));
+            if (out.len() / 16) as u64 <= n {
+                return;
             }
+            row::put_row(out, n as usize * 16, row::row_of(r));
         }
         Form::Table => {
-            if n < (out.len() / 120) as u64 {
-                let numbers = fields::record_fields(r);
-                put::put_numbers(out, n as usize * 120, &numbers);
+            if (out.len() / 120) as u64 <= n {
+                return;
             }
+            let numbers = fields::record_fields(r);
+            put::put_numbers(out, n as usize * 120, &numbers);
         }
     }
 }
 
-// One record more has come.
-fn next(k: Sink, r: Record) -> Sink
-    ensures { λ x. ⌜ x ≡ taken k r ⌝ }
+// What is found once record number n has come, where this was found before.
+fn found_with(form: Form, n: u64, r: Record, found: RecordAnswer) -> RecordAnswer
+    ensures { λ x. ⌜ x ≡ foundAt form n r found ⌝ }
 {
-    let form = k.form;
-    let number = std::num::wrapping_add_u64(k.number, 1);
     match form {
-        Form::Count => Sink {
-            form,
-            number,
-            found: k.found,
-        },
-        Form::Rows => Sink {
-            form,
-            number,
-            found: k.found,
-        },
-        Form::Table => Sink {
-            form,
-            number,
-            found: k.found,
-        },
+        Form::Count => found,
+        Form::Rows => found,
+        Form::Table => found,
         Form::One(wanted) => {
-            if wanted == k.number {
-                return Sink {
-                    form,
-                    number,
-                    found: RecordAnswer::Found(r),
-                };
+            if wanted == n {
+                return RecordAnswer::Found(r);
             }
-            Sink {
-                form,
-                number,
-                found: k.found,
-            }
+            found
         }
     }
 }

@@ -2,7 +2,7 @@
 ghost use mathlib.Core.Path.{_≡_};
 ghost use Prim.Native.Nat.{_+_, _≤_};
 ghost use lib.ListN.{length};
-ghost use Rattle.format.specs.File.{mostBytes, layout as File·layout};
+ghost use Rattle.format.specs.File.{mostBytes, firstBlock, layout as File·layout};
 ghost use Rattle.format.specs.Nest.{deepest};
 ghost use Rattle.format.specs.Outcome.{accepted};
 ghost use Rattle.nest.specs.Sink.{Delivered, begun};
@@ -41,7 +41,9 @@ pub(crate) fn walk_all(s: &[u8], l: Layout, form: Form, out: &mut [u8]) -> Sink
 }
 
 // Where the first block begins, if there is one.
-fn first_block(l: Layout) -> usize {
+fn first_block(l: Layout) -> usize
+    ensures { λ r. ⌜ r ≡ firstBlock (l .«comments_end» .0) (l .tree) ⌝ }
+{
     let tree = l.tree;
     match tree {
         Tree::NoTree => l.comments_end.0 as usize,
@@ -80,36 +82,46 @@ fn walk_blocks(
             let from = at + 6 + b.header_size as usize;
             let used = b.used as usize;
             let next = from + b.allocated as usize;
-            let r = Record {
-                depth,
-                at: Offset(at as u64).outermost(start),
-                block: b,
-                inner: Inner::Plain,
-            };
+            let here = Offset(at as u64).outermost(start);
             let content = Offset(from as u64).outermost(start);
-            let mid = walk_content(&s[from..from + used], content, r, k, out);
+            let mid = walk_content(&s[from..from + used], content, depth, here, b, k, out);
             walk_blocks(s, depth, start, next, ordinal + 1, left - 1, mid, out)
         }
     }
 }
 
-// Takes the record of a block whose content is t, and behind it the records of the blocks inside.
-fn walk_content(t: &[u8], start: OutermostOffset, r: Record, k: Sink, out: &mut [u8]) -> Sink
+// Takes the record of a block at `here`, and behind it the records of the blocks inside. Its content is t, which begins at
+// `start` of the outermost file.
+fn walk_content(
+    t: &[u8],
+    start: OutermostOffset,
+    depth: u8,
+    here: OutermostOffset,
+    b: Block,
+    k: Sink,
+    out: &mut [u8],
+) -> Sink
     requires { ⌜ start .0 + length (now t) ≤ mostBytes ⌝ }
-    requires { ⌜ r .depth ≤ deepest ⌝ }
-    ensures { λ x. ⌜ Delivered k (now (out .entry)) (recordsWith r (insideOf (r .depth) (start .0) (r .block) (now (t .entry)))) (now (out .exit)) x ⌝ }
+    requires { ⌜ depth ≤ deepest ⌝ }
+    ensures { λ x. ⌜ Delivered k (now (out .entry)) (recordsWith depth here b (insideOf depth (start .0) b (now (t .entry)))) (now (out .exit)) x ⌝ }
 {
-    match content_of(t, r.depth, r.block) {
-        ContentStep::Closed(inner) => sink::take_record(k, with_inner(r, inner), out),
+    match content_of(t, depth, b) {
+        ContentStep::Closed(inner) => {
+            let r = Record { depth, at: here, block: b, inner };
+            sink::take_record(k, r, out)
+        }
         ContentStep::Open { first, blocks } => {
-            let mid = sink::take_record(k, with_inner(r, Inner::Opened), out);
-            walk_blocks(t, r.depth + 1, start, first, 0, blocks, mid, out)
+            let inner = Inner::Opened;
+            let r = Record { depth, at: here, block: b, inner };
+            let mid = sink::take_record(k, r, out);
+            walk_blocks(t, depth + 1, start, first, 0, blocks, mid, out)
         }
     }
 }
 
 // What the content t of a block at this depth is.
 fn content_of(t: &[u8], depth: u8, b: Block) -> ContentStep
+    ensures { λ x. ⌜ ContentIs depth b (now (t .entry)) x ⌝ }
 {
     if b.compression != 0 {
         return ContentStep::Closed(Inner::Plain);
@@ -126,16 +138,5 @@ fn content_of(t: &[u8], depth: u8, b: Block) -> ContentStep
             first: first_block(l),
             blocks: l.blocks,
         },
-    }
-}
-
-// The record with this inner state.
-fn with_inner(r: Record, inner: Inner) -> Record
-{
-    Record {
-        depth: r.depth,
-        at: r.at,
-        block: r.block,
-        inner,
     }
 }

@@ -1,0 +1,144 @@
+-- The blocks of an accepted file are read one after another, and there are no more records than bytes.
+use Prim.Native.Nat.{ℕ, zero, suc, _+_, _-_, _≤_, _<_}
+use native.Mathlib.Omega.{arith}
+use mathlib.Core.Path.{_≡_, refl, sym, ap, _∙_}
+use mathlib.Core.Bool.{Bool, true, false}
+use mathlib.Core.List.{List, [], _∷_, _++_}
+use lib.ListN.{length, take, drop, length-append, length-take, length-drop}
+use lib.Seq.{drop-drop}
+use Rattle.format.specs.declared.block.Block.{Block}
+use Rattle.format.specs.declared.block.Record.{Record}
+use Rattle.format.specs.declared.refusal.Refusal.{Refusal}
+use Rattle.format.specs.Bytes.{Bytes, IsBytes, begins}
+use Rattle.format.specs.Outcome.{Outcome, accepted, refused, _>>=_}
+use Rattle.format.specs.Tree.{mark}
+use Rattle.format.specs.Block.{isStreamed, block}
+use Rattle.format.specs.Chain.{Chain, mostBlocks, extent, ended, linked, isTail, tail, chain}
+use Rattle.format.specs.Nest.{contentAt, contentOf, isFile, Inside, inside, opened, walked, walk, walkFile, recordsFrom}
+use Rattle.format.specs.File.{File, file}
+use Rattle.format.proofs.FileLaws.{blocksStart, file-parts, in-order}
+use Rattle.format.proofs.OutcomeLaws.{Accepts, accepted-holds, accepts-bind, accepts-need, choice}
+use Rattle.file.proofs.BlockLaws.{Starts, block-starts}
+use Rattle.nest.specs.Walk.{blocksFrom}
+
+-- the blocks of a chain are those that are read from offset n on, and there are not more than allowed
+pub record Listed (k i n : ℕ) (t : Bytes) (c : Chain) : Type 0 where
+  pub few : length (c .blocks) ≤ k
+  pub same : c .blocks ≡ blocksFrom (length (c .blocks)) i n t
+
+-- where no block begins, no block follows
+tail-listed : (k i n : ℕ) (t : Bytes) → Accepts (Listed k i n t) (tail n t)
+unfolding tail blocksFrom
+tail-listed k i n t = accepts-need (Listed k i n t) (isTail t) 17 n (accepted (ended t)) λ h. record { few = omega arith; same = refl }
+
+-- a block in front of others, or of none where it is streamed
+linked-listed : (k i n : ℕ) (t : Bytes) (b : Block) (streamed : Bool) (o : Outcome Chain) → block i n t ≡ accepted b
+    → Accepts (Listed k (i + 1) (n + extent b) (drop (extent b) t)) o
+    → Accepts (Listed (suc k) i n t) (_>>=_ (elim streamed [ true ↦ accepted (ended []) | false ↦ o ]) (λ c. accepted (linked b c)))
+unfolding blocksFrom
+linked-listed k i n t b true o h hs = record { few = omega arith; same = rw (blocksFrom, h) }
+linked-listed k i n t b false (accepted c) h hs =
+    record { few = omega (arith, hs .few); same = rw (blocksFrom, h) (ap (λ (bs : List Block). b ∷ bs) (hs .same)) }
+linked-listed k i n t b false (refused r) h hs = tt
+
+-- the blocks of an accepted chain are listed
+pub chain-listed : (k i n : ℕ) (t : Bytes) → Accepts (Listed k i n t) (chain k i n t)
+unfolding chain
+chain-listed zero i n t = choice (Accepts (Listed zero i n t)) (begins mark t) _ _ tt (tail-listed zero i n t)
+chain-listed (suc k) i n t =
+    choice (Accepts (Listed (suc k) i n t)) (begins mark t) _ _
+    (accepts-bind (Listed (suc k) i n t) (block i n t) _ λ b h.
+    linked-listed k i n t b (isStreamed (b .flags)) (chain k (i + 1) (n + extent b) (drop (extent b) t)) h
+    (chain-listed k (i + 1) (n + extent b) (drop (extent b) t)))
+    (tail-listed (suc k) i n t)
+
+-- the blocks of the accepted file s
+pub record Own (s : Bytes) (f : File) : Type 0 where
+  pub few : length (f .blocks) ≤ mostBlocks
+  pub same : f .blocks ≡ blocksFrom (length (f .blocks)) 0 (blocksStart f) (drop (blocksStart f) s)
+  pub inside : blocksStart f ≤ length s
+
+pub own-blocks : (s : Bytes) (f : File) → file s ≡ accepted f → Own s f
+own-blocks s f e =
+    let parts = file-parts s f e in
+    let order = in-order s f parts in
+    let m = blocksStart f in
+    let listed = accepted-holds (Listed mostBlocks 0 m (drop m s)) (chain mostBlocks 0 m (drop m s)) _ (chain-listed mostBlocks 0 m (drop m s)) (parts .chain-read) in
+    record { few = listed .few; same = listed .same; inside = omega (arith, order .blocks-start, order .tail-start) }
+
+-- the bytes of s from offset n on begin with the block b, which is number i
+pub record BlockAt (s : Bytes) (i n : ℕ) (b : Block) : Type 0 where
+  pub read : block i n (drop n s) ≡ accepted b
+  pub at : b .at .0 ≡ n
+  pub inside : n + extent b ≤ length s
+  pub used : b .used ≤ b .allocated
+
+pub block-at : (s : Bytes) (i n : ℕ) (b : Block) → n ≤ length s → block i n (drop n s) ≡ accepted b → BlockAt s i n b
+block-at s i n b h e =
+    let starts = accepted-holds (Starts n (drop n s)) (block i n (drop n s)) b (block-starts i n (drop n s)) e in
+    record { read = e; at = starts .at; inside = omega (arith, starts .inside, length-drop n s); used = starts .used }
+
+-- blocks from offset n on, of which the first is read
+pub blocks-next : (left i n : ℕ) (s : Bytes) (b : Block) → block i n (drop n s) ≡ accepted b
+    → blocksFrom (suc left) i n (drop n s) ≡ b ∷ blocksFrom left (i + 1) (n + extent b) (drop (n + extent b) s)
+unfolding blocksFrom
+blocks-next left i n s b h = rw (blocksFrom, h, drop-drop)
+
+-- or refused
+pub blocks-refused : (left i n : ℕ) (s : Bytes) (r : Refusal) → block i n (drop n s) ≡ refused r → blocksFrom left i n (drop n s) ≡ []
+unfolding blocksFrom
+blocks-refused zero i n s r h = refl
+blocks-refused (suc left) i n s r h = rw (blocksFrom, h)
+
+module _ (reads : ℕ → Bytes → Inside) (inner : (m : ℕ) (t : Bytes) → length (reads m t .records) ≤ length t) where
+  -- no more records are inside a block than its content has bytes
+  inside-few : (start : ℕ) (s : Bytes) (b : Block) → length (inside reads start s b .records) ≤ b .used
+  unfolding inside
+  inside-few start s b =
+      choice (λ (i : Inside). length (i .records) ≤ b .used) (isFile b (contentOf b s)) _ _
+      (omega (arith, inner (start + contentAt b) (contentOf b s), length-take (b .used) (drop (contentAt b) s)))
+      (omega arith)
+
+  -- a block's records are no more than its bytes
+  walked-few : (depth start : ℕ) (s : Bytes) (i n : ℕ) (b : Block) (bs : List Block) → BlockAt s i n b
+      → n + extent b + length (walk reads depth start s bs) ≤ length s → n + length (walk reads depth start s (b ∷ bs)) ≤ length s
+  unfolding walk walked
+  walked-few depth start s i n b bs h k =
+      rw (length-append) (omega (arith, inside-few start s b, h .used))
+
+  -- no more records come from blocks than there are bytes
+  walk-few : (left i n depth start : ℕ) (s : Bytes) → n ≤ length s
+      → n + length (walk reads depth start s (blocksFrom left i n (drop n s))) ≤ length s
+  unfolding walk blocksFrom
+  walk-few zero i n depth start s h = omega arith
+  walk-few (suc left) i n depth start s h =
+      by-block (block i n (drop n s)) refl (λ b g. walk-few left (i + 1) (n + extent b) depth start s g)
+    where
+      by-block : (o : Outcome Block) → block i n (drop n s) ≡ o
+          → ((b : Block) → n + extent b ≤ length s
+          → n + extent b + length (walk reads depth start s (blocksFrom left (i + 1) (n + extent b) (drop (n + extent b) s))) ≤ length s)
+          → n + length (walk reads depth start s (blocksFrom (suc left) i n (drop n s))) ≤ length s
+      by-block (refused r) e rest = rw (blocks-refused (suc left) i n s r e) (omega arith)
+      by-block (accepted b) e rest =
+          let at = block-at s i n b h e in
+          rw (blocks-next left i n s b e) (walked-few depth start s i n b (blocksFrom left (i + 1) (n + extent b) (drop (n + extent b) s)) at (rest b (at .inside)))
+
+  -- an accepted file has no more records than bytes
+  file-few : (depth start : ℕ) (s : Bytes) → Accepts (λ rs. length rs ≤ length s) (walkFile reads depth start s)
+  unfolding walkFile
+  file-few depth start s =
+      accepts-bind (λ rs. length rs ≤ length s) (file s) _ λ f e.
+      let own = own-blocks s f e in
+      rw (own .same) (omega (arith, walk-few (length (f .blocks)) 0 (blocksStart f) depth start s (own .inside)))
+
+-- what is inside an opened block has no more records than bytes
+opened-few : (t : Bytes) (o : Outcome (List Record)) → Accepts (λ rs. length rs ≤ length t) o → length (opened o .records) ≤ length t
+unfolding opened
+opened-few t (accepted rs) h = h
+opened-few t (refused r) h = omega arith
+
+-- an accepted file at any depth has no more records than bytes
+pub records-few : (levels depth start : ℕ) (s : Bytes) → Accepts (λ rs. length rs ≤ length s) (recordsFrom levels depth start s)
+unfolding recordsFrom
+records-few zero depth start s = file-few _ (λ n t. omega arith) depth start s
+records-few (suc levels) depth start s = file-few _ (λ n t. opened-few t _ (records-few levels (depth + 1) n t)) depth start s

@@ -1,0 +1,4 @@
+-- Laws that the proofs of the walk cite.
+pub mod SinkLaws
+pub mod BlocksLaws
+pub mod ContentLaws
