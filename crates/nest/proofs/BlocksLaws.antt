@@ -1,11 +1,13 @@
 -- The blocks of an accepted file are read one after another, and there are no more records than bytes.
-use Prim.Native.Nat.{ℕ, zero, suc, _+_, _-_, _≤_, _<_}
+use Prim.Native.Nat.{ℕ, zero, suc, _+_, _-_, _^_, _≤_, _<_}
 use native.Mathlib.Omega.{arith}
 use mathlib.Core.Path.{_≡_, refl, sym, ap, _∙_}
 use mathlib.Core.Bool.{Bool, true, false}
 use mathlib.Core.List.{List, [], _∷_, _++_}
 use lib.ListN.{length, take, drop, length-append, length-take, length-drop}
 use lib.Seq.{drop-drop}
+use mir.Syntax.{w64}
+use mir.Val.{Fits}
 use Rattle.format.specs.declared.block.Block.{Block}
 use Rattle.format.specs.declared.block.Record.{Record}
 use Rattle.format.specs.declared.refusal.Refusal.{Refusal}
@@ -18,8 +20,12 @@ use Rattle.format.specs.Nest.{contentAt, contentOf, isFile, Inside, inside, ope
 use Rattle.format.specs.File.{File, file}
 use Rattle.format.proofs.FileLaws.{blocksStart, file-parts, in-order}
 use Rattle.format.proofs.OutcomeLaws.{Accepts, accepted-holds, accepts-bind, accepts-need, choice}
+use Rattle.file.specs.declared.block.BlockStep.{BlockStep}
+use Rattle.file.specs.declared.block.BlockStep.the-variants as BlockStep·is
+use Rattle.file.specs.Step.{blockOf}
+use Rattle.file.proofs.PartLaws.{part-all}
 use Rattle.file.proofs.BlockLaws.{Starts, block-starts}
-use Rattle.nest.specs.Walk.{blocksFrom}
+use Rattle.nest.specs.Walk.{blocksFrom, BlockAt}
 
 -- the blocks of a chain are those that are read from offset n on, and there are not more than allowed
 pub record Listed (k i n : ℕ) (t : Bytes) (c : Chain) : Type 0 where
@@ -67,14 +73,14 @@ own-blocks s f e =
     record { few = listed .few; same = listed .same; inside = omega (arith, order .blocks-start, order .tail-start) }
 
 -- the bytes of s from offset n on begin with the block b, which is number i
-pub record BlockAt (s : Bytes) (i n : ℕ) (b : Block) : Type 0 where
+pub record Begins (s : Bytes) (i n : ℕ) (b : Block) : Type 0 where
   pub read : block i n (drop n s) ≡ accepted b
   pub at : b .at .0 ≡ n
   pub inside : n + extent b ≤ length s
   pub used : b .used ≤ b .allocated
 
-pub block-at : (s : Bytes) (i n : ℕ) (b : Block) → n ≤ length s → block i n (drop n s) ≡ accepted b → BlockAt s i n b
-block-at s i n b h e =
+pub block-begins : (s : Bytes) (i n : ℕ) (b : Block) → n ≤ length s → block i n (drop n s) ≡ accepted b → Begins s i n b
+block-begins s i n b h e =
     let starts = accepted-holds (Starts n (drop n s)) (block i n (drop n s)) b (block-starts i n (drop n s)) e in
     record { read = e; at = starts .at; inside = omega (arith, starts .inside, length-drop n s); used = starts .used }
 
@@ -100,7 +106,7 @@ module _ (reads : ℕ → Bytes → Inside) (inner : (m : ℕ) (t : Bytes) → l
       (omega arith)
 
   -- a block's records are no more than its bytes
-  walked-few : (depth start : ℕ) (s : Bytes) (i n : ℕ) (b : Block) (bs : List Block) → BlockAt s i n b
+  walked-few : (depth start : ℕ) (s : Bytes) (i n : ℕ) (b : Block) (bs : List Block) → Begins s i n b
       → n + extent b + length (walk reads depth start s bs) ≤ length s → n + length (walk reads depth start s (b ∷ bs)) ≤ length s
   unfolding walk walked
   walked-few depth start s i n b bs h k =
@@ -120,7 +126,7 @@ module _ (reads : ℕ → Bytes → Inside) (inner : (m : ℕ) (t : Bytes) → l
           → n + length (walk reads depth start s (blocksFrom (suc left) i n (drop n s))) ≤ length s
       by-block (refused r) e rest = rw (blocks-refused (suc left) i n s r e) (omega arith)
       by-block (accepted b) e rest =
-          let at = block-at s i n b h e in
+          let at = block-begins s i n b h e in
           rw (blocks-next left i n s b e) (walked-few depth start s i n b (blocksFrom left (i + 1) (n + extent b) (drop (n + extent b) s)) at (rest b (at .inside)))
 
   -- an accepted file has no more records than bytes
@@ -142,3 +148,41 @@ pub records-few : (levels depth start : ℕ) (s : Bytes) → Accepts (λ rs. len
 unfolding recordsFrom
 records-few zero depth start s = file-few _ (λ n t. omega arith) depth start s
 records-few (suc levels) depth start s = file-few _ (λ n t. opened-few t _ (records-few levels (depth + 1) n t)) depth start s
+
+module _ (s : Bytes) (i n : ℕ) (h : n ≤ length s) (x : BlockStep) (read : blockOf x ≡ block i n (take (length s - n) (drop n s))) where
+  -- no block is read
+  pub next-none : (r : Refusal) → x ≡ BlockStep·is.Refused r → blocksFrom 1 i n (drop n s) ≡ []
+  unfolding blockOf
+  next-none r e = blocks-refused 1 i n s r (ap (block i n) (sym (part-all s n)) ∙ sym read ∙ ap blockOf e)
+
+  module _ (b : Block) (e : x ≡ BlockStep·is.Read b) where
+    begins-here : Begins s i n b
+    unfolding blockOf
+    begins-here = block-begins s i n b h (ap (block i n) (sym (part-all s n)) ∙ sym read ∙ ap blockOf e)
+
+    -- its header, its content and its allocated space end inside
+    pub next-six : length s < 2 ^ 64 → Fits w64 (n + 6)
+    next-six g = omega (arith, begins-here .inside)
+
+    pub next-header : length s < 2 ^ 64 → Fits w64 (n + 6 + b .«header_size»)
+    next-header g = omega (arith, begins-here .inside)
+
+    pub next-used : length s < 2 ^ 64 → Fits w64 (n + 6 + b .«header_size» + b .used)
+    next-used g = omega (arith, begins-here .inside, begins-here .used)
+
+    pub next-allocated : length s < 2 ^ 64 → Fits w64 (n + 6 + b .«header_size» + b .allocated)
+    next-allocated g = omega (arith, begins-here .inside)
+
+    -- it is the next block
+    pub next-found : BlockAt s i n b (n + 6 + b .«header_size») (n + 6 + b .«header_size» + b .used) (n + 6 + b .«header_size» + b .allocated)
+    next-found =
+        let here = begins-here in
+        record {
+          read = here .read;
+          at = here .at;
+          begin = rw (here .at);
+          size = refl;
+          behind = omega arith;
+          used = omega (arith, here .used);
+          inside = omega (arith, here .inside);
+        }

@@ -2,3 +2,4 @@
 pub mod SinkLaws
 pub mod BlocksLaws
 pub mod ContentLaws
+pub mod WalkLaws

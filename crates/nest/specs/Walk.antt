@@ -13,7 +13,9 @@ use Rattle.format.specs.Bytes.{Bytes}
 use Rattle.format.specs.Outcome.{Outcome, accepted, refused}
 use Rattle.format.specs.Block.{block}
 use Rattle.format.specs.Chain.{extent, mostBlocks}
-use Rattle.format.specs.Nest.{deepest, Inside, closed, opened, isFile, walk, recordsFrom, records}
+use Rattle.format.specs.Nest.{deepest, contentAt, contentOf, Inside, closed, opened, isFile, walk, recordsFrom, records}
+use Rattle.nest.specs.declared.walk.NextStep.{NextStep}
+use Rattle.nest.specs.declared.walk.NextStep.the-variants as NextStep·is
 use Rattle.nest.specs.declared.walk.ContentStep.{ContentStep}
 use Rattle.nest.specs.declared.walk.ContentStep.the-variants.{Closed, Open}
 
@@ -47,6 +49,21 @@ recordsOf depth start s n i left = walk (reads depth) depth start s (blocksFrom 
 -- all records of an accepted file
 unfoldable pub allRecords : Bytes → List Record
 allRecords s = elim (records s) [ accepted rs ↦ rs | refused r ↦ [] ]
+
+-- the block b, which is number i, begins at offset n of the file s; its content, and where the next one begins
+pub record BlockAt (s : Bytes) (i n : ℕ) (b : Block) (from to next : ℕ) : Type 0 where
+  pub read : block i n (drop n s) ≡ accepted b
+  pub at : b .at .0 ≡ n
+  pub begin : from ≡ contentAt b
+  pub size : to ≡ from + b .used
+  pub behind : next ≡ n + extent b
+  pub used : to ≤ next
+  pub inside : next ≤ length s
+
+-- what an answer says of it
+abbrev pub NextIs : Bytes → ℕ → ℕ → NextStep → Type 0
+NextIs s i n NextStep·is.NoBlock = blocksFrom 1 i n (drop n s) ≡ []
+NextIs s i n (NextStep·is.Block b from to next) = BlockAt s i n b from to next
 
 -- the content t of a block at this depth is a file, with so many blocks, the first at this offset
 pub record IsOpen (depth : ℕ) (b : Block) (t : Bytes) (first blocks : ℕ) : Type 0 where

@@ -6,7 +6,7 @@ ghost use Rattle.format.specs.File.{mostBytes, firstBlock, layout as File·layo
 ghost use Rattle.format.specs.Nest.{deepest};
 ghost use Rattle.format.specs.Outcome.{accepted};
 ghost use Rattle.nest.specs.Sink.{Delivered, begun};
-ghost use Rattle.nest.specs.Walk.{recordsOf, recordsWith, insideOf, ContentIs, allRecords};
+ghost use Rattle.nest.specs.Walk.{recordsOf, recordsWith, insideOf, NextIs, ContentIs, allRecords};
 use crate::sink;
 use crate::sink::Form;
 use crate::sink::Sink;
@@ -28,6 +28,18 @@ pub(crate) enum ContentStep {
     Closed(Inner),
     // It is a file with so many blocks, the first at this offset.
     Open { first: usize, blocks: u8 },
+}
+
+// What is read where a block begins.
+pub(crate) enum NextStep {
+    NoBlock,
+    // The block, whose content runs from one offset to another, and where the next one begins.
+    Block {
+        b: Block,
+        from: usize,
+        to: usize,
+        next: usize,
+    },
 }
 
 // Walks all blocks of an accepted file.
@@ -76,16 +88,32 @@ fn walk_blocks(
     if left == 0 {
         return k;
     }
-    match block::read_block(&s[at..], ordinal, at) {
-        BlockStep::Refused(_) => k,
-        BlockStep::Read(b) => {
-            let from = at + 6 + b.header_size as usize;
-            let used = b.used as usize;
-            let next = from + b.allocated as usize;
+    match next_block(s, at, ordinal) {
+        NextStep::NoBlock => k,
+        NextStep::Block { b, from, to, next } => {
             let here = Offset(at as u64).outermost(start);
             let content = Offset(from as u64).outermost(start);
-            let mid = walk_content(&s[from..from + used], content, depth, here, b, k, out);
+            let mid = walk_content(&s[from..to], content, depth, here, b, k, out);
             walk_blocks(s, depth, start, next, ordinal + 1, left - 1, mid, out)
+        }
+    }
+}
+
+// The block with this ordinal at an offset of the file.
+fn next_block(s: &[u8], at: usize, ordinal: u8) -> NextStep
+    requires { ⌜ at ≤ length (now s) ⌝ }
+    ensures { λ x. ⌜ NextIs (now (s .entry)) ordinal at x ⌝ }
+{
+    match block::read_block(&s[at..], ordinal, at) {
+        BlockStep::Refused(_) => NextStep::NoBlock,
+        BlockStep::Read(b) => {
+            let from = at + 6 + b.header_size as usize;
+            NextStep::Block {
+                b,
+                from,
+                to: from + b.used as usize,
+                next: from + b.allocated as usize,
+            }
         }
     }
 }
@@ -107,12 +135,22 @@ fn walk_content(
 {
     match content_of(t, depth, b) {
         ContentStep::Closed(inner) => {
-            let r = Record { depth, at: here, block: b, inner };
+            let r = Record {
+                depth,
+                at: here,
+                block: b,
+                inner,
+            };
             sink::take_record(k, r, out)
         }
         ContentStep::Open { first, blocks } => {
             let inner = Inner::Opened;
-            let r = Record { depth, at: here, block: b, inner };
+            let r = Record {
+                depth,
+                at: here,
+                block: b,
+                inner,
+            };
             let mid = sink::take_record(k, r, out);
             walk_blocks(t, depth + 1, start, first, 0, blocks, mid, out)
         }
