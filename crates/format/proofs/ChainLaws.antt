@@ -13,7 +13,7 @@ use Rattle.format.specs.Bytes.{Bytes, begins}
 use Rattle.format.specs.Outcome.{Outcome, accepted, refused, _>>=_}
 use Rattle.format.specs.Block.{headerSize, flags, compression, allocatedSize, usedSize, dataSize, leastHeader, isStreamed, contentStart, bytesLeft, blockWith, block}
 use Rattle.format.specs.Tree.{mark}
-use Rattle.format.specs.Chain.{Chain, extent, isTail, ended, linked, tail, chain}
+use Rattle.format.specs.Chain.{Chain, extent, isTail, ended, linked, tail, chain, blocksEnd}
 use Rattle.format.specs.IndexWriter.{mayHaveIndex}
 use Rattle.format.proofs.OutcomeLaws.{Accepts, accepted-holds, accepts-bind, accepts-need}
 use Rattle.format.proofs.ReadLaws.{accepts-choice, Between}
@@ -107,11 +107,6 @@ module _ (i n : ℕ) (t : Bytes) (least : leb leastHeader (headerSize t) ≡ tru
 block-begun : (i n : ℕ) (t : Bytes) → Accepts (Begun i n t) (block i n t)
 unfolding block
 block-begun i n t = search (accepts-need, accepts-choice (Begun i n t) (isStreamed (flags t)), streamed-begun, plain-begun) depth 12
-
--- where the last block's allocated space ends, and n where there is no block
-unfoldable pub blocksEnd : ℕ → List Block → ℕ
-blocksEnd n [] = n
-blocksEnd n (b ∷ bs) = blocksEnd (b .at .0 + extent b) bs
 
 -- the blocks of c are a front part of t and its tail is the rest; they are the same with another tail if, of a block b and them, the last is not streamed
 record ChainFront (k i n : ℕ) (t : Bytes) (c : Chain) : Type 0 where

@@ -18,17 +18,13 @@ use Rattle.format.specs.Tree.{mark}
 use Rattle.format.specs.Chain.{mostBlocks, isTail}
 use Rattle.format.specs.Index.{verdict, rendering, indexText, IsIndex}
 use Rattle.format.specs.File.{mostBytes, File, firstBlock, goesOn, offsets, file}
-use Rattle.format.specs.IndexWriter.{mayHaveIndex}
-use Rattle.format.proofs.OutcomeLaws.{accepted-holds}
+use Rattle.format.specs.IndexWriter.{mayHaveIndex, indexFor, tailStart, judgedAs, GoodBehind}
+use Rattle.format.proofs.OutcomeLaws.{accepted-holds, accepts-bind, accepts-need}
 use Rattle.format.proofs.BlockLaws.{AllSound, SoundFile, file-sound}
 use Rattle.format.proofs.IndexLaws.{good-is-index, index-is-good, text-is-index}
 use Rattle.format.proofs.LocalLaws.{header-again, comments-kept, tree-kept, goes-on-no-comment}
 use Rattle.format.proofs.ChainLaws.{blocks-begin, chain-again}
-use Rattle.format.proofs.FileLaws.{blocksStart, tailStart, Parts, file-parts, parts-file, in-order, file-tail}
-
--- what is found in a file, with another verdict
-abbrev pub judgedAs : Verdict → File → File
-judgedAs v f = record { header = f .header; commentsEnd = f .commentsEnd; tree = f .tree; blocks = f .blocks; verdict = v }
+use Rattle.format.proofs.FileLaws.{blocksStart, Parts, file-parts, parts-file, in-order, file-tail}
 
 -- a file may go on where a block begins
 goes-on-marked : (n : ℕ) (p y : Bytes) (t : Tree) → n ≤ length p → begins mark (drop (firstBlock n t) p ++ y) ≡ true → goesOn t (drop n (p ++ y)) ≡ true
@@ -109,6 +105,13 @@ indexed-again s f bytes e m short =
     let ns = offsets (f .blocks) in
     file-again s f e m (indexText ns) (text-is-tail ns) short
     ∙ ap (λ (v : Verdict). accepted (judgedAs v f)) (index-is-good ns (indexText ns) (offsets-small s f bytes e) (text-is-index ns (some-offset (f .blocks) m)))
+
+-- and so it is with the index that the writer gives
+pub index-good : (s t : Bytes) → IsBytes s → indexFor s ≡ accepted t → GoodBehind s t
+unfolding indexFor
+index-good s t bytes =
+    accepted-holds (GoodBehind s) (indexFor s) t
+    (accepts-bind _ (file s) _ λ f e. accepts-need _ (mayHaveIndex (f .blocks)) 22 0 _ λ m. record { found = f; is = e; good = indexed-again s f bytes e m })
 
 -- the verdict on a file's index is good exactly if what stands behind the last block is an index of the blocks' offsets
 pub record GoodExactly (s : Bytes) (f : File) : Type 0 where
