@@ -2,3 +2,4 @@
 pub mod PutLaws
 pub mod DecimalLaws
 pub mod TextLaws
+pub mod WrittenLaws
