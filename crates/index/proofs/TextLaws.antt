@@ -5,8 +5,8 @@ use native.Mathlib.Numerals.{add-one}
 use native.Mathlib.Omega.{arith}
 use mathlib.Core.Path.{_≡_, refl, sym, ap, _∙_}
 use mathlib.Core.List.{List, [], _∷_, _++_, map, flatMap, append-assoc, append-nil}
-use lib.ListN.{length, drop, getD, length-append, drop-of-length-le}
-use lib.Seq.{drop-cons}
+use lib.ListN.{length, take, drop, getD, length-append, drop-of-length-le}
+use lib.Seq.{take-all, drop-cons}
 use Rattle.format.specs.Bytes.{Bytes, text}
 use Rattle.format.specs.Lent.{placed}
 use Rattle.format.specs.Numeral.{decimal}
@@ -14,11 +14,7 @@ use Rattle.format.specs.Index.{Entry, entry, entries, rendering, spaced, indexT
 use Rattle.format.proofs.IndexLaws.{digitCount, text-length}
 use Rattle.put.specs.Decimal.{DecimalLength}
 use Rattle.put.proofs.PutLaws.{placed-append, placed-length, placed-sets, placed-behind}
-use Rattle.index.specs.Index.{listText, nextText, PutAt}
-
--- the numbers of a list behind its first
-abbrev others : List ℕ → Bytes
-others ns = flatMap nextText ns
+use Rattle.index.specs.Index.{listText, nextText, othersText, PutAt}
 
 -- a number behind another, as an entry
 abbrev next : ℕ → Entry
@@ -30,18 +26,18 @@ unfolding entry
 next-entry n = append-nil (32 ∷ decimal n)
 
 -- an entry and others behind it
-entries-others : (e : Entry) (ns : List ℕ) → entries (e ∷ map next ns) ≡ entry e ++ others ns
+entries-others : (e : Entry) (ns : List ℕ) → entries (e ∷ map next ns) ≡ entry e ++ othersText ns
 unfolding entries flatMap
 entries-others e [] = sym (append-nil (entry e))
 entries-others e (n ∷ ns) =
     append-assoc (entry e) (text ",") (entries (next n ∷ map next ns))
-    ∙ ap (λ (t : Bytes). entry e ++ (44 ∷ t)) (entries-others (next n) ns ∙ ap (λ (t : Bytes). t ++ others ns) (next-entry n))
+    ∙ ap (λ (t : Bytes). entry e ++ (44 ∷ t)) (entries-others (next n) ns ∙ ap (λ (t : Bytes). t ++ othersText ns) (next-entry n))
 
 -- a list is its first number and the others behind it
-list-others : (n : ℕ) (ns : List ℕ) → listText (n ∷ ns) ≡ decimal n ++ others ns
+list-others : (n : ℕ) (ns : List ℕ) → listText (n ∷ ns) ≡ decimal n ++ othersText ns
 unfolding spaced entry
 list-others n ns =
-    entries-others (record { before = 0; number = n; after = 0 }) ns ∙ ap (λ (t : Bytes). t ++ others ns) (append-nil (decimal n))
+    entries-others (record { before = 0; number = n; after = 0 }) ns ∙ ap (λ (t : Bytes). t ++ othersText ns) (append-nil (decimal n))
 
 -- what stands before the list of an index, and what behind
 abbrev front : Bytes
@@ -105,58 +101,77 @@ module _ (out : Bytes) (at x : ℕ) (room : at + length (nextText x) ≤ length 
 pub record Listing (before : Bytes) (at : ℕ) (ns : List ℕ) (out : Bytes) (end i : ℕ) : Type 0 where
   pub inside : i ≤ length ns
   pub size : length out ≡ length before
-  pub room : end + length (others (drop i ns)) ≡ at + length (listText ns)
-  pub put : placed out end (others (drop i ns)) ≡ placed before at (listText ns)
+  pub room : end + length (othersText (drop i ns)) ≡ at + length (othersText ns)
+  pub put : placed out end (othersText (drop i ns)) ≡ placed before at (othersText ns)
 
-module _ (before : Bytes) (at : ℕ) where
-  -- the first number is put
-  pub list-start : (ns : List ℕ) → 1 ≤ length ns → at + length (listText ns) ≤ length before → (n : ℕ) → DecimalLength (getD ns 0 0) n
-      → (out : Bytes) → out ≡ placed before at (decimal (getD ns 0 0)) → Listing before at ns out (at + n) 1
-  list-start [] some-number room n e out f = absurd (omega arith)
-  list-start (x ∷ ns) some-number room n e out f =
-      let whole = list-others x ns in
-      let size : length (listText (x ∷ ns)) ≡ length (decimal x) + length (others ns) = ap length whole ∙ length-append (decimal x) (others ns) in
-      record {
-        inside = omega arith;
-        size = ap length f ∙ placed-length before at (decimal x);
-        room = omega (arith, e .is, size);
-        put = rw (f, e .is, whole) (placed-append before at (decimal x) (others ns) (omega arith));
-      }
+module _ (before : Bytes) (at : ℕ) (ns : List ℕ) where
+  -- none is put yet
+  pub others-start : Listing before at ns before at 0
+  others-start = record { inside = omega arith; size = refl; room = refl; put = refl }
 
-  module _ (ns : List ℕ) (room : at + length (listText ns) ≤ length before) (out : Bytes) (end i : ℕ) (h : Listing before at ns out end i) where
+  module _ (room : at + length (othersText ns) ≤ length before) (out : Bytes) (end i : ℕ) (h : Listing before at ns out end i) where
     -- another number is left
     module _ (p : i < length ns) where
-      left : others (drop i ns) ≡ nextText (getD ns i 0) ++ others (drop (i + 1) ns)
+      left : othersText (drop i ns) ≡ nextText (getD ns i 0) ++ othersText (drop (i + 1) ns)
       unfolding flatMap
       left = rw (drop-cons ns i 0 p, add-one i)
 
-      left-length : length (others (drop i ns)) ≡ length (nextText (getD ns i 0)) + length (others (drop (i + 1) ns))
-      left-length = ap length left ∙ length-append (nextText (getD ns i 0)) (others (drop (i + 1) ns))
+      left-length : length (othersText (drop i ns)) ≡ length (nextText (getD ns i 0)) + length (othersText (drop (i + 1) ns))
+      left-length = ap length left ∙ length-append (nextText (getD ns i 0)) (othersText (drop (i + 1) ns))
 
-      pub list-room : end + length (nextText (getD ns i 0)) ≤ length out
-      list-room = omega (arith, h .room, h .size, left-length)
+      pub others-room : end + length (nextText (getD ns i 0)) ≤ length out
+      others-room = omega (arith, h .room, h .size, left-length)
 
       -- it is put
-      pub list-step : (after : Bytes) (r : ℕ) → PutAt out after end (nextText (getD ns i 0)) r → Listing before at ns after r (i + 1)
-      list-step after r q = record {
-        inside = omega arith;
-        size = ap length (q .buffer) ∙ placed-length out end (nextText (getD ns i 0)) ∙ h .size;
-        room = omega (arith, q .end, h .room, left-length);
-        put =
-            rw (q .buffer, q .end) (placed-append out end (nextText (getD ns i 0)) (others (drop (i + 1) ns)) (omega (arith, h .room, h .size, left-length)))
-            ∙ rw left at (h .put);
-      }
+      pub others-step : (after : Bytes) (r : ℕ) → PutAt out after end (nextText (getD ns i 0)) r → Listing before at ns after r (i + 1)
+      others-step after r q =
+          let both = placed-append out end (nextText (getD ns i 0)) (othersText (drop (i + 1) ns)) (omega (arith, h .room, h .size, left-length)) in
+          record {
+            inside = omega arith;
+            size = ap length (q .buffer) ∙ placed-length out end (nextText (getD ns i 0)) ∙ h .size;
+            room = omega (arith, q .end, h .room, left-length);
+            put = rw (q .buffer, q .end) both ∙ rw left at (h .put);
+          }
 
     -- none is left
-    pub list-done : length ns ≤ i → PutAt before out at (listText ns) end
+    pub others-done : length ns ≤ i → PutAt before out at (othersText ns) end
     unfolding flatMap
-    list-done p =
+    others-done p =
         let none : drop i ns ≡ [] = drop-of-length-le ns p in
-        let size : end + 0 ≡ at + length (listText ns) = rw none at (h .room) in
+        let size : end + 0 ≡ at + length (othersText ns) = rw none at (h .room) in
         record {
           buffer = sym (placed-sets out end [] (omega (arith, h .size))) ∙ rw none at (h .put);
           end = omega arith;
         }
+
+-- a list with a number is its first and the others
+list-parts : (ns : List ℕ) → 1 ≤ length ns → listText ns ≡ decimal (getD ns 0 0) ++ othersText (take (length ns - 1) (drop 1 ns))
+list-parts [] h = absurd (omega arith)
+list-parts (n ∷ ns) h = list-others n ns ∙ ap (λ (ms : List ℕ). decimal n ++ othersText ms) (sym (take-all (suc (length ns) - 1) ns (omega arith)))
+
+module _ (out : Bytes) (at : ℕ) (ns : List ℕ) (some-number : 1 ≤ length ns) (room : at + length (listText ns) ≤ length out) (n : ℕ)
+    (e : DecimalLength (getD ns 0 0) n) where
+  list-length : length (listText ns) ≡ n + length (othersText (take (length ns - 1) (drop 1 ns)))
+  list-length = ap length (list-parts ns some-number) ∙ length-append (decimal (getD ns 0 0)) _ ∙ rw (e .is)
+
+  -- the first ends inside
+  pub first-end : at + n ≤ length out
+  first-end = omega (arith, list-length)
+
+  module _ (mid : Bytes) (f : mid ≡ placed out at (decimal (getD ns 0 0))) where
+    -- there is room for the others
+    pub others-fit : at + n + length (othersText (take (length ns - 1) (drop 1 ns))) ≤ length mid
+    others-fit = omega (arith, list-length, ap length f, placed-length out at (decimal (getD ns 0 0)))
+
+    -- they are put behind it
+    pub list-put : (after : Bytes) (r : ℕ) → PutAt mid after (at + n) (othersText (take (length ns - 1) (drop 1 ns))) r
+        → PutAt out after at (listText ns) r
+    list-put after r q = record {
+      buffer =
+          placed-behind out mid after at n (decimal (getD ns 0 0)) _ f (sym (e .is)) (q .buffer) (omega (arith, list-length))
+          ∙ ap (placed out at) (sym (list-parts ns some-number));
+      end = omega (arith, q .end, list-length);
+    }
 
 module _ (out a : Bytes) (ns : List ℕ) (room : length (indexText ns) ≤ length out) (e : a ≡ placed out 0 front) where
   index-length : length (indexText ns) ≡ 33 + length (listText ns) + 6

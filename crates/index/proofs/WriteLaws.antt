@@ -5,7 +5,8 @@ use mathlib.Core.Path.{_≡_, refl, sym, ap, _∙_}
 use mathlib.Core.Bool.{Bool, true, false, not}
 use mathlib.Core.List.{List, [], _∷_}
 use mathlib.Core.Option.{Option, none, some}
-use lib.ListN.{length, take, drop, getD, getElem?, length-take}
+use lib.ListN.{length, take, drop, getD, getElem?}
+use lib.Seq.{length-take-le}
 use borrow.Author.Tests.{ne-eqb}
 use mir.Syntax.{w8}
 use mir.Val.{Fits}
@@ -86,11 +87,14 @@ module _ (s kept : Bytes) (count : ℕ) (h : Kept s kept count) where
     pub all-kept : (n : ℕ) → length kept ≡ n → count ≤ n
     all-kept n e = omega (arith, last-room n e)
 
+    pub part-length : length (take count kept) ≡ count
+    part-length = length-take-le count kept (all-kept (length kept) refl)
+
     pub part-some : 1 ≤ length (take count kept)
-    part-some = omega (arith, length-take count kept, last-room (length kept) refl)
+    part-some = omega (arith, part-length)
 
     pub part-few : length kept ≡ 64 → length (take count kept) ≤ 64
-    part-few e = omega (arith, length-take count kept)
+    part-few e = omega (arith, part-length, all-kept 64 e)
 
     module _ (x : BlockStep)
         (read : blockOf x ≡ block (count - 1) (getD kept (count - 1) 0) (take (length s - getD kept (count - 1) 0) (drop (getD kept (count - 1) 0) s))) where

@@ -1,7 +1,7 @@
 -- What the writer of a block index promises, and the parts of its text.
 use Prim.Native.Nat.{ℕ, _+_}
 use mathlib.Core.Path.{_≡_}
-use mathlib.Core.List.{List, _++_}
+use mathlib.Core.List.{List, _++_, flatMap}
 use lib.ListN.{length, take}
 use Rattle.format.specs.declared.answer.CountAnswer.{CountAnswer}
 use Rattle.format.specs.declared.answer.CountAnswer.the-variants.{Counted}
@@ -25,6 +25,10 @@ listText ns = entries (spaced ns)
 -- a number behind another
 abbrev pub nextText : ℕ → Bytes
 nextText n = text ", " ++ decimal n
+
+-- the numbers of a list behind its first
+abbrev pub othersText : List ℕ → Bytes
+othersText ns = flatMap nextText ns
 
 -- bytes were put at an offset, and end at r
 pub record PutAt (before after : Bytes) (at : ℕ) (bytes : Bytes) (r : ℕ) : Type 0 where

@@ -4,7 +4,7 @@ ghost use mathlib.Core.Path.{_≡_};
 ghost use lib.ListN.{length};
 ghost use Rattle.format.specs.Index.{indexText};
 ghost use Rattle.format.specs.Lent.{placed};
-ghost use Rattle.index.specs.Index.{listText, nextText, PutAt};
+ghost use Rattle.index.specs.Index.{listText, nextText, othersText, PutAt};
 use put::decimal;
 use put::text;
 
@@ -41,10 +41,19 @@ fn put_list(out: &mut [u8], at: usize, offsets: &[u64]) -> usize
     ensures { λ r. ⌜ PutAt (now (out .entry)) (now (out .exit)) at (listText (now (offsets .entry))) r ⌝ }
 {
     decimal::put_decimal(out, at, offsets[0]);
-    let mut end = at + decimal::decimal_length(offsets[0]);
-    let mut i = 1;
-    while i < offsets.len() {
-        end = put_next(out, end, offsets[i]);
+    let end = at + decimal::decimal_length(offsets[0]);
+    put_others(out, end, &offsets[1..])
+}
+
+// Puts the numbers of a list behind its first, for which there is room, at an offset, and answers where they end.
+fn put_others(out: &mut [u8], at: usize, numbers: &[u64]) -> usize
+    requires { ⌜ at + length (othersText (now numbers)) ≤ length (now out) ⌝ }
+    ensures { λ r. ⌜ PutAt (now (out .entry)) (now (out .exit)) at (othersText (now (numbers .entry))) r ⌝ }
+{
+    let mut end = at;
+    let mut i = 0;
+    while i < numbers.len() {
+        end = put_next(out, end, numbers[i]);
         i += 1;
     }
     end
