@@ -26,6 +26,10 @@ indexFor s = do
   need (mayHaveIndex (f .blocks)) 22 0
   accepted (indexText (offsets (f .blocks)))
 
+-- the most bytes that it has: 64 offsets of ten digits each
+abbrev pub mostIndex : ℕ
+mostIndex = 805
+
 -- where what stands behind the last block of a file begins
 abbrev pub tailStart : File → ℕ
 tailStart f = blocksEnd (firstBlock (f .commentsEnd) (f .tree)) (f .blocks)

@@ -18,21 +18,21 @@ use Rattle.format.specs.declared.answer.LayoutAnswer.the-variants as LayoutAnsw
 use Rattle.format.specs.declared.block.Block.{Block}
 use Rattle.format.specs.declared.refusal.Refusal.{Refusal}
 use Rattle.format.specs.Answer.{countAnswer, layoutAnswer, blockAnswer}
-use Rattle.format.specs.Bytes.{Bytes}
+use Rattle.format.specs.Bytes.{Bytes, IsBytes}
 use Rattle.format.specs.Outcome.{Outcome, accepted, refused, refusal}
 use Rattle.format.specs.Block.{isStreamed, block}
 use Rattle.format.specs.Index.{indexText}
 use Rattle.format.specs.File.{File, file, offsets, blockAt}
 use Rattle.format.specs.IndexWriter.{mayHaveIndex, indexFor}
 use Rattle.format.specs.Lent.{placed, writes, leaves}
-use Rattle.format.proofs.WriterLaws.{index-good}
+use Rattle.format.proofs.WriterLaws.{index-good, index-short}
 use Rattle.file.specs.declared.block.BlockStep.{BlockStep}
 use Rattle.file.specs.declared.block.BlockStep.the-variants as BlockStep·is
 use Rattle.file.specs.Layout.{Judged, Kept}
 use Rattle.file.specs.Step.{blockOf}
 use Rattle.file.proofs.KeptLaws.{kept-room, kept-inside, kept-found, kept-refused}
 use Rattle.put.specs.Written.{Written}
-use Rattle.put.proofs.WrittenLaws.{written-refused, written-short, written-placed, written-taken}
+use Rattle.put.proofs.WrittenLaws.{written-refused, written-short, written-placed, Taken, written-taken}
 use Rattle.index.specs.Index.{IndexWritten}
 
 -- whether there may be an index is told by the last block
@@ -125,12 +125,19 @@ module _ (s kept : Bytes) (count : ℕ) (h : Kept s kept count) where
             → Written (indexFor s) out after y
         last-plain q out after y w = rw (index-is true (last-may true (rw (ne-eqb (b .flags % 2) 1 q)))) w
 
--- what is written is a good index
+-- what is written is a good index, and short
 module _ (s : Bytes) (known : (i : ℕ) → Fits w8 (getD s i 0)) where
   pub index-written : (out after : Bytes) (r : CountAnswer) → Written (indexFor s) out after r → IndexWritten s out after r
-  index-written out after r w = record { written = w; good = λ n e. index-good s (take n after) (λ i. known i .fits) (taken n e) }
+  index-written out after r w = record {
+    written = w;
+    good = λ n e. index-good s bytes (take n after) (taken n e .is);
+    short = λ n e. omega (arith, taken n e .size, index-short s bytes (take n after) (taken n e .is));
+  }
     where
-      taken : (n : ℕ) → r ≡ Counted n → indexFor s ≡ accepted (take n after)
+      bytes : IsBytes s
+      bytes i = known i .fits
+
+      taken : (n : ℕ) → r ≡ Counted n → Taken (indexFor s) after n
       taken n e = written-taken (indexFor s) out after n (rw e at w)
 
   -- the file is refused

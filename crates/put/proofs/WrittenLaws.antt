@@ -1,7 +1,7 @@
 -- What a writer answers and leaves: a refusal, a buffer that is too short, bytes that fit.
 use Prim.Native.Nat.{ℕ, _+_, _≤_, _<_}
 use native.Mathlib.Omega.{arith}
-use mathlib.Core.Path.{_≡_, refl, sym, ap}
+use mathlib.Core.Path.{_≡_, refl, sym, ap, _∙_}
 use mathlib.Core.Bool.{Bool, true, false}
 use lib.ListN.{length, take, drop}
 use lib.Seq.{take-append-seam}
@@ -41,15 +41,24 @@ start-placed : (out bytes : Bytes) → length bytes ≤ length out → take (len
 unfolding placed
 start-placed out bytes h = rw (placed, le-leb (0 + length bytes) (length out) (omega arith)) (take-append-seam bytes (drop (0 + length bytes) out))
 
+-- the result is what stands in the first n bytes of a buffer
+pub record Taken (result : Outcome Bytes) (after : Bytes) (n : ℕ) : Type 0 where
+  pub is : result ≡ accepted (take n after)
+  pub size : length (take n after) ≡ n
+
 -- what is answered to be written is the result, and stands at the buffer's start
-pub written-taken : (result : Outcome Bytes) (before after : Bytes) (n : ℕ) → Written result before after (Counted n) → result ≡ accepted (take n after)
+pub written-taken : (result : Outcome Bytes) (before after : Bytes) (n : ℕ) → Written result before after (Counted n) → Taken result after n
 unfolding countAnswer writes leaves
-written-taken (refused r) before after n w = let clash = w .answer in cc
+written-taken (refused r) before after n w = let clash = w .answer in let z : _≡_ {A = ℕ} 0 1 = cc in absurd (omega arith)
 written-taken (accepted bytes) before after n w = by-test (leb (length bytes) (length before)) refl
   where
-    by-test : (t : Bool) → leb (length bytes) (length before) ≡ t → accepted bytes ≡ accepted (take n after)
+    by-test : (t : Bool) → leb (length bytes) (length before) ≡ t → Taken (accepted bytes) after n
     by-test true e =
         let size : accepted n ≡ accepted (length bytes) = rw e at (w .answer) in
         let count : n ≡ length bytes = cc in
-        ap accepted (rw (count, w .buffer) (sym (start-placed before bytes (leb-true (length bytes) (length before) e))))
-    by-test false e = let clash : accepted n ≡ refused (refusal 21 0) = rw e at (w .answer) in cc
+        let start : take n after ≡ bytes = rw (count, w .buffer) (start-placed before bytes (leb-true (length bytes) (length before) e)) in
+        record { is = ap accepted (sym start); size = ap length start ∙ sym count }
+    by-test false e =
+        let clash : accepted n ≡ refused (refusal 21 0) = rw e at (w .answer) in
+        let z : _≡_ {A = ℕ} 0 1 = cc in
+        absurd (omega arith)
