@@ -84,18 +84,11 @@ module _ (ns : List ℕ) (n i : ℕ) (h : Measured ns n i) where
       omega (arith, h .inside, h .left, nothing, text-length ns some-number)
 
 -- a comma, a space and a number are put
-module _ (out : Bytes) (at x : ℕ) (room : at + length (nextText x) ≤ length out) where
-  pub next-inside : at + 2 ≤ length out
-  next-inside = omega arith
-
-  module _ (n : ℕ) (e : DecimalLength x n) where
-    pub next-end : at + 2 + n ≤ length out
-    next-end = omega (arith, e .is)
-
-    pub next-put : (mid after : Bytes) → mid ≡ placed out at (text ", ") → after ≡ placed mid (at + 2) (decimal x)
-        → PutAt out after at (nextText x) (at + 2 + n)
-    next-put mid after f g =
-        record { buffer = placed-behind out mid after at 2 (text ", ") (decimal x) f refl g (omega arith); end = omega (arith, e .is) }
+pub next-put : (out mid after : Bytes) (at x n : ℕ) → at + length (nextText x) ≤ length out → DecimalLength x n → mid ≡ placed out at (text ", ")
+    → after ≡ placed mid (at + 2) (decimal x)
+    → PutAt out after at (nextText x) (at + 2 + n)
+next-put out mid after at x n room e f g =
+    record { buffer = placed-behind out mid after at 2 (text ", ") (decimal x) f refl g (omega arith); end = omega (arith, e .is) }
 
 -- the numbers before i are put: what is left to put is what was to be put
 pub record Listing (before : Bytes) (at : ℕ) (ns : List ℕ) (out : Bytes) (end i : ℕ) : Type 0 where
@@ -153,10 +146,6 @@ module _ (out : Bytes) (at : ℕ) (ns : List ℕ) (some-number : 1 ≤ length ns
     (e : DecimalLength (getD ns 0 0) n) where
   list-length : length (listText ns) ≡ n + length (othersText (take (length ns - 1) (drop 1 ns)))
   list-length = ap length (list-parts ns some-number) ∙ length-append (decimal (getD ns 0 0)) _ ∙ rw (e .is)
-
-  -- the first ends inside
-  pub first-end : at + n ≤ length out
-  first-end = omega (arith, list-length)
 
   module _ (mid : Bytes) (f : mid ≡ placed out at (decimal (getD ns 0 0))) where
     -- there is room for the others

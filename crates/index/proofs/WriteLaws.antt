@@ -4,7 +4,7 @@ use native.Mathlib.Omega.{arith}
 use mathlib.Core.Path.{_≡_, refl, sym, ap, _∙_}
 use mathlib.Core.Bool.{Bool, true, false, not}
 use mathlib.Core.List.{List, [], _∷_}
-use mathlib.Core.Option.{Option, none, some}
+use mathlib.Core.Option.{none, some}
 use lib.ListN.{length, take, drop, getD, getElem?}
 use lib.Seq.{length-take-le}
 use borrow.Author.Tests.{ne-eqb}
@@ -17,14 +17,14 @@ use Rattle.format.specs.declared.answer.LayoutAnswer.{LayoutAnswer}
 use Rattle.format.specs.declared.answer.LayoutAnswer.the-variants as LayoutAnswer·is
 use Rattle.format.specs.declared.block.Block.{Block}
 use Rattle.format.specs.declared.refusal.Refusal.{Refusal}
-use Rattle.format.specs.Answer.{countAnswer, layoutAnswer, blockAnswer}
+use Rattle.format.specs.Answer.{layoutAnswer, blockAnswer}
 use Rattle.format.specs.Bytes.{Bytes, IsBytes}
 use Rattle.format.specs.Outcome.{Outcome, accepted, refused, refusal}
 use Rattle.format.specs.Block.{isStreamed, block}
 use Rattle.format.specs.Index.{indexText}
-use Rattle.format.specs.File.{File, file, offsets, blockAt}
+use Rattle.format.specs.File.{File, file, blockAt}
 use Rattle.format.specs.IndexWriter.{mayHaveIndex, indexFor}
-use Rattle.format.specs.Lent.{placed, writes, leaves}
+use Rattle.format.specs.Lent.{placed}
 use Rattle.format.proofs.WriterLaws.{index-good, index-short}
 use Rattle.file.specs.declared.block.BlockStep.{BlockStep}
 use Rattle.file.specs.declared.block.BlockStep.the-variants as BlockStep·is
@@ -73,20 +73,19 @@ module _ (s kept : Bytes) (count : ℕ) (h : Kept s kept count) where
       none-may (b ∷ bs) q = absurd (omega arith)
 
   module _ (p : count ≡ 0 → ⊥) where
-    -- a block is there, and it begins among those that are kept
-    pub some-block : 1 ≤ count
-    some-block = omega arith
-
+    -- where the last block begins is kept
     pub last-room : (n : ℕ) → length kept ≡ n → count - 1 < n
     last-room = kept-room s kept count h (count - 1) (omega arith)
 
+    -- it begins inside
     pub last-inside : getD kept (count - 1) 0 ≤ length s
     last-inside = kept-inside s kept count h (count - 1) (omega arith)
 
-    -- all of them are kept
+    -- where all of them begin is kept
     pub all-kept : (n : ℕ) → length kept ≡ n → count ≤ n
     all-kept n e = omega (arith, last-room n e)
 
+    -- so many offsets are taken, one at least and at most 64
     pub part-length : length (take count kept) ≡ count
     part-length = length-take-le count kept (all-kept (length kept) refl)
 

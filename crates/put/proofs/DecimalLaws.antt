@@ -1,9 +1,7 @@
 -- Decimal numbers put into a buffer, the last digit first.
 use Prim.Native.Nat.{ℕ, suc, _+_, _-_, _/_, _%_, _^_, _≤_, _<_}
-use native.Mathlib.Nat.{add-zero}
 use native.Mathlib.Omega.{arith}
 use mathlib.Core.Path.{_≡_, refl, sym, ap, _∙_}
-use mathlib.Core.List.{[], _∷_, _++_}
 use lib.ListN.{length, set, length-set}
 use lib.Seq.{sets}
 use Rattle.format.specs.Bytes.{Bytes}

@@ -1,6 +1,6 @@
 -- The number is put behind its comma and space.
 use borrow.Author.Needs.{needs}
-use Rattle.index.proofs.TextLaws.{next-inside, next-end, next-put}
+use Rattle.index.proofs.TextLaws.{next-put}
 use Rattle.index.proofs.text.put_next.Statement.{statement}
 use Rattle.index.proofs.text.put_next.Tie as tie
 
