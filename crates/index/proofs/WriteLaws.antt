@@ -1,28 +1,27 @@
 -- The index that is written: one law for each way out.
 use Prim.Native.Nat.{ℕ, zero, suc, _-_, _%_, _≤_, _<_}
 use native.Mathlib.Omega.{arith}
-use mathlib.Core.Path.{_≡_, refl, sym, ap, _∙_}
+use mathlib.Core.Path.{_≡_, refl, _∙_}
 use mathlib.Core.Bool.{Bool, true, false, not}
 use mathlib.Core.List.{List, [], _∷_}
-use mathlib.Core.Option.{none, some}
+use mathlib.Core.Option.{some}
 use lib.ListN.{length, take, drop, getD, getElem?}
 use lib.Seq.{length-take-le}
 use borrow.Author.Tests.{ne-eqb}
 use mir.Syntax.{w8}
 use mir.Val.{Fits}
-use Rattle.format.specs.declared.answer.BlockAnswer.the-variants as BlockAnswer·is
 use Rattle.format.specs.declared.answer.CountAnswer.{CountAnswer}
 use Rattle.format.specs.declared.answer.CountAnswer.the-variants.{Counted, Refused}
 use Rattle.format.specs.declared.answer.LayoutAnswer.{LayoutAnswer}
 use Rattle.format.specs.declared.answer.LayoutAnswer.the-variants as LayoutAnswer·is
 use Rattle.format.specs.declared.block.Block.{Block}
 use Rattle.format.specs.declared.refusal.Refusal.{Refusal}
-use Rattle.format.specs.Answer.{layoutAnswer, blockAnswer}
+use Rattle.format.specs.Answer.{blockAnswer}
 use Rattle.format.specs.Bytes.{Bytes, IsBytes}
-use Rattle.format.specs.Outcome.{Outcome, accepted, refused, refusal}
+use Rattle.format.specs.Outcome.{accepted, refused, refusal}
 use Rattle.format.specs.Block.{isStreamed, block}
 use Rattle.format.specs.Index.{indexText}
-use Rattle.format.specs.File.{File, file, blockAt}
+use Rattle.format.specs.File.{file, blockAt}
 use Rattle.format.specs.IndexWriter.{mayHaveIndex, indexFor}
 use Rattle.format.specs.Lent.{placed}
 use Rattle.format.proofs.WriterLaws.{index-good, index-short}
@@ -31,6 +30,7 @@ use Rattle.file.specs.declared.block.BlockStep.the-variants as BlockStep·is
 use Rattle.file.specs.Layout.{Judged, Kept}
 use Rattle.file.specs.Step.{blockOf}
 use Rattle.file.proofs.KeptLaws.{kept-room, kept-inside, kept-found, kept-refused}
+use Rattle.file.proofs.LayoutLaws.{file-refused}
 use Rattle.put.specs.Written.{Written}
 use Rattle.put.proofs.WrittenLaws.{written-refused, written-short, written-placed, Taken, written-taken}
 use Rattle.index.specs.Index.{IndexWritten}
@@ -142,12 +142,6 @@ module _ (s : Bytes) (known : (i : ℕ) → Fits w8 (getD s i 0)) where
   -- the file is refused
   pub index-refused : (kept : Bytes) (a : LayoutAnswer) → Judged (file s) kept a → (r : Refusal) → a ≡ LayoutAnswer·is.Refused r → (out : Bytes)
       → IndexWritten s out out (Refused r)
-  unfolding layoutAnswer indexFor
-  index-refused kept a j r e out = index-written out out (Refused r) (written-refused (indexFor s) out r none (Refused r) refl)
-    where
-      none : indexFor s ≡ refused r
-      none = go (file s) refl
-        where
-          go : (o : Outcome File) → file s ≡ o → indexFor s ≡ refused r
-          go (accepted f) h = let clash = sym (ap layoutAnswer e) ∙ rw h at (j .is) in cc
-          go (refused q) h = let same = sym (ap layoutAnswer e) ∙ rw h at (j .is) in rw (h, indexFor) cc
+  unfolding indexFor
+  index-refused kept a j r e out =
+      index-written out out (Refused r) (written-refused (indexFor s) out r (rw (file-refused s kept a j r e, indexFor)) (Refused r) refl)

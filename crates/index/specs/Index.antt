@@ -13,7 +13,7 @@ use Rattle.format.specs.IndexWriter.{indexFor, mostIndex, GoodBehind}
 use Rattle.put.specs.Written.{Written}
 
 -- r is the answer of the writer for the file s, and after is what it left in the buffer that it was lent;
--- what it wrote there is a good index of the file, and short
+-- what it wrote there is a good index of the file, of at most 805 bytes
 pub record IndexWritten (s before after : Bytes) (r : CountAnswer) : Type 0 where
   pub written : Written (indexFor s) before after r
   pub good : (n : ℕ) → r ≡ Counted n → GoodBehind s (take n after)

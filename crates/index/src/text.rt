@@ -14,6 +14,7 @@ pub(crate) fn text_length(offsets: &[u64]) -> usize
     requires { ⌜ length (now offsets) ≤ 64 ⌝ }
     ensures { λ r. ⌜ r ≡ length (indexText (now (offsets .entry))) ⌝ }
 {
+    // The first number is counted with 2 bytes too many.
     let mut n: usize = 37;
     let mut i = 0;
     while i < offsets.len() {
