@@ -2,3 +2,6 @@
 pub mod PutLaws
 pub mod NumberLaws
 pub mod FieldLaws
+pub mod DecimalLaws
+pub mod TextLaws
+pub mod WrittenLaws
