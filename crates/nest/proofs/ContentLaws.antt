@@ -6,7 +6,7 @@ use mathlib.Core.Bool.{Bool, true, false, not}
 use mathlib.Core.List.{List}
 use lib.ListN.{length, drop}
 use lib.Dec.{eqb}
-use borrow.Author.Tests.{eq-eqb, ne-eqb, not-true, not-false}
+use borrow.Author.Tests.{leb-true, eq-eqb, ne-eqb, not-true, not-false}
 use Rattle.format.specs.declared.answer.LayoutAnswer.{LayoutAnswer}
 use Rattle.format.specs.declared.answer.LayoutAnswer.the-variants as LayoutAnswer·is
 use Rattle.format.specs.declared.block.Block.{Block}
@@ -22,9 +22,9 @@ use Rattle.format.specs.Bytes.{Bytes, begins}
 use Rattle.format.specs.Header.{token}
 use Rattle.format.specs.Outcome.{Outcome, accepted, refused, _>>=_}
 use Rattle.format.specs.Chain.{mostBlocks}
-use Rattle.format.specs.File.{File, file, layout, layoutOf, firstBlock}
+use Rattle.format.specs.File.{mostBytes, File, file, layout, layoutOf, firstBlock}
 use Rattle.format.specs.Nest.{deepest, Inside, closed, opened, isFile, walk, walkFile, recordsFrom, records}
-use Rattle.format.proofs.FileLaws.{blocksStart}
+use Rattle.format.proofs.FileLaws.{blocksStart, file-parts}
 use Rattle.format.proofs.OutcomeLaws.{accepted-holds, accepts-bind}
 use Rattle.nest.specs.declared.walk.ContentStep.the-variants.{Closed, Open}
 use Rattle.nest.specs.Walk.{blocksFrom, readsFor, reads, insideOf, recordsOf, allRecords, IsOpen, ContentIs}
@@ -44,6 +44,7 @@ pub record OfFile (s : Bytes) (l : Layout) : Type 0 where
   pub f : File
   pub is : file s ≡ accepted f
   pub own : Own s f
+  pub short : length s ≤ mostBytes
   pub first : firstBlock (l .«comments_end» .0) (l .tree) ≡ blocksStart f
   pub count : l .blocks ≡ length (f .blocks)
 
@@ -51,7 +52,7 @@ pub of-file : (s : Bytes) (l : Layout) → layout s ≡ accepted l → OfFile s 
 unfolding layout layoutOf
 of-file s l =
     accepted-holds (OfFile s) (layout s) l
-    (accepts-bind (OfFile s) (file s) _ λ f e. record { f = f; is = e; own = own-blocks s f e; first = refl; count = refl })
+    (accepts-bind (OfFile s) (file s) _ λ f e. record { f = f; is = e; own = own-blocks s f e; short = leb-true _ _ (file-parts s f e .short); first = refl; count = refl })
 
 -- a file is refused where its layout is
 file-refused : (s : Bytes) (r : Refusal) → layout s ≡ refused r → file s ≡ refused r
@@ -68,13 +69,18 @@ unfolding recordsFrom readsFor
 from-file zero depth start s = refl
 from-file (suc levels) depth start s = refl
 
+-- a refused file at any depth has none
+pub layout-refused : (levels depth start : ℕ) (s : Bytes) (r : Refusal) → layout s ≡ refused r → recordsFrom levels depth start s ≡ refused r
+unfolding walkFile
+layout-refused levels depth start s r h = rw (from-file levels depth start s, walkFile, file-refused s r h)
+
 -- where one level is left at least
 one-level : (depth start : ℕ) (t : Bytes) → depth < deepest → reads depth start t ≡ opened (recordsFrom (deepest - (depth + 1)) (depth + 1) start t)
 unfolding readsFor
 one-level depth start t h = let e : deepest - depth ≡ suc (deepest - (depth + 1)) = omega arith in rw e
 
 -- the records of an accepted file at a depth
-accepted-records : (depth start : ℕ) (s : Bytes) (l : Layout) (h : OfFile s l)
+pub accepted-records : (depth start : ℕ) (s : Bytes) (l : Layout) (h : OfFile s l)
     → recordsFrom (deepest - depth) depth start s ≡ accepted (recordsOf depth start s (firstBlock (l .«comments_end» .0) (l .tree)) 0 (l .blocks))
 unfolding walkFile
 accepted-records depth start s l h =
@@ -109,11 +115,10 @@ module _ (depth : ℕ) (b : Block) (t : Bytes) where
       module _ (high : depth < deepest) (a : LayoutAnswer) (read : layoutAnswer a ≡ layout t) where
         -- it is refused
         pub content-refused : (r : Refusal) → a ≡ LayoutAnswer·is.Refused r → (start : ℕ) → insideOf depth start b t ≡ closed (Refused r)
-        unfolding layoutAnswer opened walkFile
+        unfolding layoutAnswer opened
         content-refused r e start =
-            let no = file-refused t r (sym read ∙ ap layoutAnswer e) in
             like-file start ∙ one-level depth start t high
-            ∙ rw (from-file (deepest - (depth + 1)) (depth + 1) start t, walkFile, no)
+            ∙ rw (layout-refused (deepest - (depth + 1)) (depth + 1) start t r (sym read ∙ ap layoutAnswer e))
 
         -- it is opened
         pub content-opened : (l : Layout) → a ≡ LayoutAnswer·is.Accepted l → (first : ℕ) → first ≡ firstBlock (l .«comments_end» .0) (l .tree)

@@ -3,3 +3,4 @@ pub mod SinkLaws
 pub mod BlocksLaws
 pub mod ContentLaws
 pub mod WalkLaws
+pub mod EntryLaws

@@ -36,7 +36,7 @@ module _ (form : Form) (n : ℕ) (r : Record) (found : RecordAnswer) (w : ℕ) (
   found-before h = rw (one, foundAt, ne-eqb w n h)
 
 -- fifteen numbers for each record
-record-length : (r : Record) → length (encodeRecord r) ≡ 120
+pub record-length : (r : Record) → length (encodeRecord r) ≡ 120
 unfolding encodeRecord recordFields
 record-length r = rw (numbers-length (recordFields r)) (fields (r .inner))
   where
