@@ -176,31 +176,38 @@ put-entries k out (r ∷ rs) wide few fit =
     put-entries (taken k r) (placed out (n * w) (encoded (k .form) r)) rs wide (omega arith) (rw (same, placed-length) fit)
     ∙ rw next (placed-append out (n * w) (encoded (k .form) r) (entries (k .form) rs) (omega arith))
 
-module _ (s : Bytes) (l : Layout) (read : layout s ≡ accepted l) (form : Form) (wide : 1 ≤ width form) (out : Bytes) (n : ℕ)
-    (count : n ≡ length (allRecords s)) where
+module _ (s : Bytes) (l : Layout) (read : layout s ≡ accepted l) (form : Form) (each : ℕ) (width-is : each ≡ width form) (wide : 1 ≤ width form)
+    (out : Bytes) (n : ℕ) (count : n ≡ length (allRecords s)) where
+  -- how many bytes the entries have
+  entries-bytes : length (entries form (allRecords s)) ≡ n * each
+  entries-bytes = rw (entries-length form (allRecords s) wide, width-is, count) (mul-comm (width form) (length (allRecords s)))
+
+  pub each-some : 0 < each
+  each-some = omega arith
+
   -- the buffer is too short for all entries
-  pub entries-short : length out / width form < n
-      → Written (accepted (entries form (allRecords s))) out out (CountAnswer·is.Refused (refusal 21 0))
+  pub entries-short : length out / each < n → Written (accepted (entries form (allRecords s))) out out (CountAnswer·is.Refused (refusal 21 0))
   entries-short h =
-      let bytes : length (entries form (allRecords s)) ≡ n * width form =
-          rw (entries-length form (allRecords s) wide, count) (mul-comm (width form) (length (allRecords s))) in
-      written-short _ out (entries form (allRecords s)) refl (rw bytes (div-lt-iff-lt-mul wide .0 h)) _ refl
+      written-short _ out (entries form (allRecords s)) refl (rw entries-bytes (div-lt-iff-lt-mul each-some .0 h)) _ refl
 
-  -- how many bytes they are
-  pub entries-fit : length out < 2 ^ 64 → n ≤ length out / width form → Fits w64 (width form * n)
-  entries-fit h g = rw (mul-comm (width form) n) (omega (arith, le-div-iff-mul-le wide .0 g))
+  -- it is long enough
+  module _ (h : n ≤ length out / each) where
+    room : n * each ≤ length out
+    room = le-div-iff-mul-le each-some .0 h
 
-  -- they are put
-  pub entries-put : n ≤ length out / width form → (after : Bytes) (x : Sink) → Delivered (begun form) out (allRecords s) after x
-      → Written (accepted (entries form (allRecords s))) out after (CountAnswer·is.Counted (width form * n))
-  entries-put h after x d =
-      let few = all-few s l read in
-      let rs = allRecords s in
-      let bytes : length (entries form rs) ≡ width form * n = rw count (entries-length form rs wide) in
-      let fit : n * width form ≤ length out = le-div-iff-mul-le wide .0 h in
-      let room : (0 + length rs) * width form ≤ length out = rw (zero-add (length rs), ← count) fit in
-      let put = put-entries (begun form) out rs wide (omega arith) room in
-      written-placed _ out (entries form rs) refl (rw (bytes, mul-comm (width form) n) fit) after (d .buffer ∙ put ∙ rw (zero-mul (width form))) (width form * n) (sym bytes)
+    pub entries-fit : length out < 2 ^ 64 → Fits w64 (each * n)
+    entries-fit g = rw (mul-comm each n) (omega (arith, room))
+
+    -- they are put
+    pub entries-put : (after : Bytes) (x : Sink) → Delivered (begun form) out (allRecords s) after x
+        → Written (accepted (entries form (allRecords s))) out after (CountAnswer·is.Counted (each * n))
+    entries-put after x d =
+        let few = all-few s l read in
+        let rs = allRecords s in
+        let all : (0 + length rs) * width form ≤ length out = rw (zero-add (length rs), ← count, ← width-is) room in
+        let put = put-entries (begun form) out rs wide (omega arith) all in
+        written-placed _ out (entries form rs) refl (rw entries-bytes room) after (d .buffer ∙ put ∙ rw (zero-mul (width form))) (each * n)
+        (mul-comm each n ∙ sym entries-bytes)
 
 -- the outline has an entry for each record
 rows-entries : (rs : List Record) → outlineOf (map rowOf rs) ≡ entries Rows rs

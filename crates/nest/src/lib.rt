@@ -2,6 +2,7 @@
 mod sink;
 mod walk;
 
+ghost use Prim.Native.Nat.{_≤_};
 ghost use mathlib.Core.Path.{_≡_};
 ghost use Rattle.format.specs.Answer.{countAnswer, recordAnswer};
 ghost use Rattle.format.specs.Fields.{recordTable};
@@ -84,6 +85,7 @@ fn find_in(s: &[u8], l: Layout, wanted: u64) -> RecordAnswer
 // Writes an entry for each record of an accepted file. They are counted first, so that a refusal changes nothing.
 fn write(s: &[u8], l: Layout, form: Form, out: &mut [u8]) -> CountAnswer
     requires { ⌜ File·layout (now s) ≡ accepted l ⌝ }
+    requires { ⌜ 1 ≤ width form ⌝ }
     ensures { λ r. ⌜ Written (accepted (entries form (allRecords (now (s .entry))))) (now (out .entry)) (now (out .exit)) r ⌝ }
 {
     let each = sink::width_of(form);
