@@ -15,6 +15,7 @@ pub mod Nest
 pub mod Outline
 pub mod Lent
 pub mod Edit
+pub mod Edited
 pub mod Listing
 pub mod Answer
 pub mod Examples
