@@ -13,7 +13,7 @@ use Rattle.format.specs.Bytes.{Bytes}
 use Rattle.format.specs.Outcome.{accepted}
 use Rattle.format.specs.File.{mostBytes, File, file}
 use Rattle.format.specs.Edit.{isOneTree, filled, editTree, edit}
-use Rattle.format.specs.Edited.{treeFrom, Editable, Edited}
+use Rattle.format.specs.Edited.{treeAt, Editable, Edited}
 use Rattle.format.proofs.OutcomeLaws.{Accepts, accepted-holds, accepts-bind, accepts-need}
 use Rattle.format.proofs.FileLaws.{file-parts, parts-file}
 use Rattle.format.proofs.EditTreeLaws.{FileRoom, file-room, treed, withTree, treed-front, treed-text, treed-spaces, treed-rest, treed-parts}
@@ -69,7 +69,7 @@ module _ (s t : Bytes) (h : Editable s t) where
 
   -- what is reported of it
   abbrev refound : File
-  refound = withTree (h .before) (treeFrom (h .start) (h .start + length t) (h .room-end)) (h .before .blocks) (h .before .verdict)
+  refound = withTree (h .before) (treeAt (h .start) (h .start + length t) (h .room-end)) (h .before .blocks) (h .before .verdict)
 
   -- it is accepted
   refilled-file : file refilled ≡ accepted refound

@@ -21,7 +21,7 @@ use Rattle.format.specs.Chain.{mostBlocks, chain}
 use Rattle.format.specs.Index.{verdict}
 use Rattle.format.specs.File.{mostBytes, File, firstBlock, goesOn, offsets, file}
 use Rattle.format.specs.Edit.{endsAt, isOneTree}
-use Rattle.format.specs.Edited.{treeFrom}
+use Rattle.format.specs.Edited.{treeAt}
 use Rattle.format.proofs.OutcomeLaws.{accepted-holds, accepts-bind}
 use Rattle.format.proofs.LocalLaws.{header-again, comments-kept, tree-anywhere, free-space-spaces, free-space-end, goes-on-no-comment}
 use Rattle.format.proofs.FileLaws.{blocksStart, Parts, file-parts, in-order}
@@ -64,12 +64,12 @@ pub record FileRoom (s : Bytes) (f : File) (n m : ℕ) : Type 0 where
   pub inside : m ≤ length s
 
 -- a tree of an accepted file has its room there
-pub file-room : (s : Bytes) (f : File) → file s ≡ accepted f → (n e m : ℕ) → f .tree ≡ treeFrom n e m → FileRoom s f n m
+pub file-room : (s : Bytes) (f : File) → file s ≡ accepted f → (n e m : ℕ) → f .tree ≡ treeAt n e m → FileRoom s f n m
 unfolding firstBlock
 file-room s f read n e m q =
     let parts = file-parts s f read in
     let order = in-order s f parts in
-    let room = tree-room (f .commentsEnd) s (treeFrom n e m) (parts .tree-read ∙ ap accepted q) in
+    let room = tree-room (f .commentsEnd) s (treeAt n e m) (parts .tree-read ∙ ap accepted q) in
     let first : blocksStart f ≡ m = ap (firstBlock (f .commentsEnd)) q in
     record { begin = room .begin; first = first; full = room .full; order = omega arith; inside = omega arith }
 
@@ -109,7 +109,7 @@ module _ (n : ℕ) (p t : Bytes) (k : ℕ) (y : Bytes) (size : length p ≡ n) w
       ∙ rw append-assoc at (drop-at (p ++ t) (replicate k 32) (n + length t) before)
 
   -- the tree is read, and its room ends behind the spaces if y is not free
-  pub treed-tree : isOneTree t ≡ true → freeSpace y ≡ 0 → tree n (treed p t k y) ≡ accepted (treeFrom n (n + length t) (n + length t + k))
+  pub treed-tree : isOneTree t ≡ true → freeSpace y ≡ 0 → tree n (treed p t k y) ≡ accepted (treeAt n (n + length t) (n + length t + k))
   unfolding tree withRoom
   treed-tree one full =
       rw (
@@ -128,12 +128,12 @@ pub treed-parts : (n : ℕ) (p z : Bytes) (f : File) → Parts (p ++ z) f → f 
     → (m : ℕ) → n + length t + k ≡ m
     → (bs : List Block) (tail : Bytes) → chain mostBlocks 0 m y ≡ accepted (record { blocks = bs; tail = tail })
     → (v : Verdict) → verdict (offsets bs) tail ≡ v
-    → Parts (treed p t k y) (withTree f (treeFrom n (n + length t) m) bs v)
+    → Parts (treed p t k y) (withTree f (treeAt n (n + length t) m) bs v)
 unfolding firstBlock goesOn
 treed-parts n p z f h begin size t one k y full short m room bs tail blocks v judged =
     let order = in-order (p ++ z) f h in
     let first : f .header .end .0 ≤ length p = omega arith in
-    let tree-read : tree (f .commentsEnd) (treed p t k y) ≡ accepted (treeFrom n (n + length t) m)
+    let tree-read : tree (f .commentsEnd) (treed p t k y) ≡ accepted (treeAt n (n + length t) m)
     = rw (begin, ← room) (treed-tree n p t k y size one full) in
     let no-comment = goes-on-no-comment (f .commentsEnd) (treed p t k y) _ tree-read refl in
     record {

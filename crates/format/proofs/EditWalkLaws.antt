@@ -1,7 +1,7 @@
 -- The records of all blocks depend on nothing but the blocks of the file and the bytes from the first of them on.
-use Prim.Native.Nat.{ℕ, zero, suc, _+_, _-_, _≤_}
+use Prim.Native.Nat.{ℕ, _+_, _-_, _≤_}
 use mathlib.Core.Path.{_≡_, refl, sym, ap, subst, _∙_}
-use mathlib.Core.Bool.{Bool, true, false}
+use mathlib.Core.Bool.{true, false}
 use mathlib.Core.List.{List, [], _∷_}
 use native.Mathlib.Nat.{le-refl}
 use native.Mathlib.Omega.{arith}
@@ -9,58 +9,35 @@ use lib.ListN.{take, drop}
 use lib.Seq.{drop-drop}
 use Rattle.format.specs.declared.block.Block.{Block}
 use Rattle.format.specs.declared.block.Inner.the-variants.{Plain}
-use Rattle.format.specs.Bytes.{Bytes, begins}
-use Rattle.format.specs.Outcome.{Outcome, accepted, refused, _>>=_}
-use Rattle.format.specs.Tree.{mark}
+use Rattle.format.specs.Bytes.{Bytes}
+use Rattle.format.specs.Outcome.{accepted}
 use Rattle.format.specs.Block.{flags, isStreamed, blockWith, block}
-use Rattle.format.specs.Chain.{Chain, mostBlocks, extent, ended, linked, tail, chain}
+use Rattle.format.specs.Chain.{mostBlocks, extent}
 use Rattle.format.specs.File.{File, file}
 use Rattle.format.specs.Nest.{contentAt, contentOf, isFile, Inside, closed, inside, walk, walkFile, recordsFrom, records}
 use Rattle.format.specs.Outline.{rows, outline}
-use Rattle.format.proofs.OutcomeLaws.{Accepts, accepted-holds, accepts-bind, accepts-need, choice}
+use Rattle.format.proofs.OutcomeLaws.{Accepts, accepted-holds, accepts-need, choice}
+use Rattle.format.proofs.BlockLaws.{AllBlocks, AllOfChain, chain-all}
 use Rattle.format.proofs.FileLaws.{Parts, blocksStart}
 
--- all blocks begin at offset m or behind
-abbrev pub AllFrom : ℕ → List Block → Type 0
-AllFrom m [] = Unit {0}
-AllFrom m (b ∷ bs) = (m ≤ b .at .0) × AllFrom m bs
-
--- and so for the blocks of a chain
-abbrev ChainFrom : ℕ → Chain → Type 0
-ChainFrom m c = AllFrom m (c .blocks)
+-- a block begins at offset m or behind
+abbrev From : ℕ → Block → Type 0
+From m b = m ≤ b .at .0
 
 -- a block begins at its offset
 block-at : (i n : ℕ) (t : Bytes) → Accepts (λ b. b .at .0 ≡ n) (block i n t)
 unfolding block blockWith
 block-at i n t = search (accepts-need, choice (Accepts (λ (b : Block). b .at .0 ≡ n)) (isStreamed (flags t))) depth 12
 
--- where no block begins, no block follows
-tail-from : (m n : ℕ) (t : Bytes) → Accepts (ChainFrom m) (tail n t)
-unfolding tail
-tail-from m n t = search accepts-need
-
--- a block in front of others, or of nothing where it is streamed
-linked-from : (m : ℕ) (b : Block) (streamed : Bool) (o : Outcome Chain) → m ≤ b .at .0 → Accepts (ChainFrom m) o
-    → Accepts (ChainFrom m) (_>>=_ (elim streamed [ true ↦ accepted (ended []) | false ↦ o ]) (λ c. accepted (linked b c)))
-linked-from m b true o h hs = (h, tt)
-linked-from m b false (accepted c) h hs = (h, hs)
-linked-from m b false (refused r) h hs = tt
-
--- the blocks of a chain begin where it begins or behind
-chain-from : (m k i n : ℕ) (t : Bytes) → m ≤ n → Accepts (ChainFrom m) (chain k i n t)
-unfolding chain
-chain-from m zero i n t h = choice (Accepts (ChainFrom m)) (begins mark t) _ _ tt (tail-from m n t)
-chain-from m (suc k) i n t h =
-    choice (Accepts (ChainFrom m)) (begins mark t) _ _
-    (accepts-bind (ChainFrom m) (block i n t) _ λ b q.
-    linked-from m b (isStreamed (b .flags)) (chain k (i + 1) (n + extent b) (drop (extent b) t)) (omega (arith, accepted-holds _ _ b (block-at i n t) q))
-    (chain-from m k (i + 1) (n + extent b) (drop (extent b) t) (omega arith)))
-    (tail-from m n t)
-
 -- the blocks of a file begin where its first block does or behind
-pub file-from : (s : Bytes) (f : File) → Parts s f → AllFrom (blocksStart f) (f .blocks)
+pub file-from : (s : Bytes) (f : File) → Parts s f → AllBlocks (From (blocksStart f)) (f .blocks)
 file-from s f h =
-    accepted-holds (ChainFrom (blocksStart f)) _ _ (chain-from (blocksStart f) mostBlocks 0 (blocksStart f) _ (le-refl _)) (h .chain-read)
+    let m = blocksStart f in
+    accepted-holds (AllOfChain (From m)) _ _ (chain-all (From m) (λ k i n t. m ≤ n) step mostBlocks 0 m _ (le-refl m)) (h .chain-read)
+  where
+    step : (k i n : ℕ) (t : Bytes) (b : Block) → blocksStart f ≤ n → block i n t ≡ accepted b
+        → (blocksStart f ≤ b .at .0) × (blocksStart f ≤ n + extent b)
+    step k i n t b le q = (omega (arith, accepted-holds _ _ b (block-at i n t) q), omega arith)
 
 module _ (m : ℕ) (u s : Bytes) (rest : drop m u ≡ drop m s) where
   -- what stands at m or behind is the same
@@ -80,14 +57,14 @@ module _ (m : ℕ) (u s : Bytes) (rest : drop m u ≡ drop m s) where
       ap (λ (t : Bytes). elim (isFile b t) [ true ↦ reads (start + contentAt b) t | false ↦ closed Plain ]) (content-again b h)
 
   -- and the records of such blocks
-  pub walk-again : (reads : ℕ → Bytes → Inside) (depth start : ℕ) (bs : List Block) → AllFrom m bs → walk reads depth start u bs ≡ walk reads depth start s bs
+  pub walk-again : (reads : ℕ → Bytes → Inside) (depth start : ℕ) (bs : List Block) → AllBlocks (From m) bs → walk reads depth start u bs ≡ walk reads depth start s bs
   unfolding walk
   walk-again reads depth start [] h = refl
   walk-again reads depth start (b ∷ bs) h = rw (inside-again reads start b (h .0), walk-again reads depth start bs (h .1))
 
 -- files with the same blocks, and the same bytes from the first of them on, have the same records and the same outline
 module _ (u s : Bytes) (g f : File) (read-u : file u ≡ accepted g) (read-s : file s ≡ accepted f) (blocks : g .blocks ≡ f .blocks)
-    (m : ℕ) (behind : AllFrom m (f .blocks)) (rest : drop m u ≡ drop m s) where
+    (m : ℕ) (behind : AllBlocks (From m) (f .blocks)) (rest : drop m u ≡ drop m s) where
   pub records-again : records u ≡ records s
   unfolding records recordsFrom walkFile
   records-again = rw (read-u, read-s, blocks, walk-again m u s rest _ 0 0 (f .blocks) behind)

@@ -14,8 +14,8 @@ use Rattle.format.specs.Outline as Outline
 use Rattle.format.specs.Edit.{isOneTree}
 
 -- a tree from offset n to e, with its room up to m
-abbrev pub treeFrom : ℕ → ℕ → ℕ → Tree
-treeFrom n e m = Found (record { 0 = n }) (record { 0 = e }) (record { 0 = m })
+abbrev pub treeAt : ℕ → ℕ → ℕ → Tree
+treeAt n e m = Found (record { 0 = n }) (record { 0 = e }) (record { 0 = m })
 
 -- the file s can be edited to the text t
 pub record Editable (s t : Bytes) : Type 0 where
@@ -25,7 +25,7 @@ pub record Editable (s t : Bytes) : Type 0 where
   pub start : ℕ
   pub end : ℕ
   pub room-end : ℕ
-  pub tree-before : before .tree ≡ treeFrom start end room-end
+  pub tree-before : before .tree ≡ treeAt start end room-end
   -- t is exactly one tree, and no longer than the room
   pub one-tree : isOneTree t ≡ true
   pub fits : length t ≤ room-end - start
@@ -42,8 +42,8 @@ pub record Edited (s t u : Bytes) : Type 0 where
   pub start : ℕ
   pub end : ℕ
   pub room-end : ℕ
-  pub tree-before : before .tree ≡ treeFrom start end room-end
-  pub tree-after : after .tree ≡ treeFrom start (start + length t) room-end
+  pub tree-before : before .tree ≡ treeAt start end room-end
+  pub tree-after : after .tree ≡ treeAt start (start + length t) room-end
   -- the tree is the text, byte for byte, and up to the end of the room spaces follow
   pub is-text : slice start (start + length t) u ≡ t
   pub spaces : slice (start + length t) room-end u ≡ replicate (room-end - start - length t) 32
