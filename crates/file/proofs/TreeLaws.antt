@@ -2,8 +2,9 @@
 use Prim.Native.Nat.{ℕ, _-_}
 use mathlib.Core.Path.{_≡_, refl, sym, ap, _∙_}
 use mathlib.Core.Bool.{Bool, true, false, _||_, not}
-use mathlib.Core.Option.{some}
-use lib.ListN.{take, drop}
+use mathlib.Core.Option.{none, some}
+use lib.ListN.{length, take, drop}
+use lib.Dec.{eqb}
 use borrow.Author.Tests.{not-true, not-false}
 use Rattle.format.specs.declared.refusal.Refusal.{Refusal}
 use Rattle.format.specs.declared.layout.Tree.the-variants.{NoTree, Found}
@@ -11,6 +12,7 @@ use Rattle.format.specs.Bytes.{Bytes, same}
 use Rattle.format.specs.Outcome.{Outcome, accepted, refused, refusal, _>>=_}
 use Rattle.format.specs.Line.{Lines, unended, line, lines}
 use Rattle.format.specs.Tree.{yamlLine, endLine, isStart, isDirective, content, directives, treeEnd, withRoom, tree}
+use Rattle.format.specs.Edit.{endsAt, isOneTree}
 use Rattle.scan.specs.declared.line.Line.{Line}
 use Rattle.scan.specs.declared.line.Line.the-variants.{Ended, Unended}
 use Rattle.scan.specs.declared.line.Exact.{Exact}
@@ -84,14 +86,19 @@ module _ (s : Bytes) (at : ℕ) (r : Line) (read : LineRead s at r) (x : Outcome
         directives-step z = rw (first .cut, directives, sym h ∙ p, sym k ∙ not-false d z, ← first .next-is) at left
 
 module _ (s : Bytes) (at : ℕ) (r : Exact) (read : ExactRead s yamlLine at r) where
+  -- where the first line is another, there is no tree to end
+  no-end : r ≡ Other → treeEnd at (lines (drop at s)) ≡ accepted none
+  unfolding treeEnd
+  no-end p = go (lines (drop at s)) refl
+    where
+      go : (l : Lines) → lines (drop at s) ≡ l → treeEnd at l ≡ accepted none
+      go (unended t) h = refl
+      go (line t e l) h = rw (other-text s yamlLine at r read t e l p h, treeEnd)
+
   -- no tree begins here
   pub tree-none : r ≡ Other → treeOf (Read NoTree) ≡ tree at s
-  unfolding treeOf tree treeEnd withRoom
-  tree-none p = go (lines (drop at s)) refl
-    where
-      go : (l : Lines) → lines (drop at s) ≡ l → treeOf (Read NoTree) ≡ tree at s
-      go (unended t) h = rw h
-      go (line t e l) h = rw (h, treeEnd, other-text s yamlLine at r read t e l p h)
+  unfolding treeOf tree withRoom
+  tree-none p = rw (no-end p)
 
   module _ (next : ℕ) (p : r ≡ Behind next) (z : EndStep) (h : endOf z ≡ directives next (lines (drop next s))) where
     -- the walk over the lines behind the first says where the tree ends, if it does
@@ -111,3 +118,20 @@ module _ (s : Bytes) (at : ℕ) (r : Exact) (read : ExactRead s yamlLine at r) w
         → treeOf (Read (Found (record { 0 = at }) (record { 0 = end }) (record { 0 = room }))) ≡ tree at s
     unfolding endOf treeOf tree withRoom
     tree-read end room e f = rw (f .is, tree-end, e)
+
+module _ (t : Bytes) (r : Exact) (read : ExactRead t yamlLine 0 r) where
+  -- a text that begins with another line is no tree
+  pub one-tree-none : r ≡ Other → false ≡ isOneTree t
+  unfolding isOneTree endsAt
+  one-tree-none p = rw (no-end t 0 r read p)
+
+  module _ (next : ℕ) (p : r ≡ Behind next) (z : EndStep) (h : endOf z ≡ directives next (lines (drop next t))) where
+    -- nor is one that does not end
+    pub one-tree-refused : (y : Refusal) → z ≡ End.Refused y → false ≡ isOneTree t
+    unfolding isOneTree endsAt endOf
+    one-tree-refused y e = rw (tree-end t 0 r read next p z h, e)
+
+    -- one that ends is a tree if the text ends there
+    pub one-tree-read : (end : ℕ) → z ≡ End.At end → eqb end (length t) ≡ isOneTree t
+    unfolding isOneTree endsAt endOf
+    one-tree-read end e = rw (tree-end t 0 r read next p z h, e)

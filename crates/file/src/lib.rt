@@ -1,4 +1,4 @@
-// One file by itself: its layout, and its blocks one by one.
+// One file by itself: its layout, and its blocks one by one. And what is a tree.
 pub mod block;
 mod chain;
 mod comments;
@@ -6,4 +6,4 @@ mod header;
 mod index;
 pub mod layout;
 mod step;
-mod tree;
+pub mod tree;

@@ -3,6 +3,7 @@ ghost use mathlib.Core.Path.{_≡_};
 ghost use lib.ListN.{drop};
 ghost use Rattle.format.specs.Line.{lines};
 ghost use Rattle.format.specs.Tree.{isStart, isDirective, content, directives, tree};
+ghost use Rattle.format.specs.Edit.{isOneTree};
 ghost use Rattle.file.specs.Step.{endOf, treeOf};
 use crate::step::EndStep;
 use crate::step::TreeStep;
@@ -29,6 +30,19 @@ pub(crate) fn read_tree(s: &[u8], at: usize) -> TreeStep
             end: Offset(end as u64),
             room_end: Offset(mark::find_plain(s, end) as u64),
         }),
+    }
+}
+
+// Whether a text is exactly one tree, with nothing before or after.
+pub fn is_one_tree(t: &[u8]) -> bool
+    ensures { λ r. ⌜ r ≡ isOneTree (now (t .entry)) ⌝ }
+{
+    let Exact::Behind(next) = line::yaml_line(t, 0) else {
+        return false;
+    };
+    match directives_end(t, next) {
+        EndStep::Refused(_) => false,
+        EndStep::At(end) => end == t.len(),
     }
 }
 

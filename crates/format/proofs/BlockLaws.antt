@@ -26,10 +26,14 @@ pub record Sound (size : ℕ) (b : Block) : Type 0 where
   pub used : b .used ≤ b .allocated
   pub end : b .at .0 + extent b ≤ size
 
--- and a list of such blocks
+-- P holds of every block of a list
+abbrev pub AllBlocks : (Block → Type 0) → List Block → Type 0
+AllBlocks P [] = Unit {0}
+AllBlocks P (b ∷ bs) = P b × AllBlocks P bs
+
+-- every block of a list ends inside a file of this size
 abbrev pub AllSound : ℕ → List Block → Type 0
-AllSound size [] = Unit {0}
-AllSound size (b ∷ bs) = Sound size b × AllSound size bs
+AllSound size = AllBlocks (Sound size)
 
 module _ (size i n : ℕ) (t : Bytes) (bytes : IsBytes t) (few : i < mostBlocks) (room : length t ≤ size - n) where
   -- a block's numbers keep their bounds where its tests hold
@@ -52,36 +56,52 @@ module _ (size i n : ℕ) (t : Bytes) (bytes : IsBytes t) (few : i < mostBlocks)
   unfolding block
   block-sound = search (accepts-need, choice (Accepts (Sound size)) (isStreamed (flags t)), with-sound, leb-true, le-refl) depth 12
 
--- a chain of such blocks
-abbrev SoundChain : ℕ → Chain → Type 0
-SoundChain size c = AllSound size (c .blocks)
+module _ (P : Block → Type 0) where
+  -- P holds of every block of a chain
+  abbrev pub AllOfChain : Chain → Type 0
+  AllOfChain c = AllBlocks P (c .blocks)
 
--- where no block begins, no block follows
-tail-sound : (size n : ℕ) (t : Bytes) → Accepts (SoundChain size) (tail n t)
-unfolding tail
-tail-sound size n t = search accepts-need
+  -- where no block begins, no block follows
+  tail-all : (n : ℕ) (t : Bytes) → Accepts AllOfChain (tail n t)
+  unfolding tail
+  tail-all n t = search accepts-need
 
--- a sound block in front of sound blocks, or of nothing where it is streamed
-linked-sound : (size : ℕ) (b : Block) (streamed : Bool) (o : Outcome Chain) → Sound size b → Accepts (SoundChain size) o
-    → Accepts (SoundChain size) (_>>=_ (elim streamed [ true ↦ accepted (ended []) | false ↦ o ]) (λ c. accepted (linked b c)))
-linked-sound size b true o h hs = (h, tt)
-linked-sound size b false (accepted c) h hs = (h, hs)
-linked-sound size b false (refused r) h hs = tt
+  -- a block in front of others, or of nothing where it is streamed
+  linked-all : (b : Block) (streamed : Bool) (o : Outcome Chain) → P b → Accepts AllOfChain o
+      → Accepts AllOfChain (_>>=_ (elim streamed [ true ↦ accepted (ended []) | false ↦ o ]) (λ c. accepted (linked b c)))
+  linked-all b true o h hs = (h, tt)
+  linked-all b false (accepted c) h hs = (h, hs)
+  linked-all b false (refused r) h hs = tt
+
+  -- P holds of every block of a chain if it holds of each that is accepted where Known holds, and Known holds again behind it
+  pub chain-all : (Known : ℕ → ℕ → ℕ → Bytes → Type 0)
+      → ((k i n : ℕ) (t : Bytes) (b : Block) → Known (suc k) i n t → block i n t ≡ accepted b → P b × Known k (i + 1) (n + extent b) (drop (extent b) t))
+      → (k i n : ℕ) (t : Bytes) → Known k i n t → Accepts AllOfChain (chain k i n t)
+  unfolding chain
+  chain-all Known step zero i n t h = choice (Accepts AllOfChain) (begins mark t) _ _ tt (tail-all n t)
+  chain-all Known step (suc k) i n t h =
+      choice (Accepts AllOfChain) (begins mark t) _ _
+      (accepts-bind AllOfChain (block i n t) _ λ b q.
+      linked-all b (isStreamed (b .flags)) (chain k (i + 1) (n + extent b) (drop (extent b) t)) (step k i n t b h q .0)
+      (chain-all Known step k (i + 1) (n + extent b) (drop (extent b) t) (step k i n t b h q .1)))
+      (tail-all n t)
+
+-- the block i at offset n, where t stands, is one of those allowed, k more with it, and inside a file of this size
+record Inside (size k i n : ℕ) (t : Bytes) : Type 0 where
+  bytes : IsBytes t
+  few : i + k ≤ mostBlocks
+  room : length t ≤ size - n
 
 -- every block of a chain is sound
-chain-sound : (size k i n : ℕ) (t : Bytes) → IsBytes t → i + k ≤ mostBlocks → length t ≤ size - n
-    → Accepts (SoundChain size) (chain k i n t)
-unfolding chain
-chain-sound size zero i n t bytes few room = choice (Accepts (SoundChain size)) (begins mark t) _ _ tt (tail-sound size n t)
-chain-sound size (suc k) i n t bytes few room =
-    choice (Accepts (SoundChain size)) (begins mark t) _ _
-    (accepts-bind (SoundChain size) (block i n t) _ λ b q.
-    linked-sound size b (isStreamed (b .flags)) (chain k (i + 1) (n + extent b) (drop (extent b) t)) (sound b q)
-    (chain-sound size k (i + 1) (n + extent b) (drop (extent b) t) (is-bytes-drop (extent b) t bytes) (omega arith) (simp length-drop (omega arith))))
-    (tail-sound size n t)
+chain-sound : (size k i n : ℕ) (t : Bytes) → Inside size k i n t → Accepts (AllOfChain (Sound size)) (chain k i n t)
+chain-sound size = chain-all (Sound size) (Inside size) step
   where
-    sound : (b : Block) → block i n t ≡ accepted b → Sound size b
-    sound b = accepted-holds (Sound size) (block i n t) b (block-sound size i n t bytes (omega arith) room)
+    step : (k i n : ℕ) (t : Bytes) (b : Block) → Inside size (suc k) i n t → block i n t ≡ accepted b
+        → Sound size b × Inside size k (i + 1) (n + extent b) (drop (extent b) t)
+    step k i n t b h q = (
+      accepted-holds (Sound size) (block i n t) b (block-sound size i n t (h .bytes) (omega arith) (h .room)) q,
+      record { bytes = is-bytes-drop (extent b) t (h .bytes); few = omega arith; room = simp length-drop (omega arith) },
+    )
 
 -- a file of such blocks
 abbrev pub SoundFile : Bytes → File → Type 0
@@ -94,5 +114,6 @@ file-sound s bytes = search (accepts-need, accepts-bind, blocks-sound) depth 12
   where
     blocks-sound : (m : ℕ) (c : Chain) → chain mostBlocks 0 m (drop m s) ≡ accepted c → AllSound (length s) (c .blocks)
     blocks-sound m c =
-        accepted-holds (SoundChain (length s)) (chain mostBlocks 0 m (drop m s)) c
-        (chain-sound (length s) mostBlocks 0 m (drop m s) (is-bytes-drop m s bytes) (omega arith) (simp length-drop (omega arith)))
+        accepted-holds (AllOfChain (Sound (length s))) (chain mostBlocks 0 m (drop m s)) c
+        (chain-sound (length s) mostBlocks 0 m (drop m s)
+        (record { bytes = is-bytes-drop m s bytes; few = omega arith; room = simp length-drop (omega arith) }))

@@ -17,3 +17,6 @@ pub mod LocalLaws
 pub mod ChainLaws
 pub mod FileLaws
 pub mod WriterLaws
+pub mod EditTreeLaws
+pub mod EditWalkLaws
+pub mod EditLaws

@@ -8,7 +8,7 @@ use Rattle.format.specs.declared.block.Inner.{Inner}
 use Rattle.format.specs.declared.block.Record.{Record}
 use Rattle.format.specs.declared.layout.Layout.{Layout}
 use Rattle.format.specs.declared.layout.Tree.{Tree}
-use Rattle.format.specs.declared.layout.Tree.the-variants.{NoTree, Found}
+use Rattle.format.specs.declared.layout.Tree.the-variants.{NoTree}
 use Rattle.format.specs.declared.layout.Verdict.{Verdict}
 use Rattle.format.specs.declared.layout.Verdict.the-variants.{Absent, Good, IgnoredForm, IgnoredList}
 use Rattle.format.specs.Bytes.{Bytes, text, toBytes}
@@ -19,6 +19,7 @@ use Rattle.format.specs.IndexWriter.{indexFor}
 use Rattle.format.specs.Nest.{records}
 use Rattle.format.specs.Outline.{outline}
 use Rattle.format.specs.Edit.{edit}
+use Rattle.format.specs.Edited.{treeAt}
 use Rattle.format.specs.Listing.{listing}
 
 -- a question with its answer
@@ -81,9 +82,6 @@ layoutWith t blocks v =
       blocks = blocks;
       verdict = v;
     })
-
-abbrev pub treeAt : ℕ → ℕ → ℕ → Tree
-treeAt n e m = Found (record { 0 = n }) (record { 0 = e }) (record { 0 = m })
 
 -- a block that holds B
 abbrev pub fileBInside : Bytes

@@ -16,6 +16,7 @@ pub mod Fields
 pub mod Outline
 pub mod Lent
 pub mod Edit
+pub mod Edited
 pub mod Listing
 pub mod Answer
 pub mod Examples

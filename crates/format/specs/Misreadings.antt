@@ -8,7 +8,8 @@ use Rattle.format.specs.declared.layout.Verdict.the-variants.{Absent, Ig
 use Rattle.format.specs.Bytes.{Bytes, text}
 use Rattle.format.specs.Outcome.{accepted, refused, refusal}
 use Rattle.format.specs.Tree.{mark}
-use Rattle.format.specs.Examples.{Example, Reads, States, fileA, fileB, blockHeader, emptyBlock, indexWith, layoutWith, treeAt}
+use Rattle.format.specs.Edited.{treeAt}
+use Rattle.format.specs.Examples.{Example, Reads, States, fileA, fileB, blockHeader, emptyBlock, indexWith, layoutWith}
 
 -- n copies, one behind another
 abbrev pub copies : ℕ → Bytes → Bytes

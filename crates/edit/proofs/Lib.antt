@@ -1,0 +1,3 @@
+-- Laws of the tree edit.
+pub mod FillLaws
+pub mod DoneLaws

@@ -1,0 +1,2 @@
+-- What the contracts of the tree edit cite.
+pub mod Done

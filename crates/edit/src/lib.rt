@@ -1,0 +1,94 @@
+// The tree edit in place.
+ghost use Prim.Native.Nat.{_-_, _≤_};
+ghost use mathlib.Core.List.{_++_};
+ghost use mathlib.Core.Path.{_≡_};
+ghost use lib.ListN.{length, replicate};
+ghost use lib.Seq.{sets};
+ghost use lib.Dec.{leb};
+ghost use Rattle.format.specs.declared.answer.EditAnswer.the-variants as EditAnswer·is;
+ghost use Rattle.format.specs.Outcome.{refusal};
+ghost use Rattle.edit.specs.Done.{Done, HasTree};
+use file::layout;
+use file::tree::is_one_tree;
+use format::answer::EditAnswer;
+use format::answer::LayoutAnswer;
+use format::layout::Tree;
+use format::offset::Offset;
+use format::refusal::Refusal;
+
+// Replaces a file's tree by a text that is exactly one tree, and the rest of the tree's room by spaces.
+pub fn edit(file: &mut [u8], text: &[u8]) -> EditAnswer
+    ensures { λ r. ⌜ Done (now (file .entry)) (now (text .entry)) (now (file .exit)) r ⌝ }
+{
+    match layout::read(file) {
+        LayoutAnswer::Refused(r) => EditAnswer::Refused(r),
+        LayoutAnswer::Accepted(l) => {
+            let tree = l.tree;
+            edit_tree(file, text, tree)
+        }
+    }
+}
+
+// The same for an accepted file whose tree is known.
+fn edit_tree(file: &mut [u8], text: &[u8], tree: Tree) -> EditAnswer
+    requires { ⌜ HasTree (now file) tree ⌝ }
+    ensures { λ r. ⌜ Done (now (file .entry)) (now (text .entry)) (now (file .exit)) r ⌝ }
+{
+    match tree {
+        Tree::NoTree => refused(18),
+        Tree::Found {
+            start,
+            end: _,
+            room_end,
+        } => {
+            if !is_one_tree(text) {
+                return refused(19);
+            }
+            let from = start.0 as usize;
+            let to = room_end.0 as usize;
+            if !fits(text, from, to) {
+                return refused(20);
+            }
+            fill(&mut file[from..to], text);
+            EditAnswer::Edited
+        }
+    }
+}
+
+// A refusal of this number. An edit has no place in the file to name.
+fn refused(number: u8) -> EditAnswer
+    ensures { λ r. ⌜ r ≡ EditAnswer·is.Refused (refusal number 0) ⌝ }
+{
+    EditAnswer::Refused(Refusal {
+        number,
+        place: Offset(0),
+    })
+}
+
+// Whether a text is no longer than a room.
+fn fits(text: &[u8], from: usize, to: usize) -> bool
+    requires { ⌜ from ≤ to ⌝ }
+    ensures { λ r. ⌜ r ≡ leb (length (now (text .entry))) (to - from) ⌝ }
+{
+    text.len() <= to - from
+}
+
+// Writes a text into a room, and spaces behind it.
+fn fill(room: &mut [u8], text: &[u8])
+    requires { ⌜ length (now text) ≤ length (now room) ⌝ }
+    ensures { λ _. ⌜ now (room .exit) ≡ now (text .entry) ++ replicate (length (now (room .entry)) - length (now (text .entry))) 32 ⌝ }
+{
+    bytes::copy(text, room);
+    put_spaces(room, text.len());
+}
+
+// Writes spaces from an offset on.
+fn put_spaces(room: &mut [u8], from: usize)
+    ensures { λ _. ⌜ now (room .exit) ≡ sets (now (room .entry)) from (replicate (length (now (room .entry)) - from) 32) ⌝ }
+{
+    let mut at = from;
+    while at < room.len() {
+        room[at] = b' ';
+        at += 1;
+    }
+}

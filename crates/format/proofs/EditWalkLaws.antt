@@ -1,0 +1,74 @@
+-- The records of all blocks depend on nothing but the blocks of the file and the bytes from the first of them on.
+use Prim.Native.Nat.{ℕ, _+_, _-_, _≤_}
+use mathlib.Core.Path.{_≡_, refl, sym, ap, subst, _∙_}
+use mathlib.Core.Bool.{true, false}
+use mathlib.Core.List.{List, [], _∷_}
+use native.Mathlib.Nat.{le-refl}
+use native.Mathlib.Omega.{arith}
+use lib.ListN.{take, drop}
+use lib.Seq.{drop-drop}
+use Rattle.format.specs.declared.block.Block.{Block}
+use Rattle.format.specs.declared.block.Inner.the-variants.{Plain}
+use Rattle.format.specs.Bytes.{Bytes}
+use Rattle.format.specs.Outcome.{accepted}
+use Rattle.format.specs.Block.{flags, isStreamed, blockWith, block}
+use Rattle.format.specs.Chain.{mostBlocks, extent}
+use Rattle.format.specs.File.{File, file}
+use Rattle.format.specs.Nest.{contentAt, contentOf, isFile, Inside, closed, inside, walk, walkFile, recordsFrom, records}
+use Rattle.format.specs.Outline.{rows, outline}
+use Rattle.format.proofs.OutcomeLaws.{Accepts, accepted-holds, accepts-need, choice}
+use Rattle.format.proofs.BlockLaws.{AllBlocks, AllOfChain, chain-all}
+use Rattle.format.proofs.FileLaws.{Parts, blocksStart}
+
+-- a block begins at offset m or behind
+abbrev From : ℕ → Block → Type 0
+From m b = m ≤ b .at .0
+
+-- a block begins at its offset
+block-at : (i n : ℕ) (t : Bytes) → Accepts (λ b. b .at .0 ≡ n) (block i n t)
+unfolding block blockWith
+block-at i n t = search (accepts-need, choice (Accepts (λ (b : Block). b .at .0 ≡ n)) (isStreamed (flags t))) depth 12
+
+-- the blocks of a file begin where its first block does or behind
+pub file-from : (s : Bytes) (f : File) → Parts s f → AllBlocks (From (blocksStart f)) (f .blocks)
+file-from s f h =
+    let m = blocksStart f in
+    accepted-holds (AllOfChain (From m)) _ _ (chain-all (From m) (λ k i n t. m ≤ n) step mostBlocks 0 m _ (le-refl m)) (h .chain-read)
+  where
+    step : (k i n : ℕ) (t : Bytes) (b : Block) → blocksStart f ≤ n → block i n t ≡ accepted b
+        → (blocksStart f ≤ b .at .0) × (blocksStart f ≤ n + extent b)
+    step k i n t b le q = (omega (arith, accepted-holds _ _ b (block-at i n t) q), omega arith)
+
+module _ (m : ℕ) (u s : Bytes) (rest : drop m u ≡ drop m s) where
+  -- what stands at m or behind is the same
+  drop-again : (n : ℕ) → m ≤ n → drop n u ≡ drop n s
+  drop-again n h =
+      let e : m + (n - m) ≡ n = omega arith in
+      subst (λ (k : ℕ). drop k u ≡ drop k s) e (sym (drop-drop (n - m) m u) ∙ ap (drop (n - m)) rest ∙ drop-drop (n - m) m s)
+
+  -- and so is the content of a block that begins there
+  pub content-again : (b : Block) → m ≤ b .at .0 → contentOf b u ≡ contentOf b s
+  content-again b h = ap (take (b .used)) (drop-again (contentAt b) (omega arith))
+
+  -- and what is inside it
+  inside-again : (reads : ℕ → Bytes → Inside) (start : ℕ) (b : Block) → m ≤ b .at .0 → inside reads start u b ≡ inside reads start s b
+  unfolding inside
+  inside-again reads start b h =
+      ap (λ (t : Bytes). elim (isFile b t) [ true ↦ reads (start + contentAt b) t | false ↦ closed Plain ]) (content-again b h)
+
+  -- and the records of such blocks
+  pub walk-again : (reads : ℕ → Bytes → Inside) (depth start : ℕ) (bs : List Block) → AllBlocks (From m) bs → walk reads depth start u bs ≡ walk reads depth start s bs
+  unfolding walk
+  walk-again reads depth start [] h = refl
+  walk-again reads depth start (b ∷ bs) h = rw (inside-again reads start b (h .0), walk-again reads depth start bs (h .1))
+
+-- files with the same blocks, and the same bytes from the first of them on, have the same records and the same outline
+module _ (u s : Bytes) (g f : File) (read-u : file u ≡ accepted g) (read-s : file s ≡ accepted f) (blocks : g .blocks ≡ f .blocks)
+    (m : ℕ) (behind : AllBlocks (From m) (f .blocks)) (rest : drop m u ≡ drop m s) where
+  pub records-again : records u ≡ records s
+  unfolding records recordsFrom walkFile
+  records-again = rw (read-u, read-s, blocks, walk-again m u s rest _ 0 0 (f .blocks) behind)
+
+  pub outline-again : outline u ≡ outline s
+  unfolding outline rows
+  outline-again = rw records-again
