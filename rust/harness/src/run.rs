@@ -3,6 +3,7 @@
 use crate::answers::Answers;
 use crate::calls::Calls;
 use crate::compare::compare;
+use crate::compare_nest::read_back;
 use crate::corpus::numbered_file;
 use crate::coverage::Coverage;
 use crate::long_files::{long_files, LongFile};
@@ -96,6 +97,7 @@ impl Outcome {
         self.longest = self.longest.max(file.len());
         let lent = file.to_vec();
         let answers = self.compare_file(&lent)?;
+        without_panic(|| read_back(&lent, &answers, &mut self.calls))??;
         same("the file after all calls", &lent[..], file)?;
         without_panic(|| self_check::check(file, &answers))?
     }
