@@ -37,7 +37,7 @@ pub fn numbered_nest(seed: u64, number: u64) -> Vec<u8> {
 /// The stored outline with this number; some are made from a file's.
 pub fn numbered_outline(seed: u64, number: u64) -> Vec<u8> {
     let mut rng = Rng::for_file(seed ^ OUTLINES, number);
-    stored_outline(&mut rng, &outline_of(&numbered_nest(seed, number)))
+    stored_outline(&mut rng, || outline_of(&numbered_nest(seed, number)))
 }
 
 /// The outline of a file by the second program; an empty one of a refused file.

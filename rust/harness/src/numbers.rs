@@ -72,7 +72,7 @@ pub fn block_numbers(block: &Block) -> [u64; BLOCK_NUMBERS] {
 }
 
 /// The numbers of a record: depth, offset in the outermost file, inner state, then its block's.
-pub fn record_numbers(record: &Record) -> Vec<u64> {
+pub fn record_numbers(record: &Record) -> [u64; RECORD_NUMBERS] {
     let refusal = inner_refusal(record.inner);
     let front = [
         record.depth.into(),
@@ -81,7 +81,9 @@ pub fn record_numbers(record: &Record) -> Vec<u64> {
         refusal.number.into(),
         refusal.place,
     ];
-    [&front[..], &block_numbers(&record.block)].concat()
+    let block = block_numbers(&record.block);
+    let mut numbers = front.into_iter().chain(block);
+    std::array::from_fn(|_| numbers.next().unwrap_or(0))
 }
 
 /// The refusal of an inner file, two zeros where there is none.

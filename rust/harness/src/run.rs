@@ -9,6 +9,7 @@ use crate::corpus::{numbered_file, numbered_nest, numbered_outline};
 use crate::coverage::Coverage;
 use crate::goals::goals;
 use crate::long_files::{long_files, LongFile};
+use crate::nests;
 use crate::same::same;
 use crate::self_check;
 use crate::stored_answers::StoredAnswers;
@@ -98,10 +99,12 @@ pub fn run(seed: u64, count: u64) -> io::Result<bool> {
 fn check_files(seed: u64, count: u64) -> io::Result<Outcome> {
     let mut outcome = Outcome::new();
     for long in long_files()? {
-        if let Err(reason) = outcome.check_long_file(&long) {
-            outcome.failures += 1;
-            println!("{}: {reason:.LONGEST_REASON$}", long.name);
-        }
+        let checked = outcome.check_long_file(&long);
+        outcome.tell(long.name, checked);
+    }
+    for nest in nests::deepest().into_iter().chain([nests::many_rows()]) {
+        let compared = outcome.compare_file(&nest);
+        outcome.tell("file made for its many rows", compared.map(|_| ()));
     }
     for number in 0..count {
         for kind in Kind::ALL {
@@ -134,6 +137,14 @@ impl Outcome {
             missing.push(format!("{least_nests} files with files inside"));
         }
         missing
+    }
+
+    /// Tells of a file that is not generated, if it failed.
+    fn tell(&mut self, name: &str, checked: Result<(), String>) {
+        if let Err(reason) = checked {
+            self.failures += 1;
+            println!("{name}: {reason:.LONGEST_REASON$}");
+        }
     }
 
     /// Generates and checks one; a failing one is kept and told of.

@@ -77,11 +77,11 @@ impl StoredRow {
     }
 }
 
-/// A stored outline, sometimes made from this one of a file.
-pub fn stored_outline(rng: &mut Rng, of_file: &[u8]) -> Vec<u8> {
+/// A stored outline, sometimes made from the one of a file.
+pub fn stored_outline(rng: &mut Rng, of_file: impl FnOnce() -> Vec<u8>) -> Vec<u8> {
     match rng.below(8) {
-        0 => of_file.to_vec(),
-        1 | 2 => changed(rng, of_file),
+        0 => of_file(),
+        1 | 2 => changed(rng, &of_file()),
         3 => right_rows(rng),
         4..=6 => {
             let rows = right_rows(rng);
@@ -270,7 +270,7 @@ mod tests {
             let mut rng = Rng::for_file(0, number);
             let length = rng.between(0, 3 * ROW_LENGTH);
             let bytes = rng.bytes(length);
-            stored_outline(&mut rng, &bytes);
+            stored_outline(&mut rng, || bytes);
         }
     }
 }
