@@ -54,7 +54,8 @@ fn compare_record(
 /// The bytes of all records by the second program.
 fn expected_records(answers: &Answers) -> Expected {
     let records = answers.records.as_ref().map_err(|&refusal| refusal)?;
-    Ok(records.iter().flat_map(record_bytes).collect())
+    let bytes: Vec<Vec<u8>> = records.iter().map(record_bytes).collect();
+    Ok(bytes.concat())
 }
 
 /// The bytes of one record by the second program, none where there is no such record.

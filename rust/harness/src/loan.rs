@@ -157,21 +157,25 @@ impl Loan {
         expected: Result<&[u8], Refusal>,
         ask: impl Fn(&mut [u8]) -> u64,
     ) -> Result<(), String> {
-        let mut bytes = self.filled();
+        let mut left = self.filled();
+        let mut bytes = left.clone();
         let word = ask(&mut bytes[self.stretch()]);
         let returned = expected.map(|written| written.len() as u64);
         same("returned", result_of(word), returned)?;
-        self.check_bytes(&bytes, expected.unwrap_or(&[]))
+        let written = expected.unwrap_or(&[]);
+        left[self.stretch()][..written.len()].copy_from_slice(written);
+        if bytes == left {
+            return Ok(());
+        }
+        self.difference(&bytes, &left, written.len())
     }
 
-    /// Compares all bytes after a call that has to write these.
-    fn check_bytes(self, bytes: &[u8], written: &[u8]) -> Result<(), String> {
-        let start = self.stretch().start;
-        same_result(&bytes[start..][..written.len()], written)?;
-        let mut left = self.filled();
-        left[start..][..written.len()].copy_from_slice(written);
+    /// Tells where bytes are not as they were to be left, of which so many are the result.
+    fn difference(self, bytes: &[u8], left: &[u8], written: usize) -> Result<(), String> {
+        let result = self.stretch().start..self.stretch().start + written;
+        same_result(&bytes[result.clone()], &left[result.clone()])?;
         let changed = (0..bytes.len()).find(|&place| bytes[place] != left[place]);
-        let from_start = changed.map(|place| place as isize - start as isize);
+        let from_start = changed.map(|place| place as isize - result.start as isize);
         same("changed byte, from the buffer's start", from_start, None)
     }
 }

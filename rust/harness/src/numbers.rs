@@ -115,10 +115,11 @@ pub fn row_numbers(row: &Row) -> [u64; ROW_NUMBERS] {
 
 /// Numbers as the bytes of a buffer.
 pub fn bytes_of(numbers: &[u64]) -> Vec<u8> {
-    numbers
-        .iter()
-        .flat_map(|number| number.to_be_bytes())
-        .collect()
+    let mut bytes = Vec::with_capacity(numbers.len() * NUMBER_BYTES);
+    for number in numbers {
+        bytes.extend_from_slice(&number.to_be_bytes());
+    }
+    bytes
 }
 
 /// The numbers in whole buffer bytes.

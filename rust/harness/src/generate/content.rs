@@ -22,7 +22,7 @@ const LIKE_A_FILE: &[&[u8]] = &[
 ];
 
 /// So seldom one of the other blocks holds a file, if the shape asks for branches.
-const BRANCH_ONE_IN: usize = 5;
+const BRANCH_ONE_IN: usize = 6;
 
 /// The content of a block; one that nests holds a file, if the shape asks for nesting.
 pub fn content(rng: &mut Rng, shape: &Shape, nests: bool) -> Vec<u8> {
