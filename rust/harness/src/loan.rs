@@ -268,7 +268,7 @@ mod tests {
 
     #[test]
     fn wrong_count_is_found_out() {
-        let mut said = |expected, word| {
+        let said = |expected, word| {
             let function = Function::StoredCount;
             compare_count(function, expected, word, &mut Calls::new()).is_ok()
         };

@@ -3,7 +3,7 @@
 use crate::answers::{content_start, Answers};
 use crate::generate::FILE_BEGIN;
 use crate::goals::Goal;
-use asdf_second::{Inner, InnerKind, Record};
+use asdf_second::{records, Inner, InnerKind, Record};
 
 /// The greatest depth at which a file is read.
 const DEEPEST: u8 = 7;
@@ -25,6 +25,7 @@ pub fn nest_goals() -> Vec<Goal> {
         branches(),
         kinds_of_inner_blocks(),
         contents(),
+        unread_files(),
     ]
     .into_iter()
     .flatten()
@@ -201,12 +202,33 @@ fn contents() -> Vec<Goal> {
                 && record.block.is_compressed()
                 && content_with_unused(file, record).starts_with(FILE_BEGIN)
         }),
-        Goal::of_record_in("too deep and broken", |file, record| {
-            let content = content_with_unused(file, record);
-            record.inner == Inner::TooDeep
-                && asdf_second::read(&content[..record.block.used as usize]).is_err()
-        }),
     ]
+}
+
+/// What stands in files that are too deep to be read.
+fn unread_files() -> Vec<Goal> {
+    vec![
+        too_deep("too deep and broken", |content| records(content).is_err()),
+        too_deep("file at depth 9", |content| holds_file_at(content, 1)),
+        too_deep("file at depth 10", |content| holds_file_at(content, 2)),
+        too_deep("file at depth 11", |content| holds_file_at(content, 3)),
+    ]
+}
+
+/// A goal that the content of a block that is too deep reaches.
+fn too_deep(name: &str, reached: fn(&[u8]) -> bool) -> Goal {
+    Goal::of_record_in(name, move |file, record| {
+        let content = &content_with_unused(file, record)[..record.block.used as usize];
+        record.inner == Inner::TooDeep && reached(content)
+    })
+}
+
+/// Whether a file holds another one, so many levels further in.
+fn holds_file_at(file: &[u8], levels: u8) -> bool {
+    let records = records(file).unwrap_or_default();
+    records
+        .iter()
+        .any(|record| is_opened(record) && record.depth + 1 == levels)
 }
 
 /// Whether an inner file is refused for its version line.
