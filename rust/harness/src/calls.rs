@@ -1,5 +1,6 @@
 //! Counts the calls of the proved functions: by function, buffer and what came of them.
 
+use crate::numbers::{BLOCK_NUMBERS, LAYOUT_NUMBERS, NUMBER_BYTES, RECORD_NUMBERS, ROW_NUMBERS};
 use std::collections::BTreeMap;
 use std::fmt;
 
@@ -75,6 +76,18 @@ impl Function {
     /// Whether it is lent no buffer.
     fn is_count(self) -> bool {
         matches!(self, Function::Count | Function::StoredCount)
+    }
+
+    /// The bytes of its result, if that has always so many or none.
+    pub fn result_bytes(self) -> Option<usize> {
+        let numbers = match self {
+            Function::Read => LAYOUT_NUMBERS,
+            Function::Block => BLOCK_NUMBERS,
+            Function::Record => RECORD_NUMBERS,
+            Function::StoredRow => ROW_NUMBERS,
+            _ => return None,
+        };
+        Some(numbers * NUMBER_BYTES)
     }
 
     /// Whether it always writes something if it succeeds.

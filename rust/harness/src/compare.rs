@@ -4,45 +4,30 @@ use crate::answers::Answers;
 use crate::calls::{Calls, Function};
 use crate::compare_nest::compare_nest;
 use crate::exports;
-use crate::loan::{Asked, Expected};
-use crate::numbers::{block_numbers, bytes_of, layout_numbers, BLOCK_NUMBERS, LAYOUT_NUMBERS};
+use crate::loan::{compare_numbered, Asked, Expected};
+use crate::numbers::{block_numbers, bytes_of, layout_numbers};
 
 /// Ordinals that no file has. Cut to fewer bits or taken as signed, some would be one.
 const FAR_ORDINALS: [u64; 6] = [64, 1 << 8, 1 << 16, 1 << 32, 1 << 63, u64::MAX];
 
 /// Says where a proved function answers otherwise than the second program, if anywhere.
 pub fn compare(file: &[u8], answers: &Answers, calls: &mut Calls) -> Result<(), String> {
-    compare_read(file, answers, calls)?;
-    ordinals(answers.blocks().len()).try_for_each(|ordinal| {
-        compare_block(file, ordinal, answers, calls)
-            .map_err(|reason| format!("ordinal {ordinal}: {reason}"))
-    })?;
+    let layout = Asked::new(Function::Read, expected_layout(answers), file.len());
+    layout.compare(|out| exports::read(file, out), calls)?;
+    compare_numbered(
+        Function::Block,
+        ordinals(answers.blocks().len()),
+        file.len(),
+        |ordinal| expected_block(answers, ordinal),
+        |ordinal, out| exports::block(file, ordinal, out),
+        calls,
+    )?;
     compare_nest(file, answers, calls)
 }
 
 /// The ordinal of each block, two behind them, and far ones.
 fn ordinals(blocks: usize) -> impl Iterator<Item = u64> {
     (0..=blocks as u64 + 1).chain(FAR_ORDINALS)
-}
-
-/// Compares the layout.
-fn compare_read(file: &[u8], answers: &Answers, calls: &mut Calls) -> Result<(), String> {
-    let expected = expected_layout(answers);
-    let asked = Asked::for_numbers(Function::Read, LAYOUT_NUMBERS, expected);
-    asked.compare(file.len(), |out| exports::read(file, out), calls)
-}
-
-/// Compares the block of an ordinal.
-fn compare_block(
-    file: &[u8],
-    ordinal: u64,
-    answers: &Answers,
-    calls: &mut Calls,
-) -> Result<(), String> {
-    let expected = expected_block(answers, ordinal);
-    let asked = Asked::for_numbers(Function::Block, BLOCK_NUMBERS, expected);
-    let ask = |out: &mut [u8]| exports::block(file, ordinal, out);
-    asked.compare(file.len(), ask, calls)
 }
 
 /// The bytes of the layout by the second program.

@@ -4,8 +4,8 @@ use crate::answers::Answers;
 use crate::calls::{Calls, Function};
 use crate::compare_stored::compare_stored;
 use crate::exports;
-use crate::loan::{compare_count, result_in, Asked, Expected};
-use crate::numbers::{bytes_of, layout_numbers, record_numbers, LAYOUT_NUMBERS, RECORD_NUMBERS};
+use crate::loan::{compare_count, compare_numbered, result_in, Asked, Expected};
+use crate::numbers::{bytes_of, layout_numbers, record_numbers};
 use crate::rng::Rng;
 use crate::same::same;
 use crate::stored_answers::StoredAnswers;
@@ -15,18 +15,21 @@ use asdf_second::{Record, Row, Verdict, LONGEST_INDEX, ROW_LENGTH};
 pub fn compare_nest(file: &[u8], answers: &Answers, calls: &mut Calls) -> Result<(), String> {
     let count = answers.count();
     compare_count(Function::Count, count, exports::count(file), calls)?;
-    let outline = Asked::for_whole(Function::Outline, answers.outline.clone());
-    outline.compare(file.len(), |out| exports::outline(file, out), calls)?;
-    let records = Asked::for_whole(Function::Records, expected_records(answers));
-    records.compare(file.len(), |out| exports::records(file, out), calls)?;
-    let index = Asked::for_whole(Function::Index, answers.index.clone());
-    index.compare(file.len(), |out| exports::index(file, out), calls)?;
-    wanted(count.unwrap_or(0))
-        .into_iter()
-        .try_for_each(|number| {
-            compare_record(file, number, answers, calls)
-                .map_err(|reason| format!("number {number}: {reason}"))
-        })
+    let asked = |function, expected| Asked::new(function, expected, file.len());
+    let outline = asked(Function::Outline, answers.outline.clone());
+    outline.compare(|out| exports::outline(file, out), calls)?;
+    let records = asked(Function::Records, expected_records(answers));
+    records.compare(|out| exports::records(file, out), calls)?;
+    let index = asked(Function::Index, answers.index.clone());
+    index.compare(|out| exports::index(file, out), calls)?;
+    compare_numbered(
+        Function::Record,
+        wanted(count.unwrap_or(0)).into_iter(),
+        file.len(),
+        |number| expected_record(answers, number),
+        |number, out| exports::record(file, number, out),
+        calls,
+    )
 }
 
 /// The numbers that are asked for out of so many: the first, the last, one behind it, any, and
@@ -36,19 +39,6 @@ pub fn wanted(count: usize) -> [u64; 6] {
     let last = behind.saturating_sub(1);
     let any = Rng::for_file(0, behind).below(count) as u64;
     [0, last, behind, any, last + (1 << 32), u64::MAX]
-}
-
-/// Compares the record of a number.
-fn compare_record(
-    file: &[u8],
-    number: u64,
-    answers: &Answers,
-    calls: &mut Calls,
-) -> Result<(), String> {
-    let expected = expected_record(answers, number);
-    let asked = Asked::for_numbers(Function::Record, RECORD_NUMBERS, expected);
-    let ask = |out: &mut [u8]| exports::record(file, number, out);
-    asked.compare(file.len(), ask, calls)
 }
 
 /// The bytes of all records by the second program.
@@ -100,10 +90,64 @@ fn read_index_back(file: &[u8], answers: &Answers) -> Result<(), String> {
     let text = result_in(LONGEST_INDEX, |out| exports::index(file, out));
     let text = text.map_err(|refusal| refusal.to_string())?;
     let indexed = [&file[..end], &text].concat();
-    let length = bytes_of(&[0; LAYOUT_NUMBERS]).len();
-    let found = result_in(length, |out| exports::read(&indexed, out));
     let mut expected = layout.clone();
     expected.index = Verdict::Good;
     let expected = bytes_of(&layout_numbers(&expected));
+    let found = result_in(expected.len(), |out| exports::read(&indexed, out));
     same("file with the written index", found, Ok(expected))
+}
+
+#[cfg(test)]
+mod tests {
+    use super::*;
+    use crate::answers::of_whole;
+    use crate::nests::path;
+    use asdf_second::Inner;
+
+    /// What is found out if the answers to a file in a file in a file are changed.
+    fn said(change: fn(&mut Answers)) -> Result<(), String> {
+        let file = path(3, 2, 1, b"#ASDF ");
+        let mut answers = Answers::to(&file);
+        change(&mut answers);
+        let mut calls = Calls::new();
+        compare_nest(&file, &answers, &mut calls)?;
+        read_back(&file, &answers, &mut calls)
+    }
+
+    /// Changes the last record.
+    fn change_last(answers: &mut Answers, change: fn(&mut Record)) {
+        let records = answers.records.as_mut().unwrap();
+        change(records.last_mut().unwrap());
+    }
+
+    #[test]
+    fn right_answers_are_taken() {
+        assert_eq!(said(|_| {}), Ok(()));
+    }
+
+    #[test]
+    fn every_changed_answer_is_found_out() {
+        let changes: [fn(&mut Answers); 8] = [
+            |answers| answers.records.as_mut().unwrap().truncate(3),
+            |answers| answers.records = Err(of_whole(2)),
+            |answers| answers.outline.as_mut().unwrap()[20] ^= 1,
+            |answers| answers.index.as_mut().unwrap()[30] ^= 1,
+            |answers| change_last(answers, |record| record.depth = 3),
+            |answers| change_last(answers, |record| record.offset.0 += 1),
+            |answers| change_last(answers, |record| record.inner = Inner::Opened),
+            |answers| answers.layout.as_mut().unwrap().header_end.0 += 1,
+        ];
+        for (number, change) in changes.into_iter().enumerate() {
+            assert!(said(change).is_err(), "change {number}");
+        }
+    }
+
+    #[test]
+    fn first_last_next_and_far_numbers_are_wanted() {
+        let [first, last, behind, any, cut, far] = wanted(5);
+        assert_eq!([first, last, behind], [0, 4, 5]);
+        assert!(any < 5);
+        assert_eq!((cut as u32, far), (4, u64::MAX));
+        assert_eq!(wanted(0)[..4], [0; 4]);
+    }
 }

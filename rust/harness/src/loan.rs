@@ -28,34 +28,20 @@ pub struct Asked {
 }
 
 impl Asked {
-    /// A function whose result has so many numbers, or none at all.
-    pub fn for_numbers(function: Function, numbers: usize, expected: Expected) -> Asked {
+    /// What is asked; `filling` may be any number.
+    pub fn new(function: Function, expected: Expected, filling: usize) -> Asked {
+        let usual = function.result_bytes();
+        let exact = usual.or(expected.as_ref().ok().map(Vec::len));
         Asked {
             function,
-            exact: numbers * NUMBER_BYTES,
+            exact: exact.unwrap_or(USUAL_RESULT),
             expected,
-            filling: 0,
+            filling,
         }
     }
 
-    /// A function whose result may have any length.
-    pub fn for_whole(function: Function, expected: Expected) -> Asked {
-        Asked {
-            function,
-            exact: expected.as_ref().map_or(USUAL_RESULT, Vec::len),
-            expected,
-            filling: 0,
-        }
-    }
-
-    /// Asks with a buffer of each kind; `filling` may be any number.
-    pub fn compare(
-        mut self,
-        filling: usize,
-        ask: impl Fn(&mut [u8]) -> u64,
-        calls: &mut Calls,
-    ) -> Result<(), String> {
-        self.filling = filling;
+    /// Asks with a buffer of each kind.
+    pub fn compare(&self, ask: impl Fn(&mut [u8]) -> u64, calls: &mut Calls) -> Result<(), String> {
         Buffer::LENT
             .into_iter()
             .try_for_each(|buffer| self.compare_with(buffer, &ask, calls))
@@ -82,6 +68,22 @@ impl Asked {
         loan.check(expected, ask)
             .map_err(|reason| format!("{call}: {reason}"))
     }
+}
+
+/// Asks for the one thing of each number, with a buffer of each kind.
+pub fn compare_numbered(
+    function: Function,
+    mut numbers: impl Iterator<Item = u64>,
+    filling: usize,
+    expected: impl Fn(u64) -> Expected,
+    ask: impl Fn(u64, &mut [u8]) -> u64,
+    calls: &mut Calls,
+) -> Result<(), String> {
+    numbers.try_for_each(|number| {
+        Asked::new(function, expected(number), filling)
+            .compare(|out| ask(number, out), calls)
+            .map_err(|reason| format!("number {number}: {reason}"))
+    })
 }
 
 /// Compares the word of a function that only counts.
