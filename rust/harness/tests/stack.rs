@@ -2,9 +2,9 @@
 
 use asdf_harness::stack::walk_with_stack;
 
-/// The least power of two with which the deepest files are walked (`asdf-harness --stack BYTES`
-/// tries others), doubled: a thread needs some of its stack for itself.
-const STACK_BYTES: usize = 64 * 1024;
+/// The least power of two with which the deepest files are walked; `asdf-harness --stack BYTES`
+/// tries others.
+const STACK_BYTES: usize = 1 << 20;
 
 #[test]
 fn deepest_files_are_walked_with_a_small_stack() {
