@@ -7,21 +7,22 @@ use mathlib.Core.Bool.{Bool, true, false, not, _||_}
 use lib.ListN.{length, take, drop, getD, length-drop}
 use lib.Seq.{length-take-le}
 use lib.Dec.{leb, eqb}
-use mir.Syntax.{w8}
+use mir.Syntax.{w8, w64}
 use mir.Val.{Fits}
 use borrow.Author.Tests.{leb-true, le-leb, lt-leb, eq-eqb, ne-eqb, not-true, not-false}
 use Rattle.format.specs.declared.block.Block.{Block}
 use Rattle.format.specs.declared.refusal.Refusal.{Refusal}
 use Rattle.format.specs.Bytes.{Bytes}
-use Rattle.format.specs.Outcome.{Outcome, accepted, refusal, need, _>>_}
-use Rattle.format.specs.Block.{headerSize, flags, compression, leastHeader, isStreamed, contentStart, bytesLeft, blockWith, block}
+use Rattle.format.specs.Outcome.{Outcome, accepted, refused, refusal, need, _>>_}
+use Rattle.format.specs.Block.{headerSize, flags, compression, allocatedSize, dataSize, leastHeader, isStreamed, contentStart, bytesLeft, blockWith, block}
 use Rattle.format.specs.Chain.{extent}
-use Rattle.format.proofs.OutcomeLaws.{Accepts, accepts-need, choice}
+use Rattle.format.proofs.OutcomeLaws.{Accepts, accepts-need, accepted-holds, choice}
 use Rattle.format.proofs.PackLaws.{is-bytes-take, is-bytes-drop, big-endian-lt}
 use Rattle.scan.specs.Number.{BigEndian}
 use Rattle.file.specs.declared.block.BlockStep.the-variants.{Read, Refused}
+use Rattle.file.specs.declared.step.LinkStep.the-variants as LinkStep·is
 use Rattle.file.specs.Step.{blockOf}
-use Rattle.file.specs.Block.{IsField, FieldRead, HeaderRead}
+use Rattle.file.specs.Block.{IsField, FieldRead, HeaderRead, soundBlock, soundLink, Sound, Fault}
 
 -- the number in at most eight bytes fits in 64 bits
 pub field-read : (t : Bytes) (from to r : ℕ) → ((i : ℕ) → Fits w8 (getD t i 0)) → IsField t from to → BigEndian (take (to - from) (drop from t)) r → FieldRead t from to r
@@ -68,11 +69,19 @@ sized i n t left a u d ok = do
   need (leb a left) 15 n
   accepted (blockWith i n t a u d)
 
-module _ (i n : ℕ) (t : Bytes) (left : ℕ) (header : HeaderRead t left) (a u d : ℕ) (ra : FieldRead t 14 22 a) (ru : FieldRead t 22 30 u) (rd : FieldRead t 30 38 d) where
+-- a number that refuses the block
+faulty : (t : Bytes) (r : ℕ) → 1 ≤ r → ((i n : ℕ) → block i n t ≡ refused (refusal r n)) → Fault t r
+faulty t r p h = record { fails = λ z. h; passes = λ e. absurd (omega arith) }
+
+-- none does
+sound : (t : Bytes) → Sound t → Fault t 0
+sound t h = record { fails = λ z. absurd (z refl); passes = λ e. h }
+
+module _ (t : Bytes) (left : ℕ) (header : HeaderRead t left) (a u : ℕ) (ra : FieldRead t 14 22 a) (ru : FieldRead t 22 30 u) where
   -- where the header is whole and not of a streamed block, the sizes decide
-  header-sized : block i n t ≡ sized i n t left a u d (not (eqb (compression t) 0) || eqb d u)
+  header-sized : (i n : ℕ) → block i n t ≡ sized i n t left a u (dataSize t) (not (eqb (compression t) 0) || eqb (dataSize t) u)
   unfolding block
-  header-sized =
+  header-sized i n =
       rw (
         le-leb 6 (length t) (omega (arith, header .whole)),
         le-leb leastHeader (headerSize t) (header .least),
@@ -81,67 +90,68 @@ module _ (i n : ℕ) (t : Bytes) (left : ℕ) (header : HeaderRead t left) (a u 
         header .behind,
         ra .is,
         ru .is,
-        rd .is,
       )
 
   -- more is used than allocated
-  pub sizes-used : (r : Refusal) → r ≡ refusal 13 n → a < u → blockOf (Refused r) ≡ block i n t
-  unfolding blockOf
-  sizes-used r e h = rw (header-sized, e, lt-leb u a h)
+  pub sizes-used : a < u → Fault t 13
+  sizes-used h = faulty t 13 (omega arith) (λ i n. rw (header-sized i n, lt-leb u a h))
 
-  module _ (c : ℕ) (rc : FieldRead t 10 14 c) (ok : Bool) (is : ok ≡ (not (eqb c 0) || eqb d u)) (h : u ≤ a) where
+  module _ (d c : ℕ) (rd : FieldRead t 30 38 d) (rc : FieldRead t 10 14 c) (ok : Bool) (is : ok ≡ (not (eqb c 0) || eqb d u)) (h : u ≤ a) where
     -- and so does what was found of the data
-    data-sized : block i n t ≡ sized i n t left a u d ok
-    data-sized = header-sized ∙ rw (is, rc .is)
+    data-sized : (i n : ℕ) → block i n t ≡ sized i n t left a u (dataSize t) ok
+    data-sized i n = header-sized i n ∙ rw (is, rc .is, rd .is)
 
     -- the data has another size than the used one
-    pub sizes-data : (r : Refusal) → r ≡ refusal 14 n → not ok ≡ true → blockOf (Refused r) ≡ block i n t
-    unfolding blockOf
-    sizes-data r e k = rw (data-sized, e, le-leb u a h, not-true ok k)
+    pub sizes-data : not ok ≡ true → Fault t 14
+    sizes-data k = faulty t 14 (omega arith) (λ i n. rw (data-sized i n, le-leb u a h, not-true ok k))
 
     -- more is allocated than the file has
-    pub sizes-beyond : (r : Refusal) → r ≡ refusal 15 n → not ok ≡ false → left < a → blockOf (Refused r) ≡ block i n t
-    unfolding blockOf
-    sizes-beyond r e k q = rw (data-sized, e, le-leb u a h, not-false ok k, lt-leb a left q)
+    pub sizes-beyond : not ok ≡ false → left < a → Fault t 15
+    sizes-beyond k q = faulty t 15 (omega arith) (λ i n. rw (data-sized i n, le-leb u a h, not-false ok k, lt-leb a left q))
 
     -- all sizes are good
-    pub sizes-read : (b : Block) → b ≡ blockWith i n t a u d → not ok ≡ false → a ≤ left → blockOf (Read b) ≡ block i n t
-    unfolding blockOf
-    sizes-read b e k q = rw (data-sized, e, le-leb u a h, not-false ok k, le-leb a left q)
+    pub sizes-good : not ok ≡ false → a ≤ left → Fault t 0
+    unfolding soundBlock
+    sizes-good k q = sound t (record {
+      least = header .least;
+      whole = header .whole;
+      is = λ i n. data-sized i n ∙ rw (le-leb u a h, not-false ok k, le-leb a left q, soundBlock, header .plain, ra .is, ru .is);
+    })
 
-module _ (i n : ℕ) (t : Bytes) (r : Refusal) where
-  -- the header's size does not stand in the file
-  pub block-short : r ≡ refusal 11 n → length t < 6 → blockOf (Refused r) ≡ block i n t
-  unfolding blockOf block
-  block-short e p = rw (e, lt-leb 6 (length t) p)
+-- the header's size does not stand in the file
+pub block-short : (t : Bytes) → length t < 6 → Fault t 11
+unfolding block
+block-short t p = faulty t 11 (omega arith) (λ i n. rw (lt-leb 6 (length t) p))
 
-  module _ (h : ℕ) (read : FieldRead t 4 6 h) (p : 6 ≤ length t) where
-    -- the header is too small
-    pub block-small : r ≡ refusal 12 n → h < leastHeader → blockOf (Refused r) ≡ block i n t
-    unfolding blockOf block
-    block-small e q = rw (e, le-leb 6 (length t) p, ← read .is, lt-leb leastHeader h q)
+module _ (t : Bytes) (h : ℕ) (read : FieldRead t 4 6 h) (p : 6 ≤ length t) where
+  -- the header is too small
+  pub block-small : h < leastHeader → Fault t 12
+  unfolding block
+  block-small q = faulty t 12 (omega arith) (λ i n. rw (le-leb 6 (length t) p, ← read .is, lt-leb leastHeader h q))
 
-    -- the header is not whole
-    pub block-cut : r ≡ refusal 11 n → leastHeader ≤ h → length t < 6 + h → blockOf (Refused r) ≡ block i n t
-    unfolding blockOf block
-    block-cut e q k = rw (e, le-leb 6 (length t) p, ← read .is, le-leb leastHeader h q, lt-leb (6 + h) (length t) k)
+  -- the header is not whole
+  pub block-cut : leastHeader ≤ h → length t < 6 + h → Fault t 11
+  unfolding block
+  block-cut q k = faulty t 11 (omega arith) (λ i n. rw (le-leb 6 (length t) p, ← read .is, le-leb leastHeader h q, lt-leb (6 + h) (length t) k))
 
-module _ (i n : ℕ) (t : Bytes) (h f : ℕ) (read : FieldRead t 4 6 h) (least : leastHeader ≤ h) (whole : 6 + h ≤ length t) (bits : FieldRead t 6 10 f) where
+module _ (t : Bytes) (h f : ℕ) (read : FieldRead t 4 6 h) (least : leastHeader ≤ h) (whole : 6 + h ≤ length t) (bits : FieldRead t 6 10 f) where
   -- a streamed block has all that is left
-  pub block-streamed : (b : Block) → b ≡ blockWith i n t (length t - (6 + h)) (length t - (6 + h)) (length t - (6 + h)) → f % 2 ≡ 1
-      → blockOf (Read b) ≡ block i n t
-  unfolding blockOf block
-  block-streamed b e s =
-      rw (
-        e,
-        le-leb 6 (length t) (omega arith),
-        ← read .is,
-        le-leb leastHeader h least,
-        le-leb (6 + h) (length t) whole,
-        ← bits .is,
-        eq-eqb (f % 2) 1 s,
-        ← read .is,
-      )
+  pub block-streamed : f % 2 ≡ 1 → Fault t 0
+  unfolding block soundBlock
+  block-streamed s = sound t (record {
+    least = omega (arith, read .is);
+    whole = omega (arith, read .is);
+    is = λ i n.
+        rw (
+          le-leb 6 (length t) (omega arith),
+          ← read .is,
+          le-leb leastHeader h least,
+          le-leb (6 + h) (length t) whole,
+          soundBlock,
+          ← bits .is,
+          eq-eqb (f % 2) 1 s,
+        );
+  })
 
   -- of another the sizes are to be read
   pub header-read : (f % 2 ≡ 1 → ⊥) → HeaderRead t (length t - (6 + h))
@@ -151,6 +161,44 @@ module _ (i n : ℕ) (t : Bytes) (h f : ℕ) (read : FieldRead t 4 6 h) (least :
     plain = rw (← bits .is) (ne-eqb (f % 2) 1 s);
     behind = omega (arith, read .is);
   }
+
+module _ (t : Bytes) (x : ℕ) (fault : Fault t x) where
+  -- a block that has a fault is refused
+  pub block-refused : (i n : ℕ) (r : Refusal) → r ≡ refusal x n → (x ≡ 0 → ⊥) → blockOf (Refused r) ≡ block i n t
+  unfolding blockOf
+  block-refused i n r e h = rw (e, fault .fails h i n)
+
+  -- one that has none is sound
+  pub block-sound : x ≡ 0 → Sound t
+  block-sound h = fault .passes h
+
+  -- and is read
+  pub block-read : (i n : ℕ) (b : Block) → b ≡ soundBlock i n t → x ≡ 0 → blockOf (Read b) ≡ block i n t
+  unfolding blockOf
+  block-read i n b e h = rw (e, fault .passes h .is i n)
+
+module _ (t : Bytes) (f : ℕ) (bits : FieldRead t 6 10 f) where
+  -- a streamed block has all that is left
+  pub sound-streamed : (i n h : ℕ) (b : Block) → FieldRead t 4 6 h → b ≡ blockWith i n t (length t - (6 + h)) (length t - (6 + h)) (length t - (6 + h))
+      → f % 2 ≡ 1 → b ≡ soundBlock i n t
+  unfolding soundBlock
+  sound-streamed i n h b read e s = rw (e, soundBlock, ← bits .is, eq-eqb (f % 2) 1 s, ← read .is)
+
+  -- another has its sizes
+  pub sound-sized : (i n a u d : ℕ) (b : Block) → FieldRead t 14 22 a → FieldRead t 22 30 u → FieldRead t 30 38 d → b ≡ blockWith i n t a u d
+      → (f % 2 ≡ 1 → ⊥) → b ≡ soundBlock i n t
+  unfolding soundBlock
+  sound-sized i n a u d b ra ru rd e s = rw (e, soundBlock, ← bits .is, ne-eqb (f % 2) 1 s, ra .is, ru .is, rd .is)
+
+  -- a streamed block leads to no other
+  pub link-streamed : f % 2 ≡ 1 → LinkStep·is.Streamed ≡ soundLink t
+  unfolding soundLink
+  link-streamed s = rw (soundLink, ← bits .is, eq-eqb (f % 2) 1 s)
+
+  -- another leads behind its allocated space
+  pub link-plain : (h a : ℕ) → FieldRead t 4 6 h → FieldRead t 14 22 a → (f % 2 ≡ 1 → ⊥) → LinkStep·is.Block (6 + h + a) ≡ soundLink t
+  unfolding soundLink
+  link-plain h a rh ra s = rw (soundLink, ← bits .is, ne-eqb (f % 2) 1 s, rh .is, ra .is)
 
 -- the bytes t, from offset n on, begin with the block b
 pub record Starts (n : ℕ) (t : Bytes) (b : Block) : Type 0 where
@@ -167,3 +215,29 @@ module _ (i n : ℕ) (t : Bytes) where
   pub block-starts : Accepts (Starts n t) (block i n t)
   unfolding block
   block-starts = search (accepts-need, choice (Accepts (Starts n t)) (isStreamed (flags t)), with-starts, leb-true, le-refl) depth 12
+
+module _ (i n : ℕ) (t : Bytes) where
+  -- a sound block has the flags of its header
+  pub sound-flags : soundBlock i n t .flags ≡ flags t
+  unfolding soundBlock blockWith
+  sound-flags = go (isStreamed (flags t)) refl
+    where
+      go : (y : Bool) → isStreamed (flags t) ≡ y → soundBlock i n t .flags ≡ flags t
+      go true k = rw (soundBlock, k)
+      go false k = rw (soundBlock, k)
+
+  -- one that is not streamed has the allocated size of its header
+  pub sound-extent : isStreamed (flags t) ≡ false → extent (soundBlock i n t) ≡ contentStart t + allocatedSize t
+  unfolding soundBlock blockWith
+  sound-extent k = rw (soundBlock, k)
+
+  -- it starts there
+  pub sound-starts : block i n t ≡ accepted (soundBlock i n t) → Starts n t (soundBlock i n t)
+  sound-starts = accepted-holds (Starts n t) (block i n t) (soundBlock i n t) (block-starts i n t)
+
+-- its allocated space lies in t, so the end of it fits
+pub link-fits : (t : Bytes) (f h a : ℕ) → Sound t → FieldRead t 6 10 f → FieldRead t 4 6 h → FieldRead t 14 22 a → (f % 2 ≡ 1 → ⊥) → length t < 2 ^ 64
+    → Fits w64 (6 + h + a)
+link-fits t f h a s bits rh ra k l =
+    let plain : isStreamed (flags t) ≡ false = rw (← bits .is) (ne-eqb (f % 2) 1 k) in
+    omega (arith, rh .is, ra .is, sound-extent 0 0 t plain, sound-starts 0 0 t (s .is 0 0) .inside)

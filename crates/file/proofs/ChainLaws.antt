@@ -1,5 +1,5 @@
 -- The chain of blocks: one law for each way out of a link and of the walk. The blocks so far, in front of the chain from here on, are the chain.
-use Prim.Native.Nat.{ℕ, zero, suc, _+_, _-_, _%_, _^_, _≤_, _<_}
+use Prim.Native.Nat.{ℕ, zero, suc, _+_, _-_, _^_, _≤_, _<_}
 use native.Mathlib.Numerals.{add-one}
 use native.Mathlib.Omega.{arith}
 use mathlib.Core.Path.{_≡_, refl, sym, ap, subst, _∙_}
@@ -9,36 +9,22 @@ use lib.ListN.{length, take, drop, set, length-append, length-drop}
 use lib.Seq.{take-suc-set, append-snoc, drop-drop}
 use mir.Syntax.{w64}
 use mir.Val.{Fits}
-use borrow.Author.Tests.{eq-eqb, ne-eqb}
 use Rattle.format.specs.declared.block.Block.{Block}
 use Rattle.format.specs.declared.refusal.Refusal.{Refusal}
 use Rattle.format.specs.Bytes.{Bytes, begins, allZero}
 use Rattle.format.specs.Outcome.{Outcome, accepted, refused, refusal, _>>=_}
 use Rattle.format.specs.Comments.{indexLine}
 use Rattle.format.specs.Tree.{mark}
-use Rattle.format.specs.Block.{isStreamed, block}
-use Rattle.format.specs.Chain.{Chain, mostBlocks, extent, ended, linked, tail, chain}
+use Rattle.format.specs.Block.{flags, allocatedSize, isStreamed, contentStart, block}
+use Rattle.format.specs.Chain.{Chain, mostBlocks, ended, linked, tail, chain}
 use Rattle.format.specs.File.{offsets}
-use Rattle.format.proofs.OutcomeLaws.{accepted-holds}
 use Rattle.format.proofs.ByteLaws.{begins-true}
-use Rattle.file.specs.declared.block.BlockStep.{BlockStep}
-use Rattle.file.specs.declared.block.BlockStep.the-variants as BlockStep·is
 use Rattle.file.specs.declared.step.LinkStep.{LinkStep}
 use Rattle.file.specs.declared.step.LinkStep.the-variants as LinkStep·is
 use Rattle.file.proofs.PartLaws.{part-all}
-use Rattle.file.specs.Step.{blockOf}
-use Rattle.file.specs.Chain.{onward, TailBegins, BlockBegins, LinkIs, blockLink, Chained, WalkedAlone, WalkedTo}
-use Rattle.file.proofs.BlockLaws.{Starts, block-starts}
-
--- a streamed block leads to no other
-pub link-streamed : (b : Block) → b .flags % 2 ≡ 1 → LinkStep·is.Streamed ≡ blockLink b
-unfolding blockLink
-link-streamed b h = rw (blockLink, eq-eqb (b .flags % 2) 1 h)
-
--- another leads behind its allocated space
-pub link-plain : (b : Block) → (b .flags % 2 ≡ 1 → ⊥) → LinkStep·is.Block (extent b) ≡ blockLink b
-unfolding blockLink
-link-plain b h = rw (blockLink, ne-eqb (b .flags % 2) 1 h)
+use Rattle.file.specs.Block.{Fault, soundBlock, soundLink}
+use Rattle.file.specs.Chain.{onward, TailBegins, BlockBegins, LinkIs, Chained, WalkedAlone, WalkedTo}
+use Rattle.file.proofs.BlockLaws.{Starts, sound-flags, sound-extent, sound-starts}
 
 -- what begins like an index is not zeros only
 index-other : (t : Bytes) → begins indexLine t ≡ true → allZero t ≡ false
@@ -84,45 +70,43 @@ module _ (s : Bytes) (i n : ℕ) (marked : begins mark (drop n s) ≡ true) wher
   unfolding chain
   mark-many r e h = let none : mostBlocks - i ≡ 0 = omega arith in rw (none, chain, marked, e)
 
-  module _ (few : i < mostBlocks) (x : BlockStep) (read : blockOf x ≡ block i n (take (length s - n) (drop n s))) where
+  module _ (few : i < mostBlocks) where
     -- a block is still allowed
     one-more : mostBlocks - i ≡ suc (mostBlocks - (i + 1))
     one-more = omega arith
 
-    -- what is read is the block that stands there
-    block-is : block i n (drop n s) ≡ blockOf x
-    block-is = ap (block i n) (sym (part-all s n)) ∙ sym read
+    -- the block has a fault
+    pub mark-refused : (x : ℕ) (r : Refusal) → Fault (take (length s - n) (drop n s)) x → r ≡ refusal x n → (x ≡ 0 → ⊥) → onward s i n ≡ refused r
+    unfolding chain
+    mark-refused x r fault e h =
+        let block-is : block i n (drop n s) ≡ refused r = ap (block i n) (sym (part-all s n)) ∙ fault .fails h i n ∙ ap refused (sym e) in
+        rw (one-more, chain, marked, block-is)
 
-    -- the block is refused
-    pub mark-refused : (r : Refusal) → x ≡ BlockStep·is.Refused r → onward s i n ≡ refused r
-    unfolding chain blockOf
-    mark-refused r e = rw (one-more, chain, marked, block-is ∙ ap blockOf e)
+    -- it has none, and leads on
+    pub mark-block : (x : ℕ) (r : LinkStep) → Fault (take (length s - n) (drop n s)) x → r ≡ soundLink (take (length s - n) (drop n s)) → x ≡ 0
+        → LinkIs s i n r
+    unfolding chain soundLink
+    mark-block x r fault h z = subst (LinkIs s i n) (sym (h ∙ ap soundLink (part-all s n))) (go (isStreamed (flags (drop n s))) refl)
+      where
+        read : block i n (drop n s) ≡ accepted (soundBlock i n (drop n s))
+        read = rw (part-all s n) at (fault .passes z .is i n)
 
-    module _ (b : Block) (e : x ≡ BlockStep·is.Read b) where
-      -- it is accepted
-      block-read : block i n (drop n s) ≡ accepted b
-      unfolding blockOf
-      block-read = block-is ∙ ap blockOf e
+        starts : Starts n (drop n s) (soundBlock i n (drop n s))
+        starts = sound-starts i n (drop n s) read
 
-      -- and begins there
-      starts : Starts n (drop n s) b
-      starts = accepted-holds (Starts n (drop n s)) (block i n (drop n s)) b (block-starts i n (drop n s)) block-read
-
-      -- its length fits
-      pub mark-fits : length s < 2 ^ 64 → extent b < 2 ^ 64
-      mark-fits h = omega (arith, starts .inside, length-drop n s)
-
-      -- it leads on
-      pub mark-block : (r : LinkStep) → r ≡ blockLink b → LinkIs s i n r
-      unfolding chain blockLink
-      mark-block r h = subst (LinkIs s i n) (sym h) (go (isStreamed (b .flags)) refl)
-        where
-          go : (y : Bool) → isStreamed (b .flags) ≡ y → LinkIs s i n (elim y [ true ↦ LinkStep·is.Streamed | false ↦ LinkStep·is.Block (extent b) ])
-          go true k = record { first = b; is = rw (one-more, chain, marked, block-read, k); at = starts .at; few = few }
-          go false k = (
-            record { first = b; is = rw (one-more, chain, marked, block-read, k, drop-drop (extent b) n s); at = starts .at; few = few },
-            omega (arith, starts .inside, length-drop n s),
-          )
+        go : (y : Bool) → isStreamed (flags (drop n s)) ≡ y
+            → LinkIs s i n (elim y [ true ↦ LinkStep·is.Streamed | false ↦ LinkStep·is.Block (contentStart (drop n s) + allocatedSize (drop n s)) ])
+        go true k = record { first = soundBlock i n (drop n s); is = rw (one-more, chain, marked, read, sound-flags i n (drop n s), k); at = starts .at; few = few }
+        go false k =
+            let size = sound-extent i n (drop n s) k in (
+              record {
+                first = soundBlock i n (drop n s);
+                is = rw (one-more, chain, marked, read, sound-flags i n (drop n s), k, size, drop-drop (contentStart (drop n s) + allocatedSize (drop n s)) n s);
+                at = starts .at;
+                few = few;
+              },
+              omega (arith, starts .inside, size, length-drop n s),
+            )
 
 -- a chain with these blocks in front
 abbrev inFront : List Block → Outcome Chain → Outcome Chain

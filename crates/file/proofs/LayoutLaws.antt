@@ -3,7 +3,7 @@ use Prim.Native.Nat.{ℕ, _-_, _≤_, _<_}
 use native.Mathlib.Omega.{arith}
 use mathlib.Core.Path.{_≡_, refl, sym, ap, _∙_}
 use mathlib.Core.Bool.{Bool, true, false, not}
-use lib.ListN.{length, take, drop, getElem?, drop-of-length-le, length-drop}
+use lib.ListN.{length, take, drop, drop-of-length-le, length-drop}
 use lib.Seq.{drop-cons}
 use borrow.Author.Tests.{le-leb, lt-leb, not-true, not-false}
 use Rattle.format.specs.declared.answer.LayoutAnswer.{LayoutAnswer}
@@ -220,14 +220,19 @@ module _ (s out : Bytes) (a : LayoutAnswer) (judged : Judged (file s) out a) whe
   unfolding layout
   layout-judged = judged .is
 
-  -- a refused file has no blocks
-  pub block-refused : (j : ℕ) (r : Refusal) → a ≡ LayoutAnswer·is.Refused r → blockAnswer (BlockAnswer·is.Refused r) ≡ blockAt s j
-  unfolding layoutAnswer blockAnswer blockAt
-  block-refused j r e = go (file s) refl
+  -- a refusal is the file's
+  pub file-refused : (r : Refusal) → a ≡ LayoutAnswer·is.Refused r → file s ≡ refused r
+  unfolding layoutAnswer
+  file-refused r e = go (file s) refl
     where
-      go : (o : Outcome File) → file s ≡ o → refused r ≡ _>>=_ o (λ f. accepted (getElem? (f .blocks) j))
+      go : (o : Outcome File) → file s ≡ o → o ≡ refused r
       go (accepted f) h = let clash = sym (ap layoutAnswer e) ∙ rw h at (judged .is) in cc
       go (refused q) h = let same : _≡_ {A = Outcome Layout} (refused r) (refused q) = sym (ap layoutAnswer e) ∙ rw h at (judged .is) in cc
+
+  -- a refused file has no blocks
+  pub block-refused : (j : ℕ) (r : Refusal) → a ≡ LayoutAnswer·is.Refused r → blockAnswer (BlockAnswer·is.Refused r) ≡ blockAt s j
+  unfolding blockAnswer blockAt
+  block-refused j r e = rw (file-refused r e, blockAt)
 
   -- the blocks of an accepted file begin where it is kept
   pub blocks-kept : (l : Layout) → a ≡ LayoutAnswer·is.Accepted l → Kept s out (l .blocks)

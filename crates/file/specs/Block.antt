@@ -1,10 +1,14 @@
 -- The numbers in a block's header, and what is known of it where its sizes are read.
-use Prim.Native.Nat.{ℕ, _-_, _≤_, _<_, _^_}
+use Prim.Native.Nat.{ℕ, _+_, _-_, _≤_, _<_, _^_}
 use mathlib.Core.Path.{_≡_}
-use mathlib.Core.Bool.{false}
+use mathlib.Core.Bool.{true, false}
 use lib.ListN.{length}
+use Rattle.format.specs.declared.block.Block.{Block}
 use Rattle.format.specs.Bytes.{Bytes, number}
-use Rattle.format.specs.Block.{headerSize, flags, leastHeader, isStreamed, contentStart, bytesLeft}
+use Rattle.format.specs.Outcome.{accepted, refused, refusal}
+use Rattle.format.specs.Block.{headerSize, flags, allocatedSize, usedSize, dataSize, leastHeader, isStreamed, contentStart, bytesLeft, blockWith, block}
+use Rattle.file.specs.declared.step.LinkStep.{LinkStep}
+use Rattle.file.specs.declared.step.LinkStep.the-variants as LinkStep·is
 
 -- the bytes from one offset to another are at most eight of t
 pub record IsField (t : Bytes) (from to : ℕ) : Type 0 where
@@ -23,3 +27,26 @@ pub record HeaderRead (t : Bytes) (left : ℕ) : Type 0 where
   pub whole : contentStart t ≤ length t
   pub plain : isStreamed (flags t) ≡ false
   pub behind : left ≡ bytesLeft t
+
+-- block i at offset n, where nothing is wrong with it
+unfoldable pub soundBlock : ℕ → ℕ → Bytes → Block
+soundBlock i n t =
+    elim (isStreamed (flags t)) [
+      | true ↦ blockWith i n t (bytesLeft t) (bytesLeft t) (bytesLeft t)
+      | false ↦ blockWith i n t (allocatedSize t) (usedSize t) (dataSize t)
+    ]
+
+-- how it leads on
+unfoldable pub soundLink : Bytes → LinkStep
+soundLink t = elim (isStreamed (flags t)) [ true ↦ LinkStep·is.Streamed | false ↦ LinkStep·is.Block (contentStart t + allocatedSize t) ]
+
+-- t begins with a block that nothing is wrong with
+pub record Sound (t : Bytes) : Type 0 where
+  pub least : leastHeader ≤ headerSize t
+  pub whole : contentStart t ≤ length t
+  pub is : (i n : ℕ) → block i n t ≡ accepted (soundBlock i n t)
+
+-- r is the number that refuses the block that t begins with, or 0
+pub record Fault (t : Bytes) (r : ℕ) : Type 0 where
+  pub fails : (r ≡ 0 → ⊥) → (i n : ℕ) → block i n t ≡ refused (refusal r n)
+  pub passes : r ≡ 0 → Sound t

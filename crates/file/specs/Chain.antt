@@ -7,8 +7,7 @@ use lib.ListN.{length, take, drop}
 use Rattle.format.specs.declared.block.Block.{Block}
 use Rattle.format.specs.Bytes.{Bytes, allZero}
 use Rattle.format.specs.Outcome.{Outcome, accepted, refused, _>>=_}
-use Rattle.format.specs.Block.{isStreamed}
-use Rattle.format.specs.Chain.{Chain, mostBlocks, extent, ended, linked, chain}
+use Rattle.format.specs.Chain.{Chain, mostBlocks, ended, linked, chain}
 use Rattle.format.specs.File.{offsets}
 use Rattle.file.specs.declared.step.LinkStep.{LinkStep}
 use Rattle.file.specs.declared.step.LinkStep.the-variants as LinkStep·is
@@ -38,10 +37,6 @@ LinkIs s i n LinkStep·is.Streamed = BlockBegins s i n (accepted (ended []))
 LinkIs s i n LinkStep·is.Zeros = TailBegins s i n true
 LinkIs s i n LinkStep·is.Index = TailBegins s i n false
 LinkIs s i n (LinkStep·is.Refused r) = onward s i n ≡ refused r
-
--- how a block leads on
-unfoldable pub blockLink : Block → LinkStep
-blockLink b = elim (isStreamed (b .flags)) [ true ↦ LinkStep·is.Streamed | false ↦ LinkStep·is.Block (extent b) ]
 
 -- the chain c of k blocks was walked, and the first k of out are where they begin
 pub record Chained (o : Outcome Chain) (out : Bytes) (k : ℕ) (c : Chain) : Type 0 where

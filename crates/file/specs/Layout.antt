@@ -49,7 +49,7 @@ behindHeader s h = do
 abbrev pub layoutWith : Header → ℕ → Tree → ℕ → Verdict → Layout
 layoutWith h n t blocks v = record { header = h; «comments_end» = record { 0 = n }; tree = t; blocks = blocks; verdict = v }
 
--- r answers for the outcome o, and the first of out are where the blocks begin
+-- r answers for the outcome o, and the first of out are where the blocks of an accepted file begin; the others are left open
 pub record Judged (o : Outcome File) (out : Bytes) (r : LayoutAnswer) : Type 0 where
   pub is : layoutAnswer r ≡ _>>=_ o (λ f. accepted (layoutOf f))
   pub kept : (f : File) → o ≡ accepted f → take (length (f .blocks)) out ≡ offsets (f .blocks)

@@ -6,7 +6,8 @@ ghost use lib.ListN.{length};
 ghost use lib.Dec.{eqb};
 ghost use Rattle.format.specs.Block.{block, blockWith};
 ghost use Rattle.file.specs.Step.{blockOf};
-ghost use Rattle.file.specs.Block.{IsField, FieldRead, HeaderRead};
+ghost use Rattle.file.specs.Block.{IsField, FieldRead, HeaderRead, Fault, Sound, soundBlock, soundLink};
+use crate::step::LinkStep;
 use crate::step::refusal;
 use format::block::Block;
 use format::offset::Offset;
@@ -22,42 +23,52 @@ pub enum BlockStep {
 pub fn read_block(t: &[u8], ordinal: u8, at: usize) -> BlockStep
     ensures { λ r. ⌜ blockOf r ≡ block ordinal at (now (t .entry)) ⌝ }
 {
+    let number = fault(t);
+    if number != 0 {
+        return BlockStep::Refused(refusal(number, at));
+    }
+    BlockStep::Read(sound_block(t, ordinal, at))
+}
+
+// The number that refuses the block whose first byte is t's, or 0.
+pub(crate) fn fault(t: &[u8]) -> u8
+    ensures { λ r. ⌜ Fault (now (t .entry)) r ⌝ }
+{
     if t.len() < 6 {
-        return BlockStep::Refused(refusal(11, at));
+        return 11;
     }
     let header_size = field(t, 4, 6);
     if header_size < 48 {
-        return BlockStep::Refused(refusal(12, at));
+        return 12;
     }
     let content = 6 + header_size as usize;
     if t.len() < content {
-        return BlockStep::Refused(refusal(11, at));
+        return 11;
     }
     let left = (t.len() - content) as u64;
     if field(t, 6, 10) % 2 == 1 {
-        return BlockStep::Read(block_with(t, ordinal, at, left, left, left));
+        return 0;
     }
-    read_sizes(t, ordinal, at, left)
+    sizes_fault(t, left)
 }
 
-// The block whose header is whole and which is not streamed, with so many bytes behind its header.
-fn read_sizes(t: &[u8], ordinal: u8, at: usize, left: u64) -> BlockStep
+// The same where the header is whole and not of a streamed block, with so many bytes behind it.
+fn sizes_fault(t: &[u8], left: u64) -> u8
     requires { ⌜ HeaderRead (now t) left ⌝ }
-    ensures { λ r. ⌜ blockOf r ≡ block ordinal at (now (t .entry)) ⌝ }
+    ensures { λ r. ⌜ Fault (now (t .entry)) r ⌝ }
 {
     let allocated = field(t, 14, 22);
     let used = field(t, 22, 30);
-    let data_size = field(t, 30, 38);
     if allocated < used {
-        return BlockStep::Refused(refusal(13, at));
+        return 13;
     }
-    if !is_data_size(data_size, field(t, 10, 14), used) {
-        return BlockStep::Refused(refusal(14, at));
+    if !is_data_size(field(t, 30, 38), field(t, 10, 14), used) {
+        return 14;
     }
     if left < allocated {
-        return BlockStep::Refused(refusal(15, at));
+        return 15;
     }
-    BlockStep::Read(block_with(t, ordinal, at, allocated, used, data_size))
+    0
 }
 
 // Whether data may have this size: without compression only the used one.
@@ -76,6 +87,33 @@ fn field(t: &[u8], from: usize, to: usize) -> u64
     ensures { λ r. ⌜ FieldRead (now (t .entry)) from to r ⌝ }
 {
     number::big_endian(&t[from..to])
+}
+
+// The block that nothing is wrong with.
+fn sound_block(t: &[u8], ordinal: u8, at: usize) -> Block
+    requires { ⌜ Sound (now t) ⌝ }
+    ensures { λ r. ⌜ r ≡ soundBlock ordinal at (now (t .entry)) ⌝ }
+{
+    if field(t, 6, 10) % 2 == 1 {
+        let content = 6 + field(t, 4, 6) as usize;
+        let left = (t.len() - content) as u64;
+        return block_with(t, ordinal, at, left, left, left);
+    }
+    let allocated = field(t, 14, 22);
+    let used = field(t, 22, 30);
+    block_with(t, ordinal, at, allocated, used, field(t, 30, 38))
+}
+
+// How such a block leads on.
+pub(crate) fn sound_link(t: &[u8]) -> LinkStep
+    requires { ⌜ Sound (now t) ⌝ }
+    ensures { λ r. ⌜ r ≡ soundLink (now (t .entry)) ⌝ }
+{
+    if field(t, 6, 10) % 2 == 1 {
+        return LinkStep::Streamed;
+    }
+    let content = 6 + field(t, 4, 6) as usize;
+    LinkStep::Block(content + field(t, 14, 22) as usize)
 }
 
 fn block_with(t: &[u8], ordinal: u8, at: usize, allocated: u64, used: u64, data_size: u64) -> Block

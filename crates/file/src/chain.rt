@@ -1,18 +1,16 @@
 // The chain of blocks and the tail behind the last of them.
-ghost use Prim.Native.Nat.{_≤_, _<_, _^_};
+ghost use Prim.Native.Nat.{_≤_, _<_};
 ghost use mathlib.Core.Path.{_≡_};
 ghost use mathlib.Core.Bool.{true};
 ghost use lib.ListN.{length, drop, set};
 ghost use Rattle.format.specs.Bytes.{begins};
 ghost use Rattle.format.specs.Tree.{mark as Tree·mark};
-ghost use Rattle.format.specs.Chain.{chain, extent, mostBlocks};
-ghost use Rattle.file.specs.Chain.{LinkIs, blockLink, Walked};
+ghost use Rattle.format.specs.Chain.{chain, mostBlocks};
+ghost use Rattle.file.specs.Chain.{LinkIs, Walked};
 use crate::block;
-use crate::block::BlockStep;
 use crate::step::ChainStep;
 use crate::step::LinkStep;
 use crate::step::refusal;
-use format::block::Block;
 use scan::mark;
 use scan::text;
 
@@ -83,19 +81,9 @@ fn link_at_mark(s: &[u8], at: usize, i: usize) -> LinkStep
     if 64 <= i {
         return LinkStep::Refused(refusal(16, at));
     }
-    match block::read_block(&s[at..], i as u8, at) {
-        BlockStep::Refused(r) => LinkStep::Refused(r),
-        BlockStep::Read(b) => link_of(b),
+    let number = block::fault(&s[at..]);
+    if number != 0 {
+        return LinkStep::Refused(refusal(number, at));
     }
-}
-
-// How a block leads on.
-fn link_of(b: Block) -> LinkStep
-    requires { ⌜ extent b < 2 ^ 64 ⌝ }
-    ensures { λ r. ⌜ r ≡ blockLink b ⌝ }
-{
-    if b.flags % 2 == 1 {
-        return LinkStep::Streamed;
-    }
-    LinkStep::Block(6 + b.header_size as usize + b.allocated as usize)
+    block::sound_link(&s[at..])
 }

@@ -32,7 +32,20 @@ pub fn read(s: &[u8]) -> LayoutAnswer
     ensures { λ r. ⌜ layoutAnswer r ≡ layout (now (s .entry)) ⌝ }
 {
     let mut offsets = [0u64; 64];
-    judge(s, &mut offsets)
+    read_with_offsets(s, &mut offsets)
+}
+
+// The same, and where the blocks of an accepted file begin, in the first of the offsets; the others are left open.
+pub fn read_with_offsets(s: &[u8], offsets: &mut [u64; 64]) -> LayoutAnswer
+    ensures { λ r. ⌜ Judged (file (now (s .entry))) (now (offsets .exit)) r ⌝ }
+{
+    if 4294967295 < s.len() {
+        return LayoutAnswer::Refused(refusal(1, 0));
+    }
+    match header::read_header(s) {
+        HeaderStep::Refused(r) => LayoutAnswer::Refused(r),
+        HeaderStep::Read(h) => behind_header(s, h, offsets),
+    }
 }
 
 // The block of this ordinal in the file, that there is none, or the file's refusal.
@@ -40,7 +53,7 @@ pub fn block(s: &[u8], ordinal: u64) -> BlockAnswer
     ensures { λ r. ⌜ blockAnswer r ≡ blockAt (now (s .entry)) ordinal ⌝ }
 {
     let mut offsets = [0u64; 64];
-    match judge(s, &mut offsets) {
+    match read_with_offsets(s, &mut offsets) {
         LayoutAnswer::Refused(r) => BlockAnswer::Refused(r),
         LayoutAnswer::Accepted(l) => kept_block(s, offsets, l.blocks, ordinal),
     }
@@ -58,19 +71,6 @@ fn kept_block(s: &[u8], offsets: [u64; 64], blocks: u8, ordinal: u64) -> BlockAn
     match read_block(&s[at..], ordinal as u8, at) {
         BlockStep::Read(b) => BlockAnswer::Found(b),
         BlockStep::Refused(r) => BlockAnswer::Refused(r),
-    }
-}
-
-// Reads the whole layout, and keeps where each block begins.
-fn judge(s: &[u8], offsets: &mut [u64; 64]) -> LayoutAnswer
-    ensures { λ r. ⌜ Judged (file (now (s .entry))) (now (offsets .exit)) r ⌝ }
-{
-    if 4294967295 < s.len() {
-        return LayoutAnswer::Refused(refusal(1, 0));
-    }
-    match header::read_header(s) {
-        HeaderStep::Refused(r) => LayoutAnswer::Refused(r),
-        HeaderStep::Read(h) => behind_header(s, h, offsets),
     }
 }
 

@@ -1,6 +1,6 @@
 -- The tests on byte strings say what they are named for.
 use Prim.Native.Nat.{ℕ, zero, suc}
-use mathlib.Core.Path.{_≡_, refl, ap, _∙_}
+use mathlib.Core.Path.{_≡_, refl}
 use mathlib.Core.Bool.{Bool, true, false, _&&_, not}
 use mathlib.Core.List.{[], _∷_, _++_, reverse, reverse-cons}
 use lib.ListN.{length, drop, replicate}
@@ -57,10 +57,6 @@ all-zero-true (b ∷ z) h = cc (eqb-true b 0 (and-left _ _ h), all-zero-true z (
 pub zeros-all-zero : (n : ℕ) → allZero (replicate n 0) ≡ true
 zeros-all-zero zero = refl
 zeros-all-zero (suc n) = zeros-all-zero n
-
--- so many zeros as there are bytes are found all zero
-pub eq-all-zero : (z : Bytes) → z ≡ replicate (length z) 0 → allZero z ≡ true
-eq-all-zero z e = ap allZero e ∙ zeros-all-zero (length z)
 
 -- whether t has no byte b
 abbrev pub lacks : ℕ → Bytes → Bool

@@ -13,7 +13,7 @@ use Rattle.format.specs.Bytes.{Bytes, begins}
 use Rattle.format.specs.Outcome.{Outcome, accepted, refused, _>>=_}
 use Rattle.format.specs.Block.{headerSize, flags, compression, allocatedSize, usedSize, dataSize, leastHeader, isStreamed, contentStart, bytesLeft, blockWith, block}
 use Rattle.format.specs.Tree.{mark}
-use Rattle.format.specs.Chain.{Chain, extent, isTail, ended, linked, tail, chain}
+use Rattle.format.specs.Chain.{Chain, extent, isTail, ended, linked, tail, chain, blocksEnd}
 use Rattle.format.specs.IndexWriter.{mayHaveIndex}
 use Rattle.format.proofs.OutcomeLaws.{Accepts, accepted-holds, accepts-bind, accepts-need}
 use Rattle.format.proofs.ReadLaws.{accepts-choice, Between}
@@ -108,16 +108,12 @@ block-begun : (i n : ℕ) (t : Bytes) → Accepts (Begun i n t) (block i n t)
 unfolding block
 block-begun i n t = search (accepts-need, accepts-choice (Begun i n t) (isStreamed (flags t)), streamed-begun, plain-begun) depth 12
 
--- where the last block's allocated space ends, and n where there is no block
-unfoldable pub blocksEnd : ℕ → List Block → ℕ
-blocksEnd n [] = n
-blocksEnd n (b ∷ bs) = blocksEnd (b .at .0 + extent b) bs
-
--- the blocks of c are a front part of t and its tail is the rest; they are the same with another tail if, of a block b and them, the last is not streamed
+-- the blocks of c, at most k, are a front part of t and its tail is the rest; they are the same with another tail if, of a block b and them, the last is not streamed
 record ChainFront (k i n : ℕ) (t : Bytes) (c : Chain) : Type 0 where
   front : Bytes
   whole : t ≡ front ++ c .tail
   end : blocksEnd n (c .blocks) ≡ n + length front
+  few : length (c .blocks) ≤ k
   marked : mayHaveIndex (c .blocks) ≡ true → begins mark t ≡ true
   local : (b : Block) → mayHaveIndex (b ∷ c .blocks) ≡ true → (y : Bytes) → isTail y ≡ true
       → chain k i n (front ++ y) ≡ accepted (record { blocks = c .blocks; tail = y })
@@ -143,7 +139,7 @@ unfolding tail blocksEnd mayHaveIndex
 tail-front k i n t = search (accepts-need, nothing)
   where
     nothing : ChainFront k i n t (ended t)
-    nothing = record { front = []; whole = refl; end = omega arith; marked = λ h. absurd (true≢false (sym h)); local = λ b h. no-blocks k i n }
+    nothing = record { front = []; whole = refl; end = omega arith; few = omega arith; marked = λ h. absurd (true≢false (sym h)); local = λ b h. no-blocks k i n }
 
 -- a streamed block is all that is left
 streamed-front : (k i n : ℕ) (t : Bytes) (b : Block) → begins mark t ≡ true → Begun i n t b → isStreamed (b .flags) ≡ true
@@ -153,6 +149,7 @@ streamed-front k i n t b m h s = record {
   front = t;
   whole = sym (append-nil t);
   end = omega (arith, h .at, h .streamed s);
+  few = omega arith;
   marked = λ q. m;
   local = λ a q. absurd (true≢false (sym q ∙ ap not s));
 }
@@ -180,6 +177,7 @@ module _ (k i n : ℕ) (p z : Bytes) (b : Block) (size : length p ≡ extent b) 
     front = p ++ f .front;
     whole = rw (append-assoc, ← f .whole);
     end = ap (λ (x : ℕ). blocksEnd (x + extent b) (c .blocks)) at ∙ f .end ∙ simp length-append (omega arith);
+    few = omega (arith, f .few);
     marked = λ q. marked;
     local = λ a m y q. rw append-assoc (linked-again (f .front ++ y) _ (f .local b m y q));
   }
@@ -220,6 +218,10 @@ module _ (k i n : ℕ) (c : Chain) where
   -- the first block begins with the mark
   pub blocks-begin : (t : Bytes) → chain k i n t ≡ accepted c → mayHaveIndex (c .blocks) ≡ true → begins mark t ≡ true
   blocks-begin t e = accepted-front t e .marked
+
+  -- there are no more than are allowed
+  pub blocks-few : (t : Bytes) → chain k i n t ≡ accepted c → length (c .blocks) ≤ k
+  blocks-few t e = accepted-front t e .few
 
   -- the last block ends inside the bytes
   pub blocks-bounds : (t : Bytes) → chain k i n t ≡ accepted c → Between n (n + length t) (blocksEnd n (c .blocks))

@@ -14,17 +14,14 @@ use Rattle.format.specs.Tree.{tree}
 use Rattle.format.specs.Chain.{mostBlocks, chain}
 use Rattle.format.specs.Index.{verdict}
 use Rattle.format.specs.File.{mostBytes, File, firstBlock, goesOn, offsets, file}
+use Rattle.format.specs.IndexWriter.{tailStart}
 use Rattle.format.proofs.OutcomeLaws.{accepted-holds, accepts-bind, accepts-need}
 use Rattle.format.proofs.ReadLaws.{header-bounds, comments-bounds, first-block-bounds}
-use Rattle.format.proofs.ChainLaws.{blocksEnd, blocks-bounds, tail-behind}
+use Rattle.format.proofs.ChainLaws.{blocks-bounds, tail-behind}
 
 -- where the first block of a file begins, or its tail
 abbrev pub blocksStart : File → ℕ
 blocksStart f = firstBlock (f .commentsEnd) (f .tree)
-
--- where what stands behind the last block of a file begins
-abbrev pub tailStart : File → ℕ
-tailStart f = blocksEnd (blocksStart f) (f .blocks)
 
 -- the parts that are read, of the file s that is accepted as f
 pub record Parts (s : Bytes) (f : File) : Type 0 where

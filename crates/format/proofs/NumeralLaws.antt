@@ -130,6 +130,29 @@ digits-one : (n x : ℕ) → x < 10 → digitsOf (suc n) x ≡ (48 + x) ∷ []
 unfolding digitsOf
 digits-one n x h = rw (lt-ltb x 10 h, digitsOf)
 
+-- with enough room for them, the digits do not depend on it
+digits-room : (n m x : ℕ) → x < n → x < m → digitsOf n x ≡ digitsOf m x
+unfolding digitsOf
+digits-room zero m x h k = absurd (omega arith)
+digits-room (suc n) zero x h k = absurd (omega arith)
+digits-room (suc n) (suc m) x h k = go (ltb x 10) refl (digits-room n m (x / 10))
+  where
+    go : (b : Bool) → ltb x 10 ≡ b → (x / 10 < n → x / 10 < m → digitsOf n (x / 10) ≡ digitsOf m (x / 10)) → digitsOf (suc n) x ≡ digitsOf (suc m) x
+    go true e i = rw (e, digitsOf)
+    go false e i =
+        let large = ltb-false x 10 e in
+        rw (e, digitsOf) (ap (λ (t : Bytes). t ++ ((48 + x % 10) ∷ [])) (i (omega arith) (omega arith)))
+
+-- a number below ten in decimal
+pub decimal-one : (x : ℕ) → x < 10 → decimal x ≡ (48 + x) ∷ []
+decimal-one x = digits-one x x
+
+-- a number of ten or more in decimal: its tens, and behind them its ones
+pub decimal-more : (x : ℕ) → 10 ≤ x → decimal x ≡ decimal (x / 10) ++ ((48 + x % 10) ∷ [])
+unfolding digitsOf
+decimal-more x h =
+    rw (le-ltb x 10 h, digitsOf) (ap (λ (t : Bytes). t ++ ((48 + x % 10) ∷ [])) (digits-room x (suc (x / 10)) (x / 10) (omega arith) (omega arith)))
+
 -- a number of ten or more is written as its tens and its ones
 digits-more : (n q r : ℕ) → 1 ≤ q → r < 10 → digitsOf (suc n) (q * 10 + r) ≡ digitsOf n q ++ ((48 + r) ∷ [])
 unfolding digitsOf

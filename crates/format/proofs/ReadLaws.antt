@@ -204,14 +204,6 @@ module _ (n : ℕ) (s : Bytes) (m : ℕ) where
   pub tree-front : treeEnd n (lines s) ≡ accepted (some m) → Front Any TreeEnds n s m
   tree-front = accepted-holds (TreeFront n s) (treeEnd n (lines s)) (some m) (rw join-lines at (tree-lines n (lines s) (are-lines s)))
 
-  -- where content of a tree ends
-  pub content-bounds : content n (lines s) ≡ accepted m → Between n (n + length s) m
-  content-bounds h = front-bounds (content-front h)
-
-  -- where directives and content of a tree end
-  pub directives-bounds : directives n (lines s) ≡ accepted m → Between n (n + length s) m
-  directives-bounds h = front-bounds (directives-front h)
-
   -- where comments end
   pub comments-bounds : comments n (lines s) ≡ accepted m → Between n (n + length s) m
   comments-bounds h = front-bounds (comments-front h)

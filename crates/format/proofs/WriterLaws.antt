@@ -4,7 +4,7 @@ use mathlib.Core.Path.{_≡_, refl, sym, ap, _∙_}
 use mathlib.Core.Bool.{true, true≢false}
 use mathlib.Core.List.{List, [], _∷_, _++_}
 use native.Mathlib.Omega.{arith}
-use lib.ListN.{length, take, drop, getD, length-drop, take-append-drop}
+use lib.ListN.{length, take, drop, getD, length-drop, length-map, take-append-drop}
 use lib.Seq.{length-take-le, drop-append-le}
 use borrow.Author.Tests.{leb-true, le-leb}
 use Rattle.format.specs.declared.layout.Tree.{Tree}
@@ -18,17 +18,13 @@ use Rattle.format.specs.Tree.{mark}
 use Rattle.format.specs.Chain.{mostBlocks, isTail}
 use Rattle.format.specs.Index.{verdict, rendering, indexText, IsIndex}
 use Rattle.format.specs.File.{mostBytes, File, firstBlock, goesOn, offsets, file}
-use Rattle.format.specs.IndexWriter.{mayHaveIndex}
-use Rattle.format.proofs.OutcomeLaws.{accepted-holds}
+use Rattle.format.specs.IndexWriter.{mayHaveIndex, indexFor, mostIndex, tailStart, judgedAs, GoodBehind}
+use Rattle.format.proofs.OutcomeLaws.{accepted-holds, accepts-bind, accepts-need}
 use Rattle.format.proofs.BlockLaws.{AllSound, SoundFile, file-sound}
-use Rattle.format.proofs.IndexLaws.{good-is-index, index-is-good, text-is-index}
+use Rattle.format.proofs.IndexLaws.{good-is-index, index-is-good, text-is-index, text-at-most}
 use Rattle.format.proofs.LocalLaws.{header-again, comments-kept, tree-kept, goes-on-no-comment}
-use Rattle.format.proofs.ChainLaws.{blocks-begin, chain-again}
-use Rattle.format.proofs.FileLaws.{blocksStart, tailStart, Parts, file-parts, parts-file, in-order, file-tail}
-
--- what is found in a file, with another verdict
-abbrev pub judgedAs : Verdict → File → File
-judgedAs v f = record { header = f .header; commentsEnd = f .commentsEnd; tree = f .tree; blocks = f .blocks; verdict = v }
+use Rattle.format.proofs.ChainLaws.{blocks-begin, blocks-few, chain-again}
+use Rattle.format.proofs.FileLaws.{blocksStart, Parts, file-parts, parts-file, in-order, file-tail}
 
 -- a file may go on where a block begins
 goes-on-marked : (n : ℕ) (p y : Bytes) (t : Tree) → n ≤ length p → begins mark (drop (firstBlock n t) p ++ y) ≡ true → goesOn t (drop n (p ++ y)) ≡ true
@@ -81,13 +77,26 @@ offsets-below size [] h i = omega arith
 offsets-below size (b ∷ bs) h zero = omega (arith, h .0 .end)
 offsets-below size (b ∷ bs) h (suc i) = offsets-below size bs (h .1) i
 
--- the offsets of an accepted file's blocks have at most ten digits
-offsets-small : (s : Bytes) (f : File) → IsBytes s → file s ≡ accepted f → (i : ℕ) → getD (offsets (f .blocks)) i 0 < 10 ^ 10
+-- the offsets of an accepted file's blocks are numbers of 32 bits
+offsets-small : (s : Bytes) (f : File) → IsBytes s → file s ≡ accepted f → (i : ℕ) → getD (offsets (f .blocks)) i 0 < 2 ^ 32
 offsets-small s f bytes e i =
     omega (
       arith,
       leb-true (length s) mostBytes (file-parts s f e .short),
       offsets-below (length s) (f .blocks) (accepted-holds (SoundFile s) (file s) f (file-sound s bytes) e) i,
+    )
+
+-- they have at most ten digits
+offsets-digits : (s : Bytes) (f : File) → IsBytes s → file s ≡ accepted f → (i : ℕ) → getD (offsets (f .blocks)) i 0 < 10 ^ 10
+offsets-digits s f bytes e i = omega (arith, offsets-small s f bytes e i)
+
+-- there are few of them
+offsets-few : (s : Bytes) (f : File) → file s ≡ accepted f → length (offsets (f .blocks)) ≤ mostBlocks
+offsets-few s f e =
+    omega (
+      arith,
+      length-map (f .blocks) (λ (b : Block). b .at .0),
+      blocks-few mostBlocks 0 (blocksStart f) _ (drop (blocksStart f) s) (file-parts s f e .chain-read),
     )
 
 -- there is an offset where there is a block
@@ -108,7 +117,24 @@ pub indexed-again : (s : Bytes) (f : File) → IsBytes s → file s ≡ accepted
 indexed-again s f bytes e m short =
     let ns = offsets (f .blocks) in
     file-again s f e m (indexText ns) (text-is-tail ns) short
-    ∙ ap (λ (v : Verdict). accepted (judgedAs v f)) (index-is-good ns (indexText ns) (offsets-small s f bytes e) (text-is-index ns (some-offset (f .blocks) m)))
+    ∙ ap (λ (v : Verdict). accepted (judgedAs v f)) (index-is-good ns (indexText ns) (offsets-digits s f bytes e) (text-is-index ns (some-offset (f .blocks) m)))
+
+-- what holds of the index of the offsets of each file that may have one holds of what the writer gives
+written-holds : (s : Bytes) (P : Bytes → Type 0)
+    → ((f : File) → file s ≡ accepted f → mayHaveIndex (f .blocks) ≡ true → P (indexText (offsets (f .blocks))))
+    → (t : Bytes) → indexFor s ≡ accepted t → P t
+unfolding indexFor
+written-holds s P h t =
+    accepted-holds P (indexFor s) t (accepts-bind P (file s) _ λ f e. accepts-need P (mayHaveIndex (f .blocks)) 22 0 _ λ m. h f e m)
+
+module _ (s : Bytes) (bytes : IsBytes s) where
+  -- it is a good index
+  pub index-good : (t : Bytes) → indexFor s ≡ accepted t → GoodBehind s t
+  index-good = written-holds s (GoodBehind s) λ f e m. record { found = f; is = e; good = indexed-again s f bytes e m }
+
+  -- it is short
+  pub index-short : (t : Bytes) → indexFor s ≡ accepted t → length t ≤ mostIndex
+  index-short = written-holds s (λ t. length t ≤ mostIndex) λ f e m. text-at-most (offsets (f .blocks)) (offsets-few s f e) (offsets-small s f bytes e)
 
 -- the verdict on a file's index is good exactly if what stands behind the last block is an index of the blocks' offsets
 pub record GoodExactly (s : Bytes) (f : File) : Type 0 where
@@ -123,5 +149,5 @@ good-exactly s f bytes e =
     let judged : verdict ns (drop (tailStart f) s) ≡ f .verdict = ap (verdict ns) (sym (file-tail s f parts)) ∙ parts .judged in
     record {
       lists = λ h. good-is-index ns (drop (tailStart f) s) (judged ∙ h);
-      good = λ h. sym judged ∙ index-is-good ns (drop (tailStart f) s) (offsets-small s f bytes e) h;
+      good = λ h. sym judged ∙ index-is-good ns (drop (tailStart f) s) (offsets-digits s f bytes e) h;
     }

@@ -22,6 +22,11 @@ pub record Chain : Type 0 where
 abbrev pub extent : Block → ℕ
 extent b = 6 + b .«header_size» + b .allocated
 
+-- where the last block's allocated space ends, and n where there is no block
+unfoldable pub blocksEnd : ℕ → List Block → ℕ
+blocksEnd n [] = n
+blocksEnd n (b ∷ bs) = blocksEnd (b .at .0 + extent b) bs
+
 -- nothing, zero bytes only, or an index to be judged
 abbrev pub isTail : Bytes → Bool
 isTail t = allZero t || begins indexLine t

@@ -1,12 +1,18 @@
--- The index that is written for a file.
+-- The index that is written for a file, and what it is behind the file's last block.
+use Prim.Native.Nat.{ℕ, _≤_}
+use mathlib.Core.Path.{_≡_}
 use mathlib.Core.Bool.{Bool, true, false, not}
-use mathlib.Core.List.{List, [], _∷_}
+use mathlib.Core.List.{List, [], _∷_, _++_}
+use lib.ListN.{length, take}
+use Rattle.format.specs.declared.layout.Verdict.{Verdict}
+use Rattle.format.specs.declared.layout.Verdict.the-variants.{Good}
 use Rattle.format.specs.declared.block.Block.{Block}
 use Rattle.format.specs.Bytes.{Bytes}
 use Rattle.format.specs.Outcome.{Outcome, accepted, need, _>>=_, _>>_}
 use Rattle.format.specs.Block.{isStreamed}
+use Rattle.format.specs.Chain.{blocksEnd}
 use Rattle.format.specs.Index.{indexText}
-use Rattle.format.specs.File.{file, offsets}
+use Rattle.format.specs.File.{mostBytes, File, firstBlock, file, offsets}
 
 -- there is a block, and the last is not streamed
 unfoldable pub mayHaveIndex : List Block → Bool
@@ -19,3 +25,22 @@ indexFor s = do
   f ← file s
   need (mayHaveIndex (f .blocks)) 22 0
   accepted (indexText (offsets (f .blocks)))
+
+-- the most bytes that it has: 64 offsets of ten digits each
+abbrev pub mostIndex : ℕ
+mostIndex = 805
+
+-- where what stands behind the last block of a file begins
+abbrev pub tailStart : File → ℕ
+tailStart f = blocksEnd (firstBlock (f .commentsEnd) (f .tree)) (f .blocks)
+
+-- what is found in a file, with another verdict
+abbrev pub judgedAs : Verdict → File → File
+judgedAs v f = record { header = f .header; commentsEnd = f .commentsEnd; tree = f .tree; blocks = f .blocks; verdict = v }
+
+-- s is accepted; cut behind its last block and followed by t, with nothing behind, it reads the same, and t is a good index of it,
+-- if the whole is within the size limit
+pub record GoodBehind (s t : Bytes) : Type 0 where
+  pub found : File
+  pub is : file s ≡ accepted found
+  pub good : length (take (tailStart found) s ++ t) ≤ mostBytes → file (take (tailStart found) s ++ t) ≡ accepted (judgedAs Good found)

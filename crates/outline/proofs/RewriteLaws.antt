@@ -8,20 +8,20 @@ use lib.ListN.{length, take, drop, getD}
 use lib.Seq.{length-take-le, take-all, take-add}
 use mir.Syntax.{w8}
 use mir.Val.{Fits}
-use borrow.Author.Tests.{le-leb, lt-leb}
 use Rattle.format.specs.declared.answer.CountAnswer.{CountAnswer}
 use Rattle.format.specs.declared.answer.CountAnswer.the-variants.{Counted, Refused}
 use Rattle.format.specs.declared.refusal.Refusal.{Refusal}
 use Rattle.format.specs.declared.row.Row.{Row}
 use Rattle.format.specs.Answer.{countAnswer}
 use Rattle.format.specs.Bytes.{Bytes}
-use Rattle.format.specs.Lent.{placed, writes, leaves}
-use Rattle.format.specs.Outcome.{accepted, refused, refusal}
+use Rattle.format.specs.Lent.{placed}
+use Rattle.format.specs.Outcome.{accepted, refusal}
 use Rattle.format.specs.Outline.{encodeRow, decodeRow, storedCount, rewritten}
 use Rattle.format.proofs.RowLaws.{encode-decode}
 use Rattle.format.proofs.OutlineLaws.{same-bytes}
 use Rattle.put.specs.Written.{Written}
-use Rattle.put.proofs.PutLaws.{placed-none, placed-sets, placed-length, placed-behind}
+use Rattle.put.proofs.PutLaws.{placed-sets, placed-length, placed-behind}
+use Rattle.put.proofs.WrittenLaws.{written-refused, written-short, written-placed}
 use Rattle.outline.proofs.RowLaws.{part-length, part-bytes}
 use Rattle.outline.proofs.StoredLaws.{has-rows, no-rows}
 
@@ -60,10 +60,8 @@ rows-done b before after at h p = rw (take-all at b p) at (h .put)
 -- the outline is refused
 pub rewrite-refused : (b out : Bytes) (a : CountAnswer) (r : Refusal) → countAnswer a ≡ storedCount b → a ≡ Refused r
     → Written (rewritten b) out out (Refused r)
-unfolding countAnswer rewritten writes leaves
-rewrite-refused b out a r h e =
-    let none : rewritten b ≡ refused r = rw (rewritten, no-rows b a r h e) in
-    rw none (record { answer = refl; buffer = refl })
+unfolding rewritten
+rewrite-refused b out a r h e = written-refused (rewritten b) out r (rw (rewritten, no-rows b a r h e)) (Refused r) refl
 
 module _ (b : Bytes) (a : CountAnswer) (n : ℕ) (h : countAnswer a ≡ storedCount b) (e : a ≡ Counted n) where
   -- it is accepted, and has whole rows
@@ -80,11 +78,8 @@ module _ (b : Bytes) (a : CountAnswer) (n : ℕ) (h : countAnswer a ≡ storedCo
 
     -- there is no room
     pub rewrite-long : (x : CountAnswer) → length out < length b → x ≡ Refused (refusal 21 0) → Written (rewritten b) out out x
-    unfolding countAnswer writes leaves
-    rewrite-long x p f =
-        rw (same-again, f) (record { answer = rw (lt-leb (length b) (length out) p); buffer = placed-none out 0 b (omega arith) })
+    rewrite-long x p = written-short (rewritten b) out b same-again p x
 
     -- there is
     pub rewrite-done : (after : Bytes) → length b ≤ length out → after ≡ placed out 0 b → Written (rewritten b) out after (Counted (length b))
-    unfolding countAnswer writes leaves
-    rewrite-done after p f = rw same-again (record { answer = rw (le-leb (length b) (length out) p); buffer = f })
+    rewrite-done after p f = written-placed (rewritten b) out b same-again p after f (length b) refl

@@ -1,2 +1,5 @@
 -- Laws of buffers that bytes are put into.
 pub mod PutLaws
+pub mod DecimalLaws
+pub mod TextLaws
+pub mod WrittenLaws

@@ -14,7 +14,7 @@ use Rattle.format.specs.Lent.{placed}
 use Rattle.format.proofs.PackLaws.{to-bytes-length}
 
 -- the last of several bytes may be put first
-sets-last : (out : Bytes) (n : ℕ) (bytes : Bytes) (b : ℕ) → sets out n (bytes ++ (b ∷ [])) ≡ sets (set out (n + length bytes) b) n bytes
+pub sets-last : (out : Bytes) (n : ℕ) (bytes : Bytes) (b : ℕ) → sets out n (bytes ++ (b ∷ [])) ≡ sets (set out (n + length bytes) b) n bytes
 sets-last out n [] b = rw (add-zero n)
 sets-last out n (a ∷ bytes) b =
     let e : suc n + length bytes ≡ n + suc (length bytes) = omega arith in

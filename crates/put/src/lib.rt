@@ -1,4 +1,7 @@
-// Numbers put into a lent buffer.
+// Numbers and texts put into a lent buffer.
+pub mod decimal;
+pub mod text;
+
 ghost use Prim.Native.Nat.{_+_, _≤_};
 ghost use mathlib.Core.Path.{_≡_};
 ghost use lib.ListN.{length};

@@ -1,6 +1,6 @@
--- `file::block::read_block` meets its contract: one law for each way out; where the header is whole, the sizes decide.
+-- `file::block::read_block` meets its contract: a block is refused or sound.
 use borrow.Author.Needs.{needs}
-use Rattle.file.proofs.BlockLaws.{block-short, block-small, block-cut, block-streamed, header-read}
+use Rattle.file.proofs.BlockLaws.{block-refused, block-sound, block-read}
 use Rattle.file.proofs.block.read_block.Statement.{statement}
 use Rattle.file.proofs.block.read_block.Tie as tie
 
@@ -9,16 +9,7 @@ read-block-spec =
     tie.close
     (tie.spec
     (λ c κs. search needs)
-    (λ c. search (block-short, needs))
     (λ c κs. search needs)
-    (λ c κs. search needs)
-    (λ c. search (block-small, needs))
-    (λ c. search needs)
-    (λ c κs. search needs)
-    (λ c. search (block-cut, needs))
-    (λ c. search needs)
-    (λ c κs. search needs)
-    (λ c κs. search needs)
-    (λ c. search (block-streamed, needs))
-    (λ c κs. search (header-read, needs))
-    (λ c. search needs))
+    (λ c. search (block-refused, needs))
+    (λ c κs. search (block-sound, needs))
+    (λ c. search (block-read, needs)))

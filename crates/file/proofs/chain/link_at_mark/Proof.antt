@@ -1,6 +1,7 @@
--- `file::chain::link_at_mark` meets its contract: the chain goes on as the block at the mark says, which lies inside the file.
+-- `file::chain::link_at_mark` meets its contract: the chain goes on as the block at the mark says.
 use borrow.Author.Needs.{needs}
-use Rattle.file.proofs.ChainLaws.{mark-many, mark-refused, mark-fits, mark-block}
+use Rattle.file.proofs.BlockLaws.{block-sound}
+use Rattle.file.proofs.ChainLaws.{mark-many, mark-refused, mark-block}
 use Rattle.file.proofs.chain.link_at_mark.Statement.{statement}
 use Rattle.file.proofs.chain.link_at_mark.Tie as tie
 
@@ -13,10 +14,11 @@ link-at-mark-spec =
     (λ c. search needs)
     (λ c. search needs)
     (λ c. search needs)
-    (λ c. search needs)
     (λ c κs. search needs)
-    (λ c. search needs)
-    (λ c. search needs)
-    (λ c κs. search (mark-fits, needs))
+    (λ c κs. search needs)
     (λ c. search (mark-refused, needs))
+    (λ c. search needs)
+    (λ c. search needs)
+    (λ c. search needs)
+    (λ c κs. search (block-sound, needs))
     (λ c. search (mark-block, needs)))

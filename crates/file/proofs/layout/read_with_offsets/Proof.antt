@@ -1,11 +1,11 @@
 -- What the header's step refuses is refused, and what it accepts is handed on.
 use borrow.Author.Needs.{needs}
 use Rattle.file.proofs.LayoutLaws.{file-long, header-inside, header-refused, header-read}
-use Rattle.file.proofs.layout.judge.Statement.{statement}
-use Rattle.file.proofs.layout.judge.Tie as tie
+use Rattle.file.proofs.layout.read_with_offsets.Statement.{statement}
+use Rattle.file.proofs.layout.read_with_offsets.Tie as tie
 
-pub judge-spec : {M : Type 1} → statement M
-judge-spec =
+pub read-with-offsets-spec : {M : Type 1} → statement M
+read-with-offsets-spec =
     tie.close
     (tie.spec
     (λ c κs. search needs)

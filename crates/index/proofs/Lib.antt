@@ -1,0 +1,3 @@
+-- Laws that the proofs of the index writer cite.
+pub mod TextLaws
+pub mod WriteLaws

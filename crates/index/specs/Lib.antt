@@ -1,0 +1,2 @@
+-- What the contracts of the index writer cite.
+pub mod Index

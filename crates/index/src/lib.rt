@@ -1,0 +1,77 @@
+// The writer of a block index.
+mod text;
+
+ghost use Prim.Native.Nat.{_≤_};
+ghost use mathlib.Core.Path.{_≡_};
+ghost use lib.ListN.{length};
+ghost use Rattle.format.specs.declared.answer.CountAnswer.the-variants.{Refused};
+ghost use Rattle.format.specs.IndexWriter.{indexFor};
+ghost use Rattle.format.specs.Index.{indexText};
+ghost use Rattle.format.specs.Outcome.{accepted, refusal};
+ghost use Rattle.file.specs.Layout.{Kept};
+ghost use Rattle.put.specs.Written.{Written};
+ghost use Rattle.index.specs.Index.{IndexWritten};
+use file::block::BlockStep;
+use file::block::read_block;
+use format::answer::CountAnswer;
+use format::answer::LayoutAnswer;
+use format::offset::Offset;
+use format::refusal::Refusal;
+
+// Writes the index of a file at the buffer's start, and answers how many bytes it has; or the file's refusal, 22 where no
+// index can be, or 21 where the buffer is too short.
+pub fn write(s: &[u8], out: &mut [u8]) -> CountAnswer
+    ensures { λ r. ⌜ IndexWritten (now (s .entry)) (now (out .entry)) (now (out .exit)) r ⌝ }
+{
+    let mut offsets = [0u64; 64];
+    match file::layout::read_with_offsets(s, &mut offsets) {
+        LayoutAnswer::Refused(r) => CountAnswer::Refused(r),
+        LayoutAnswer::Accepted(l) => write_kept(s, offsets, l.blocks, out),
+    }
+}
+
+// The same for an accepted file with so many blocks that begin at these offsets. Reads the last block's header again, to
+// know whether it is streamed.
+fn write_kept(s: &[u8], offsets: [u64; 64], blocks: u8, out: &mut [u8]) -> CountAnswer
+    requires { ⌜ Kept (now s) offsets blocks ⌝ }
+    ensures { λ r. ⌜ Written (indexFor (now (s .entry))) (now (out .entry)) (now (out .exit)) r ⌝ }
+{
+    if blocks == 0 {
+        return refused(22);
+    }
+    let count = blocks as usize;
+    let last = offsets[count - 1] as usize;
+    match read_block(&s[last..], blocks - 1, last) {
+        BlockStep::Refused(r) => CountAnswer::Refused(r),
+        BlockStep::Read(b) => {
+            if b.flags % 2 == 1 {
+                return refused(22);
+            }
+            write_text(&offsets[..count], out)
+        }
+    }
+}
+
+// The same for at least one and at most 64 offsets, where there is to be an index.
+fn write_text(offsets: &[u64], out: &mut [u8]) -> CountAnswer
+    requires { ⌜ 1 ≤ length (now offsets) ⌝ }
+    requires { ⌜ length (now offsets) ≤ 64 ⌝ }
+    ensures { λ r. ⌜ Written (accepted (indexText (now (offsets .entry)))) (now (out .entry)) (now (out .exit)) r ⌝ }
+{
+    let n = text::text_length(offsets);
+    if out.len() < n {
+        return refused(21);
+    }
+    text::put_index(out, offsets);
+    CountAnswer::Counted(n as u64)
+}
+
+// A refusal with this number, at place 0.
+fn refused(number: u8) -> CountAnswer
+    ensures { λ r. ⌜ r ≡ Refused (refusal number 0) ⌝ }
+{
+    CountAnswer::Refused(Refusal {
+        number,
+        place: Offset(0),
+    })
+}

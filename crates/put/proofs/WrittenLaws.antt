@@ -1,0 +1,64 @@
+-- What a writer answers and leaves: a refusal, a buffer that is too short, bytes that fit.
+use Prim.Native.Nat.{ℕ, _+_, _≤_, _<_}
+use native.Mathlib.Omega.{arith}
+use mathlib.Core.Path.{_≡_, refl, sym, ap, _∙_}
+use mathlib.Core.Bool.{Bool, true, false}
+use lib.ListN.{length, take, drop}
+use lib.Seq.{take-append-seam}
+use lib.Dec.{leb}
+use borrow.Author.Tests.{leb-true, le-leb, lt-leb}
+use Rattle.format.specs.declared.answer.CountAnswer.{CountAnswer}
+use Rattle.format.specs.declared.answer.CountAnswer.the-variants.{Counted, Refused}
+use Rattle.format.specs.declared.refusal.Refusal.{Refusal}
+use Rattle.format.specs.Answer.{countAnswer}
+use Rattle.format.specs.Bytes.{Bytes}
+use Rattle.format.specs.Lent.{placed, writes, leaves}
+use Rattle.format.specs.Outcome.{Outcome, accepted, refused, refusal}
+use Rattle.put.specs.Written.{Written}
+use Rattle.put.proofs.PutLaws.{placed-none}
+
+module _ (result : Outcome Bytes) (out : Bytes) where
+  -- a refusal changes no byte
+  pub written-refused : (r : Refusal) → result ≡ refused r → (x : CountAnswer) → x ≡ Refused r → Written result out out x
+  unfolding countAnswer writes leaves
+  written-refused r h x e = rw (h, e) (record { answer = refl; buffer = refl })
+
+  module _ (bytes : Bytes) (h : result ≡ accepted bytes) where
+    -- the bytes do not fit
+    pub written-short : length out < length bytes → (x : CountAnswer) → x ≡ Refused (refusal 21 0) → Written result out out x
+    unfolding countAnswer writes leaves
+    written-short p x e =
+        rw (h, e) (record { answer = rw (lt-leb (length bytes) (length out) p); buffer = placed-none out 0 bytes (omega arith) })
+
+    -- the bytes are put
+    pub written-placed : length bytes ≤ length out → (after : Bytes) → after ≡ placed out 0 bytes → (n : ℕ) → n ≡ length bytes
+        → Written result out after (Counted n)
+    unfolding countAnswer writes leaves
+    written-placed p after f n e = rw (h, e) (record { answer = rw (le-leb (length bytes) (length out) p); buffer = f })
+
+-- bytes that fit at the buffer's start stand there
+start-placed : (out bytes : Bytes) → length bytes ≤ length out → take (length bytes) (placed out 0 bytes) ≡ bytes
+unfolding placed
+start-placed out bytes h = rw (placed, le-leb (0 + length bytes) (length out) (omega arith)) (take-append-seam bytes (drop (0 + length bytes) out))
+
+-- the result is what stands in the first n bytes of a buffer
+pub record Taken (result : Outcome Bytes) (after : Bytes) (n : ℕ) : Type 0 where
+  pub is : result ≡ accepted (take n after)
+  pub size : length (take n after) ≡ n
+
+-- what is answered to be written is the result, and stands at the buffer's start
+pub written-taken : (result : Outcome Bytes) (before after : Bytes) (n : ℕ) → Written result before after (Counted n) → Taken result after n
+unfolding countAnswer writes leaves
+written-taken (refused r) before after n w = let clash = w .answer in let z : _≡_ {A = ℕ} 0 1 = cc in absurd (omega arith)
+written-taken (accepted bytes) before after n w = by-test (leb (length bytes) (length before)) refl
+  where
+    by-test : (t : Bool) → leb (length bytes) (length before) ≡ t → Taken (accepted bytes) after n
+    by-test true e =
+        let size : accepted n ≡ accepted (length bytes) = rw e at (w .answer) in
+        let count : n ≡ length bytes = cc in
+        let start : take n after ≡ bytes = rw (count, w .buffer) (start-placed before bytes (leb-true (length bytes) (length before) e)) in
+        record { is = ap accepted (sym start); size = ap length start ∙ sym count }
+    by-test false e =
+        let clash : accepted n ≡ refused (refusal 21 0) = rw e at (w .answer) in
+        let z : _≡_ {A = ℕ} 0 1 = cc in
+        absurd (omega arith)
