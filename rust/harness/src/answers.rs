@@ -1,10 +1,19 @@
 //! What the second program says of a file.
 
 use crate::fields::HEADER_SIZE_COUNTS_FROM;
-use asdf_second::{read, records, Block, Layout, Record, Refusal, Tree, Verdict};
+use asdf_second::{
+    outline, read, records, write_index, Block, Layout, Record, Refusal, Tree, Verdict,
+    LONGEST_INDEX, ROW_LENGTH,
+};
 
 /// The number that refuses a lent buffer.
 pub const BUFFER_TOO_SHORT: u8 = 21;
+/// The number that refuses an index without a block, or with a streamed last one.
+pub const NO_INDEX_POSSIBLE: u8 = 22;
+/// The number that refuses the length of a stored outline.
+pub const OUTLINE_LENGTH: u8 = 23;
+/// The number that refuses a stored row.
+pub const OUTLINE_ROW: u8 = 24;
 
 /// A refusal that concerns the whole.
 pub fn of_whole(number: u8) -> Refusal {
@@ -15,15 +24,29 @@ pub fn of_whole(number: u8) -> Refusal {
 pub struct Answers {
     pub layout: Result<Layout, Refusal>,
     pub records: Result<Vec<Record>, Refusal>,
+    /// The bytes of the outline.
+    pub outline: Result<Vec<u8>, Refusal>,
+    /// The text of the index.
+    pub index: Result<Vec<u8>, Refusal>,
 }
 
 impl Answers {
     /// Asks the second program.
     pub fn to(file: &[u8]) -> Answers {
+        let records = records(file);
+        let outline_length = records.as_ref().map_or(0, Vec::len) * ROW_LENGTH;
         Answers {
             layout: read(file),
-            records: records(file),
+            records,
+            outline: written(outline_length, |out| outline(file, out)),
+            index: written(LONGEST_INDEX, |out| write_index(file, out)),
         }
+    }
+
+    /// How many records there are.
+    pub fn count(&self) -> Result<usize, Refusal> {
+        let count = self.records.as_ref().map(Vec::len);
+        count.map_err(|&refusal| refusal)
     }
 
     /// Where the file is refused with this number.
@@ -62,4 +85,15 @@ impl Answers {
 /// Where a block's content begins in its own file.
 pub fn content_start(block: &Block) -> usize {
     block.offset.0 as usize + HEADER_SIZE_COUNTS_FROM + usize::from(block.header_size)
+}
+
+/// What a writer of the second program writes into a buffer of so many bytes.
+pub fn written(
+    most: usize,
+    write: impl FnOnce(&mut [u8]) -> Result<usize, Refusal>,
+) -> Result<Vec<u8>, Refusal> {
+    let mut out = vec![0; most];
+    let length = write(&mut out)?;
+    out.truncate(length);
+    Ok(out)
 }

@@ -1,5 +1,6 @@
 //! Counts the calls of the proved functions: by function, buffer and what came of them.
 
+use crate::numbers::{BLOCK_NUMBERS, LAYOUT_NUMBERS, NUMBER_BYTES, RECORD_NUMBERS, ROW_NUMBERS};
 use std::collections::BTreeMap;
 use std::fmt;
 
@@ -8,11 +9,21 @@ use std::fmt;
 pub enum Function {
     Read,
     Block,
+    Count,
+    Outline,
+    Record,
+    Records,
+    Index,
+    StoredCount,
+    StoredRow,
+    Rewrite,
 }
 
-/// The length of a lent buffer, beside that of the longest result.
+/// The length of a lent buffer, beside that of the result.
 #[derive(Debug, Clone, Copy, PartialEq, Eq, PartialOrd, Ord)]
 pub enum Buffer {
+    /// None is lent.
+    No,
     Exact,
     Short,
     Empty,
@@ -22,10 +33,14 @@ pub enum Buffer {
 /// What came of a call.
 #[derive(Debug, Clone, Copy, PartialEq, Eq, PartialOrd, Ord)]
 pub enum Answer {
+    Counted,
     Written,
-    NoBlock,
+    Nothing,
     TooShort,
-    Refused,
+    FileRefused,
+    NoIndex,
+    WrongLength,
+    WrongRow,
 }
 
 /// A kind of call.
@@ -37,45 +52,103 @@ pub struct Call {
 }
 
 impl Function {
-    const ALL: [Function; 2] = [Function::Read, Function::Block];
+    const ALL: [Function; 10] = [
+        Function::Read,
+        Function::Block,
+        Function::Count,
+        Function::Outline,
+        Function::Record,
+        Function::Records,
+        Function::Index,
+        Function::StoredCount,
+        Function::StoredRow,
+        Function::Rewrite,
+    ];
+
+    /// Whether it is lent a stored outline and not a file.
+    fn is_of_stored(self) -> bool {
+        matches!(
+            self,
+            Function::StoredCount | Function::StoredRow | Function::Rewrite
+        )
+    }
+
+    /// Whether it is lent no buffer.
+    fn is_count(self) -> bool {
+        matches!(self, Function::Count | Function::StoredCount)
+    }
+
+    /// The bytes of its result, if that has always so many or none.
+    pub fn result_bytes(self) -> Option<usize> {
+        let numbers = match self {
+            Function::Read => LAYOUT_NUMBERS,
+            Function::Block => BLOCK_NUMBERS,
+            Function::Record => RECORD_NUMBERS,
+            Function::StoredRow => ROW_NUMBERS,
+            _ => return None,
+        };
+        Some(numbers * NUMBER_BYTES)
+    }
+
+    /// Whether it always writes something if it succeeds.
+    fn finds_something(self) -> bool {
+        matches!(self, Function::Read | Function::Index)
+    }
 }
 
 impl Buffer {
-    pub const ALL: [Buffer; 4] = [Buffer::Exact, Buffer::Short, Buffer::Empty, Buffer::Long];
+    /// Those that are lent.
+    pub const LENT: [Buffer; 4] = [Buffer::Exact, Buffer::Short, Buffer::Empty, Buffer::Long];
+    const ALL: [Buffer; 5] = [
+        Buffer::No,
+        Buffer::Exact,
+        Buffer::Short,
+        Buffer::Empty,
+        Buffer::Long,
+    ];
 
-    /// The bytes of a long buffer beyond the longest result.
+    /// The bytes of a long buffer beyond the result.
     const SPARE: usize = 21;
 
-    /// The length of this buffer for a longest result of so many bytes.
+    /// The length of this buffer for a result of so many bytes. None is shorter than an empty one.
     pub fn length(self, result: usize) -> usize {
         match self {
             Buffer::Exact => result,
-            Buffer::Short => result - 1,
-            Buffer::Empty => 0,
+            Buffer::Short => result.saturating_sub(1),
+            Buffer::No | Buffer::Empty => 0,
             Buffer::Long => result + Buffer::SPARE,
         }
     }
 }
 
 impl Answer {
-    const ALL: [Answer; 4] = [
+    const ALL: [Answer; 8] = [
+        Answer::Counted,
         Answer::Written,
-        Answer::NoBlock,
+        Answer::Nothing,
         Answer::TooShort,
-        Answer::Refused,
+        Answer::FileRefused,
+        Answer::NoIndex,
+        Answer::WrongLength,
+        Answer::WrongRow,
     ];
 }
 
 impl Call {
     /// Whether this can come at all.
     fn is_possible(&self) -> bool {
+        let lends = self.buffer != Buffer::No;
         let fits = matches!(self.buffer, Buffer::Exact | Buffer::Long);
-        match self.answer {
+        let answers = match self.answer {
+            Answer::Counted => !lends,
             Answer::Written => fits,
-            Answer::NoBlock => self.function == Function::Block,
-            Answer::TooShort => !fits,
-            Answer::Refused => true,
-        }
+            Answer::Nothing => lends && !self.function.finds_something(),
+            Answer::TooShort => lends && !fits,
+            Answer::FileRefused => !self.function.is_of_stored(),
+            Answer::NoIndex => self.function == Function::Index,
+            Answer::WrongLength | Answer::WrongRow => self.function.is_of_stored(),
+        };
+        answers && lends != self.function.is_count()
     }
 
     /// Every kind of call.
@@ -92,25 +165,43 @@ impl Call {
     }
 }
 
-impl fmt::Display for Call {
+impl fmt::Display for Function {
     fn fmt(&self, f: &mut fmt::Formatter<'_>) -> fmt::Result {
-        let function = match self.function {
+        f.write_str(match self {
             Function::Read => "asdf_read",
             Function::Block => "asdf_block",
-        };
+            Function::Count => "asdf_count",
+            Function::Outline => "asdf_outline",
+            Function::Record => "asdf_record",
+            Function::Records => "asdf_records",
+            Function::Index => "asdf_index",
+            Function::StoredCount => "asdf_stored_count",
+            Function::StoredRow => "asdf_stored_row",
+            Function::Rewrite => "asdf_rewrite",
+        })
+    }
+}
+
+impl fmt::Display for Call {
+    fn fmt(&self, f: &mut fmt::Formatter<'_>) -> fmt::Result {
         let buffer = match self.buffer {
+            Buffer::No => "no",
             Buffer::Exact => "exact",
             Buffer::Short => "one byte short",
             Buffer::Empty => "empty",
             Buffer::Long => "long",
         };
         let answer = match self.answer {
+            Answer::Counted => "counted",
             Answer::Written => "written",
-            Answer::NoBlock => "no such block",
+            Answer::Nothing => "nothing there",
             Answer::TooShort => "refused 21",
-            Answer::Refused => "file refused",
+            Answer::FileRefused => "file refused",
+            Answer::NoIndex => "refused 22",
+            Answer::WrongLength => "refused 23",
+            Answer::WrongRow => "refused 24",
         };
-        write!(f, "{function}, {buffer} buffer: {answer}")
+        write!(f, "{}, {buffer} buffer: {answer}", self.function)
     }
 }
 
@@ -158,7 +249,6 @@ mod tests {
     fn counted_call_is_no_longer_missing() {
         let mut calls = Calls::new();
         let missing = calls.missing();
-        assert_eq!(missing.len(), 20);
         calls.count(Call {
             function: Function::Read,
             buffer: Buffer::Short,
@@ -167,6 +257,18 @@ mod tests {
         let counted = "asdf_read, one byte short buffer: refused 21".to_string();
         assert!(missing.contains(&counted));
         assert!(!calls.missing().contains(&counted));
-        assert_eq!(calls.missing().len(), 19);
+        assert_eq!(calls.missing().len(), missing.len() - 1);
+    }
+
+    #[test]
+    fn only_what_can_come_is_asked_for() {
+        let missing = Calls::new().missing();
+        let of = |name: &str| missing.iter().filter(|call| call.starts_with(name)).count();
+        assert_eq!(of("asdf_read,"), 8);
+        assert_eq!(of("asdf_block,"), 12);
+        assert_eq!(of("asdf_count,"), 2);
+        assert_eq!(of("asdf_index,"), 12);
+        assert_eq!(of("asdf_stored_count,"), 3);
+        assert_eq!(of("asdf_rewrite,"), 16);
     }
 }

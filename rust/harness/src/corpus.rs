@@ -1,8 +1,16 @@
 //! The files of a run: each is made from the seed and its own number alone.
 
+use crate::answers::written;
 use crate::generate::{file, Shape};
-use crate::mutate::damage;
+use crate::mutate::{damage, damage_in_place};
 use crate::rng::Rng;
+use crate::stored::stored_outline;
+use asdf_second::{outline, row_count, ROW_LENGTH};
+
+/// What sets the files with files inside apart from the others of a seed.
+const NESTS: u64 = 1 << 62;
+/// What sets the stored outlines apart.
+const OUTLINES: u64 = 1 << 63;
 
 /// The file with this number in the run of a seed; one in three is damaged.
 pub fn numbered_file(seed: u64, number: u64) -> Vec<u8> {
@@ -15,13 +23,41 @@ pub fn numbered_file(seed: u64, number: u64) -> Vec<u8> {
     bytes
 }
 
+/// The file with files inside that has this number; one in eight is damaged.
+pub fn numbered_nest(seed: u64, number: u64) -> Vec<u8> {
+    let mut rng = Rng::for_file(seed ^ NESTS, number);
+    let shape = Shape::nest(&mut rng);
+    let mut bytes = file(&mut rng, &shape);
+    if rng.chance(8) {
+        damage_in_place(&mut rng, &mut bytes);
+    }
+    bytes
+}
+
+/// The stored outline with this number; some are made from a file's.
+pub fn numbered_outline(seed: u64, number: u64) -> Vec<u8> {
+    let mut rng = Rng::for_file(seed ^ OUTLINES, number);
+    stored_outline(&mut rng, || outline_of(&numbered_nest(seed, number)))
+}
+
+/// The outline of a file by the second program; an empty one of a refused file.
+fn outline_of(file: &[u8]) -> Vec<u8> {
+    let rows = row_count(file).unwrap_or(0);
+    let length = rows * ROW_LENGTH;
+    written(length, |out| outline(file, out)).unwrap_or_default()
+}
+
 #[cfg(test)]
 mod tests {
     use super::*;
 
-    /// The first files of a seed.
+    /// The first files of a seed, of all kinds.
     fn first_files(seed: u64) -> Vec<Vec<u8>> {
-        (0..500).map(|number| numbered_file(seed, number)).collect()
+        let kinds = [numbered_file, numbered_nest, numbered_outline];
+        let numbers = 0..500;
+        numbers
+            .flat_map(|number| kinds.map(|kind| kind(seed, number)))
+            .collect()
     }
 
     #[test]

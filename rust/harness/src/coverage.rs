@@ -1,26 +1,26 @@
 //! Counts what the files of a run reach.
 
 use crate::answers::Answers;
-use crate::goals::{goals, Goal};
+use crate::goals::Goal;
 use std::collections::HashSet;
 use std::fmt;
 
 /// How often a goal was reached, and at which places.
-struct Reached {
-    goal: Goal,
+struct Reached<A> {
+    goal: Goal<A>,
     times: u64,
     places: HashSet<usize>,
 }
 
 /// What the files of a run reached so far.
-pub struct Coverage {
-    reached: Vec<Reached>,
+pub struct Coverage<A = Answers> {
+    reached: Vec<Reached<A>>,
 }
 
-impl Coverage {
+impl<A> Coverage<A> {
     /// Nothing is reached yet.
-    pub fn new() -> Coverage {
-        let reached = goals().into_iter().map(|goal| Reached {
+    pub fn new(goals: Vec<Goal<A>>) -> Coverage<A> {
+        let reached = goals.into_iter().map(|goal| Reached {
             goal,
             times: 0,
             places: HashSet::new(),
@@ -31,7 +31,7 @@ impl Coverage {
     }
 
     /// Counts what one file reaches.
-    pub fn count(&mut self, file: &[u8], answers: &Answers) {
+    pub fn count(&mut self, file: &[u8], answers: &A) {
         for reached in &mut self.reached {
             let places = (reached.goal.places)(file, answers);
             reached.times += places.len() as u64;
@@ -49,7 +49,7 @@ impl Coverage {
     }
 }
 
-impl fmt::Display for Coverage {
+impl<A> fmt::Display for Coverage<A> {
     /// A table with a line for each goal.
     fn fmt(&self, f: &mut fmt::Formatter<'_>) -> fmt::Result {
         writeln!(f, "{:<52}{:>10}{:>10}", "reached", "times", "places")?;
@@ -69,10 +69,12 @@ impl fmt::Display for Coverage {
 #[cfg(test)]
 mod tests {
     use super::*;
+    use crate::goals::goals;
+    use crate::stored_goals::stored_goals;
 
     #[test]
     fn reached_goals_are_no_longer_missing() {
-        let mut coverage = Coverage::new();
+        let mut coverage = Coverage::new(goals());
         let all = coverage.missing().len();
         let file = b"#ASDF 2.0.0\n";
         coverage.count(file, &Answers::to(file));
@@ -82,7 +84,8 @@ mod tests {
 
     #[test]
     fn no_two_goals_have_the_same_name() {
-        let names = Coverage::new().missing();
+        let files = Coverage::new(goals()).missing();
+        let names = [files, Coverage::new(stored_goals()).missing()].concat();
         let different: HashSet<&String> = names.iter().collect();
         assert_eq!(different.len(), names.len());
     }

@@ -10,14 +10,29 @@ use std::slice;
 
 extern "C" {
     fn asdf_read(file: *const u8, file_len: usize, out: *mut u8, out_len: usize) -> u64;
-    fn asdf_block(
-        file: *const u8,
-        file_len: usize,
-        ordinal: u64,
+    fn asdf_block(file: *const u8, file_len: usize, k: u64, out: *mut u8, out_len: usize) -> u64;
+    fn asdf_count(file: *const u8, file_len: usize) -> u64;
+    fn asdf_outline(file: *const u8, file_len: usize, out: *mut u8, out_len: usize) -> u64;
+    fn asdf_record(file: *const u8, file_len: usize, k: u64, out: *mut u8, out_len: usize) -> u64;
+    fn asdf_records(file: *const u8, file_len: usize, out: *mut u8, out_len: usize) -> u64;
+    fn asdf_index(file: *const u8, file_len: usize, out: *mut u8, out_len: usize) -> u64;
+    fn asdf_stored_count(stored: *const u8, stored_len: usize) -> u64;
+    fn asdf_stored_row(
+        stored: *const u8,
+        stored_len: usize,
+        k: u64,
         out: *mut u8,
         out_len: usize,
     ) -> u64;
+    fn asdf_rewrite(stored: *const u8, stored_len: usize, out: *mut u8, out_len: usize) -> u64;
 }
+
+/// A proved function that only counts.
+type Counter = unsafe extern "C" fn(*const u8, usize) -> u64;
+/// A proved function that writes what it finds.
+type Writer = unsafe extern "C" fn(*const u8, usize, *mut u8, usize) -> u64;
+/// A proved function that writes the one thing with a number.
+type NumberedWriter = unsafe extern "C" fn(*const u8, usize, u64, *mut u8, usize) -> u64;
 
 extern "C" {
     fn mmap(
@@ -48,22 +63,71 @@ const NO_FILE: c_int = -1;
 
 /// Asks for the layout of a file.
 pub fn read(file: &[u8], out: &mut [u8]) -> u64 {
-    // SAFETY: both pointers come from slices with these lengths, and live through the call.
-    unsafe { asdf_read(file.as_ptr(), file.len(), out.as_mut_ptr(), out.len()) }
+    written(asdf_read, file, out)
 }
 
 /// Asks for the block of an ordinal.
 pub fn block(file: &[u8], ordinal: u64, out: &mut [u8]) -> u64 {
+    written_at(asdf_block, file, ordinal, out)
+}
+
+/// Asks how many rows a file has.
+pub fn count(file: &[u8]) -> u64 {
+    counted(asdf_count, file)
+}
+
+/// Asks for the outline of a file.
+pub fn outline(file: &[u8], out: &mut [u8]) -> u64 {
+    written(asdf_outline, file, out)
+}
+
+/// Asks for the record of a number in walking order.
+pub fn record(file: &[u8], number: u64, out: &mut [u8]) -> u64 {
+    written_at(asdf_record, file, number, out)
+}
+
+/// Asks for all records.
+pub fn records(file: &[u8], out: &mut [u8]) -> u64 {
+    written(asdf_records, file, out)
+}
+
+/// Asks for the text of a file's index.
+pub fn index(file: &[u8], out: &mut [u8]) -> u64 {
+    written(asdf_index, file, out)
+}
+
+/// Asks how many rows a stored outline has.
+pub fn stored_count(stored: &[u8]) -> u64 {
+    counted(asdf_stored_count, stored)
+}
+
+/// Asks for the row of a number in a stored outline.
+pub fn stored_row(stored: &[u8], number: u64, out: &mut [u8]) -> u64 {
+    written_at(asdf_stored_row, stored, number, out)
+}
+
+/// Asks for a stored outline to be written again.
+pub fn rewrite(stored: &[u8], out: &mut [u8]) -> u64 {
+    written(asdf_rewrite, stored, out)
+}
+
+/// Asks a function that only counts.
+fn counted(counter: Counter, bytes: &[u8]) -> u64 {
+    // SAFETY: the pointer comes from a slice with this length, and lives through the call.
+    unsafe { counter(bytes.as_ptr(), bytes.len()) }
+}
+
+/// Asks a function that writes what it finds.
+fn written(writer: Writer, bytes: &[u8], out: &mut [u8]) -> u64 {
     // SAFETY: both pointers come from slices with these lengths, and live through the call.
-    unsafe {
-        asdf_block(
-            file.as_ptr(),
-            file.len(),
-            ordinal,
-            out.as_mut_ptr(),
-            out.len(),
-        )
-    }
+    unsafe { writer(bytes.as_ptr(), bytes.len(), out.as_mut_ptr(), out.len()) }
+}
+
+/// Asks a function that writes the one thing with this number.
+fn written_at(writer: NumberedWriter, bytes: &[u8], number: u64, out: &mut [u8]) -> u64 {
+    let (start, length) = (bytes.as_ptr(), bytes.len());
+    // SAFETY: both pointers come from slices with these lengths, and live through the call.
+    unsafe { writer(start, length, number, out.as_mut_ptr(), out.len()) }
 }
 
 /// Where libc finds a byte first.

@@ -3,27 +3,38 @@
 use crate::answers::Answers;
 use crate::generate::{places_of, MARK};
 use crate::limits::limits;
-use asdf_second::{Block, Inner, InnerKind, Record, Verdict};
+use crate::nest_goals::nest_goals;
+use asdf_second::{Block, Record, Verdict};
 
-/// The places at which a file reaches something.
-type Places = dyn Fn(&[u8], &Answers) -> Vec<usize>;
+/// The places at which a file, of which this is said, reaches something.
+type Places<A> = dyn Fn(&[u8], &A) -> Vec<usize>;
 
 /// Something to be reached.
-pub struct Goal {
+pub struct Goal<A = Answers> {
     pub name: String,
-    pub places: Box<Places>,
+    pub places: Box<Places<A>>,
 }
 
-impl Goal {
+impl<A> Goal<A> {
     /// A goal that is reached at places.
-    pub fn at(
+    pub fn new(
         name: impl Into<String>,
-        places: impl Fn(&[u8], &Answers) -> Vec<usize> + 'static,
-    ) -> Goal {
+        places: impl Fn(&[u8], &A) -> Vec<usize> + 'static,
+    ) -> Goal<A> {
         Goal {
             name: name.into(),
             places: Box::new(places),
         }
+    }
+}
+
+impl Goal {
+    /// A goal that a file reaches at places.
+    pub fn at(
+        name: impl Into<String>,
+        places: impl Fn(&[u8], &Answers) -> Vec<usize> + 'static,
+    ) -> Goal {
+        Goal::new(name, places)
     }
 
     /// A goal that an accepted file reaches as a whole, so at place 0.
@@ -54,8 +65,17 @@ impl Goal {
 
     /// A goal that records reach.
     pub fn of_record(name: impl Into<String>, reached: impl Fn(&Record) -> bool + 'static) -> Goal {
-        Goal::at(name, move |_, answers| {
-            let reached = answers.records().iter().filter(|record| reached(record));
+        Goal::of_record_in(name, move |_, record| reached(record))
+    }
+
+    /// A goal that records reach, seen with the bytes of the outermost file.
+    pub fn of_record_in(
+        name: impl Into<String>,
+        reached: impl Fn(&[u8], &Record) -> bool + 'static,
+    ) -> Goal {
+        Goal::at(name, move |file, answers| {
+            let records = answers.records().iter();
+            let reached = records.filter(|record| reached(file, record));
             reached.map(|record| record.offset.0 as usize).collect()
         })
     }
@@ -74,63 +94,16 @@ impl Goal {
 
 /// All goals.
 pub fn goals() -> Vec<Goal> {
-    [
-        refusals(),
-        inner_states(),
-        inner_refusals(),
-        verdicts(),
-        parts(),
-        depths(),
-        limits(),
-    ]
-    .into_iter()
-    .flatten()
-    .collect()
+    [refusals(), verdicts(), parts(), limits(), nest_goals()]
+        .into_iter()
+        .flatten()
+        .collect()
 }
 
 /// Each number that refuses a file.
 fn refusals() -> Vec<Goal> {
     (1..=17)
         .map(|number| Goal::of_refusal(format!("refused {number}"), number, |_, _| true))
-        .collect()
-}
-
-/// Each inner state.
-fn inner_states() -> Vec<Goal> {
-    [
-        (InnerKind::Plain, "plain"),
-        (InnerKind::Opened, "opened"),
-        (InnerKind::Refused, "refused"),
-        (InnerKind::TooDeep, "too deep"),
-    ]
-    .map(|(kind, name)| {
-        Goal::of_record(format!("inner {name}"), move |record| {
-            InnerKind::from(record.inner) == kind
-        })
-    })
-    .into()
-}
-
-/// Each number that refuses an inner file. What does not begin like a file is plain, so 2 is none.
-fn inner_refusals() -> Vec<Goal> {
-    (3..=17)
-        .map(|number| {
-            Goal::at(format!("inner refused {number}"), move |_, answers| {
-                inner_places(answers, number)
-            })
-        })
-        .collect()
-}
-
-/// Where inner files are refused with this number, counted from their own first bytes.
-fn inner_places(answers: &Answers, number: u8) -> Vec<usize> {
-    answers
-        .records()
-        .iter()
-        .filter_map(|record| match record.inner {
-            Inner::Refused(refusal) if refusal.number == number => Some(refusal.place as usize),
-            _ => None,
-        })
         .collect()
 }
 
@@ -190,15 +163,4 @@ fn ends_with_0d_0a(file: &[u8], answers: &Answers) -> bool {
         .layout
         .as_ref()
         .is_ok_and(|layout| file[..layout.header_end.0 as usize].ends_with(b"\r\n"))
-}
-
-/// Blocks at each depth.
-fn depths() -> Vec<Goal> {
-    (0..=7)
-        .map(|depth| {
-            Goal::of_record(format!("block at depth {depth}"), move |record| {
-                record.depth == depth
-            })
-        })
-        .collect()
 }

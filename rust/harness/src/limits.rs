@@ -259,17 +259,6 @@ fn content_limits() -> Vec<Goal> {
         Goal::of_block("compressed content like a file", |file, block| {
             block.is_compressed() && file[content_start(block)..].starts_with(FILE_BEGIN)
         }),
-        Goal::at("opened without a block inside", |_, answers| {
-            let records = answers.records();
-            let next_depths = records.iter().skip(1).map(|next| next.depth).chain([0]);
-            let pairs = records.iter().zip(next_depths);
-            let childless = pairs.filter(|(record, next_depth)| {
-                record.inner == Inner::Opened && *next_depth <= record.depth
-            });
-            childless
-                .map(|(record, _)| record.offset.0 as usize)
-                .collect()
-        }),
     ]
 }
 

@@ -3,7 +3,7 @@
 use crate::answers::{of_whole, Answers};
 use crate::exports::SparseFile;
 use crate::fields::FIELD_BYTES;
-use crate::numbers::{block_numbers, layout_numbers, BLOCK_NUMBERS, LAYOUT_NUMBERS};
+use crate::numbers::{layout_numbers, record_numbers, LAYOUT_NUMBERS, RECORD_NUMBERS};
 use crate::same::same;
 use crate::sparse::{block_header, HEADER_LINE, LEAST_HEADER_SIZE};
 use asdf_second::Refusal;
@@ -15,6 +15,8 @@ const TOO_LONG: u8 = 1;
 const STREAMED: u32 = 1;
 const ABSENT: u64 = 0;
 const GOOD: u64 = 1;
+const PLAIN: u64 = 0;
+const OPENED: u64 = 1;
 
 /// The place of a first block.
 const FIRST: usize = HEADER_LINE.len();
@@ -23,32 +25,57 @@ const LAST: usize = 4_294_967_000;
 /// The index of a file with these two blocks.
 const INDEX: &[u8] = b"#ASDF BLOCK INDEX\n%YAML 1.1\n--- [12, 4294967000]\n...\n";
 
-/// A long file and the numbers that tell its layout and its blocks, or its refusal.
+/// A long file and the numbers that tell its layout and its records, or its refusal.
 pub struct LongFile {
     pub name: &'static str,
     pub file: SparseFile,
     layout: Result<[u64; LAYOUT_NUMBERS], Refusal>,
-    blocks: Vec<[u64; BLOCK_NUMBERS]>,
+    records: Vec<[u64; RECORD_NUMBERS]>,
+    /// The index behind the last block, where there is one.
+    index: &'static [u8],
 }
 
 /// A block with one number for all three sizes.
+#[derive(Clone, Copy)]
 struct Block {
+    depth: u64,
+    inner: u64,
+    /// Where its own file begins in the outermost one.
+    file: usize,
+    ordinal: u64,
+    /// Where it begins in the outermost file.
     place: usize,
     flags: u32,
     size: usize,
 }
 
 impl Block {
-    /// The block's numbers.
-    fn numbers(&self, ordinal: usize) -> [u64; BLOCK_NUMBERS] {
-        let [ordinal, place, size] = [ordinal, self.place, self.size].map(|number| number as u64);
-        let header_size = LEAST_HEADER_SIZE.into();
-        let flags = self.flags.into();
-        [
+    /// A plain block of the outermost file that ends at `end`.
+    fn new(ordinal: u64, place: usize, end: usize) -> Block {
+        Block {
+            depth: 0,
+            inner: PLAIN,
+            file: 0,
             ordinal,
             place,
-            header_size,
-            flags,
+            flags: 0,
+            size: end - place - FIELD_BYTES,
+        }
+    }
+
+    /// The numbers of the block's record.
+    fn numbers(&self) -> [u64; RECORD_NUMBERS] {
+        let [place, size] = [self.place, self.size].map(|number| number as u64);
+        [
+            self.depth,
+            place,
+            self.inner,
+            0,
+            0,
+            self.ordinal,
+            place - self.file as u64,
+            LEAST_HEADER_SIZE.into(),
+            self.flags.into(),
             0,
             size,
             size,
@@ -66,6 +93,7 @@ pub fn long_files() -> io::Result<Vec<LongFile>> {
         one_block()?,
         streamed_block()?,
         two_blocks_and_index()?,
+        file_inside()?,
     ])
 }
 
@@ -75,63 +103,78 @@ fn too_long() -> io::Result<LongFile> {
         name: "file of 4,294,967,296 bytes",
         file: SparseFile::new(LONGEST + 1, &[(0, HEADER_LINE)])?,
         layout: Err(of_whole(TOO_LONG)),
-        blocks: Vec::new(),
+        records: Vec::new(),
+        index: b"",
     })
 }
 
 /// The longest file with one block and five zeros behind it.
 fn one_block() -> io::Result<LongFile> {
-    let block = Block {
-        place: FIRST,
-        flags: 0,
-        size: LONGEST - FIRST - FIELD_BYTES - 5,
-    };
-    longest_file("longest file with one block", &[block], b"", ABSENT)
+    let block = Block::new(0, FIRST, LONGEST - 5);
+    longest_file("longest file with one block", &[block], b"")
 }
 
 /// The longest file with a streamed block.
 fn streamed_block() -> io::Result<LongFile> {
     let block = Block {
-        place: FIRST,
         flags: STREAMED,
-        size: LONGEST - FIRST - FIELD_BYTES,
+        ..Block::new(0, FIRST, LONGEST)
     };
-    longest_file("longest file with a streamed block", &[block], b"", ABSENT)
+    longest_file("longest file with a streamed block", &[block], b"")
 }
 
 /// The longest file with a block near its end and an index behind that.
 fn two_blocks_and_index() -> io::Result<LongFile> {
-    let blocks = [(FIRST, LAST), (LAST, LONGEST - INDEX.len())].map(|(place, end)| Block {
-        place,
-        flags: 0,
-        size: end - place - FIELD_BYTES,
-    });
-    longest_file("longest file with an index", &blocks, INDEX, GOOD)
+    let blocks = [
+        Block::new(0, FIRST, LAST),
+        Block::new(1, LAST, LONGEST - INDEX.len()),
+    ];
+    longest_file("longest file with an index", &blocks, INDEX)
 }
 
-/// A file of the greatest length with these blocks, this text at its end and this verdict.
+/// The longest file with a file inside that has a block near its end.
+fn file_inside() -> io::Result<LongFile> {
+    let outer = Block {
+        inner: OPENED,
+        ..Block::new(0, FIRST, LONGEST)
+    };
+    let file = FIRST + FIELD_BYTES;
+    let inside = |block| Block {
+        depth: 1,
+        file,
+        ..block
+    };
+    let first = inside(Block::new(0, file + FIRST, LAST));
+    let last = inside(Block::new(1, LAST, LONGEST));
+    longest_file(
+        "longest file with a file inside",
+        &[outer, first, last],
+        b"",
+    )
+}
+
+/// A file of the greatest length with these blocks and this index at its end.
 fn longest_file(
     name: &'static str,
     blocks: &[Block],
-    tail: &[u8],
-    verdict: u64,
+    index: &'static [u8],
 ) -> io::Result<LongFile> {
     let headers: Vec<(usize, Vec<u8>)> = blocks
         .iter()
         .map(|block| (block.place, block_header(block.flags, block.size as u64)))
         .collect();
-    let mut parts = vec![(0, HEADER_LINE), (LONGEST - tail.len(), tail)];
+    let mut parts = vec![(LONGEST - index.len(), index)];
+    parts.extend(blocks.iter().map(|block| (block.file, HEADER_LINE)));
     parts.extend(headers.iter().map(|(place, header)| (*place, &header[..])));
     let end = HEADER_LINE.len() as u64;
-    let count = blocks.len() as u64;
-    let numbered = blocks.iter().enumerate();
+    let count = blocks.iter().filter(|block| block.depth == 0).count() as u64;
+    let verdict = if index.is_empty() { ABSENT } else { GOOD };
     Ok(LongFile {
         name,
         file: SparseFile::new(LONGEST, &parts)?,
         layout: Ok([1, 0, 0, end, end, 0, 0, 0, 0, count, verdict]),
-        blocks: numbered
-            .map(|(ordinal, block)| block.numbers(ordinal))
-            .collect(),
+        records: blocks.iter().map(Block::numbers).collect(),
+        index,
     })
 }
 
@@ -140,7 +183,11 @@ impl LongFile {
     pub fn check(&self, answers: &Answers) -> Result<(), String> {
         let layout = answers.layout.as_ref().map(layout_numbers);
         same("layout", layout, self.layout.as_ref().copied())?;
-        let blocks: Vec<_> = answers.blocks().iter().map(block_numbers).collect();
-        same("blocks", &blocks, &self.blocks)
+        let records: Vec<_> = answers.records().iter().map(record_numbers).collect();
+        same("records", &records, &self.records)?;
+        if self.index.is_empty() {
+            return Ok(());
+        }
+        same("index", answers.index.as_deref(), Ok(self.index))
     }
 }

@@ -3,7 +3,7 @@
 #![deny(unsafe_code)]
 
 use asdf_harness::run::{DEFAULT_COUNT, DEFAULT_SEED};
-use asdf_harness::{dump, run};
+use asdf_harness::{dump, run, stack};
 use std::env::args;
 use std::io;
 use std::path::Path;
@@ -12,14 +12,20 @@ use std::process::ExitCode;
 const USAGE: &str = "\
 usage: asdf-harness [SEED] [COUNT]
        asdf-harness --dump SEED COUNT DIR
+       asdf-harness --stack BYTES
 
-The first form generates COUNT files (100,000 if it is not said), compares what the proved
-functions and the second program say of each, and prints what they reached. A few sparse
-files at the limit of 4 GiB are compared too. The status is 1 if something differs or was
-never reached; the first 20 failing files are written as build/failing/SEED-NUMBER.asdf.
+The first form generates COUNT files (100,000 if it is not said), as many files with files
+inside and as many stored outlines, compares what the proved functions and the second
+program say of each, and prints what they reached. A few sparse files at the limit of 4 GiB
+and a few with many rows are compared too. The status is 1 if something differs or was never
+reached; the first 20 failing ones are written as build/failing/SEED-NUMBER.asdf,
+SEED-NUMBER-nest.asdf or SEED-NUMBER.outline.
 
 The second form writes the files to DIR/in, each behind its length in 8 bytes, and what the
 second program says of each as a line of DIR/out; files above 65,536 bytes are left out.
+
+The third form lets the proved functions walk the files that make them go deepest in a thread
+with a stack of BYTES bytes. Too small a stack ends the program with a signal.
 ";
 
 /// What is asked for.
@@ -32,6 +38,9 @@ enum Command {
         seed: u64,
         count: u64,
         directory: String,
+    },
+    Stack {
+        bytes: usize,
     },
 }
 
@@ -61,6 +70,11 @@ fn command(words: &[String]) -> Option<Command> {
             directory: directory.to_string(),
         });
     }
+    if let ["--stack", bytes] = words[..] {
+        return Some(Command::Stack {
+            bytes: bytes.parse().ok()?,
+        });
+    }
     let (seed, count) = match words[..] {
         [] => (DEFAULT_SEED, DEFAULT_COUNT),
         [seed] => (seed.parse().ok()?, DEFAULT_COUNT),
@@ -79,5 +93,9 @@ fn perform(command: Command) -> io::Result<bool> {
             count,
             directory,
         } => dump::dump(seed, count, Path::new(&directory)).map(|()| true),
+        Command::Stack { bytes } => {
+            let walked = stack::walk_with_stack(bytes)?;
+            walked.map(|()| true).map_err(io::Error::other)
+        }
     }
 }

@@ -15,6 +15,17 @@ pub fn damage(rng: &mut Rng, file: &mut Vec<u8>) {
     }
 }
 
+/// Damages one or two places of a file, and leaves all others where they were.
+pub fn damage_in_place(rng: &mut Rng, file: &mut [u8]) {
+    for _ in 0..rng.between(1, 2) {
+        match rng.below(3) {
+            0 => flip_bit(rng, file),
+            1 => set_byte(rng, file),
+            _ => overwrite_field(rng, file),
+        }
+    }
+}
+
 /// Damages a file in one way.
 fn damage_once(rng: &mut Rng, file: &mut Vec<u8>) {
     match rng.below(8) {

@@ -1,11 +1,17 @@
 //! What the second program says, as the numbers that the proved functions put into a buffer.
 
-use asdf_second::{Block, Layout, Tree, Verdict};
+use asdf_second::{Block, Inner, InnerKind, Layout, Record, Refusal, Row, Tree, Verdict};
 
 /// How many numbers tell a layout.
 pub const LAYOUT_NUMBERS: usize = 11;
 /// How many numbers tell a block.
 pub const BLOCK_NUMBERS: usize = 10;
+/// How many numbers tell a record: five and those of its block.
+pub const RECORD_NUMBERS: usize = 15;
+/// How many numbers tell a row.
+pub const ROW_NUMBERS: usize = 10;
+/// The bytes of one number in a buffer.
+pub const NUMBER_BYTES: usize = 8;
 
 /// The numbers of a layout: version, header end, comments' end, tree, number of blocks, verdict.
 pub fn layout_numbers(layout: &Layout) -> [u64; LAYOUT_NUMBERS] {
@@ -63,4 +69,64 @@ pub fn block_numbers(block: &Block) -> [u64; BLOCK_NUMBERS] {
         (checksum >> 64) as u64,
         checksum as u64,
     ]
+}
+
+/// The numbers of a record: depth, offset in the outermost file, inner state, then its block's.
+pub fn record_numbers(record: &Record) -> [u64; RECORD_NUMBERS] {
+    let refusal = inner_refusal(record.inner);
+    let front = [
+        record.depth.into(),
+        record.offset.0.into(),
+        InnerKind::from(record.inner) as u64,
+        refusal.number.into(),
+        refusal.place,
+    ];
+    let block = block_numbers(&record.block);
+    let mut numbers = front.into_iter().chain(block);
+    std::array::from_fn(|_| numbers.next().unwrap_or(0))
+}
+
+/// The refusal of an inner file, two zeros where there is none.
+fn inner_refusal(inner: Inner) -> Refusal {
+    match inner {
+        Inner::Refused(refusal) => refusal,
+        Inner::Plain | Inner::Opened | Inner::TooDeep => Refusal {
+            number: 0,
+            place: 0,
+        },
+    }
+}
+
+/// The numbers of a row in the order of the listing.
+pub fn row_numbers(row: &Row) -> [u64; ROW_NUMBERS] {
+    [
+        row.depth.into(),
+        row.ordinal.into(),
+        row.offset.0.into(),
+        row.header_size.into(),
+        row.allocated.into(),
+        row.used.into(),
+        row.streamed.into(),
+        row.compressed.into(),
+        row.checksum.into(),
+        row.inner as u64,
+    ]
+}
+
+/// Numbers as the bytes of a buffer.
+pub fn bytes_of(numbers: &[u64]) -> Vec<u8> {
+    let mut bytes = Vec::with_capacity(numbers.len() * NUMBER_BYTES);
+    for number in numbers {
+        bytes.extend_from_slice(&number.to_be_bytes());
+    }
+    bytes
+}
+
+/// The numbers in whole buffer bytes.
+pub fn numbers_of(bytes: &[u8]) -> Vec<u64> {
+    let (chunks, _) = bytes.as_chunks();
+    chunks
+        .iter()
+        .map(|chunk| u64::from_be_bytes(*chunk))
+        .collect()
 }

@@ -1,21 +1,28 @@
-//! A run: generates files, compares what is said of each, and tells what they reached.
+//! A run: generates files and outlines, compares what is said of each, and tells what they reached.
 
 use crate::answers::Answers;
 use crate::calls::Calls;
 use crate::compare::compare;
-use crate::corpus::numbered_file;
+use crate::compare_nest::read_back;
+use crate::compare_stored::compare_stored;
+use crate::corpus::{numbered_file, numbered_nest, numbered_outline};
 use crate::coverage::Coverage;
+use crate::goals::goals;
 use crate::long_files::{long_files, LongFile};
+use crate::nests;
 use crate::same::same;
 use crate::self_check;
+use crate::stored_answers::StoredAnswers;
+use crate::stored_goals::stored_goals;
+use asdf_second::{Inner, Record};
 use std::fs;
 use std::io;
 use std::panic::{catch_unwind, AssertUnwindSafe};
-use std::path::Path;
+use std::path::{Path, PathBuf};
 
 /// The seed of a run for which none is said.
 pub const DEFAULT_SEED: u64 = 1;
-/// The number of files of a run for which none is said.
+/// The number of files of each kind in a run for which none is said.
 pub const DEFAULT_COUNT: u64 = 100_000;
 
 /// Where failing files are written.
@@ -25,22 +32,58 @@ const MOST_TOLD: u64 = 20;
 /// So much is told of a reason.
 const LONGEST_REASON: usize = 600;
 
+/// What is generated.
+#[derive(Clone, Copy)]
+enum Kind {
+    File,
+    Nest,
+    Outline,
+}
+
+impl Kind {
+    const ALL: [Kind; 3] = [Kind::File, Kind::Nest, Kind::Outline];
+
+    /// The one of this kind with this number.
+    fn numbered(self, seed: u64, number: u64) -> Vec<u8> {
+        match self {
+            Kind::File => numbered_file(seed, number),
+            Kind::Nest => numbered_nest(seed, number),
+            Kind::Outline => numbered_outline(seed, number),
+        }
+    }
+
+    /// Where a failing one is written.
+    fn path(self, seed: u64, number: u64) -> PathBuf {
+        let end = match self {
+            Kind::File => ".asdf",
+            Kind::Nest => "-nest.asdf",
+            Kind::Outline => ".outline",
+        };
+        Path::new(FAILING).join(format!("{seed}-{number}{end}"))
+    }
+}
+
 /// What came of a run.
 struct Outcome {
     coverage: Coverage,
+    stored_coverage: Coverage<StoredAnswers>,
     calls: Calls,
     bytes: u64,
     longest: usize,
+    /// Files with at least one file inside.
+    nests: u64,
     failures: u64,
 }
 
 /// Generates and checks files, prints what came of it, and says whether all is well.
 pub fn run(seed: u64, count: u64) -> io::Result<bool> {
-    println!("seed {seed}, {count} files");
+    println!("seed {seed}, {count} files, {count} with files inside, {count} stored outlines");
     let outcome = check_files(seed, count)?;
-    let missing = outcome.missing();
-    print!("{}{}", outcome.coverage, outcome.calls);
+    let missing = outcome.missing(count);
+    print!("{}{}", outcome.coverage, outcome.stored_coverage);
+    print!("{}", outcome.calls);
     println!("{} bytes, longest file {}", outcome.bytes, outcome.longest);
+    println!("{} files with files inside", outcome.nests);
     for name in &missing {
         println!("never reached: {name}");
     }
@@ -56,18 +99,16 @@ pub fn run(seed: u64, count: u64) -> io::Result<bool> {
 fn check_files(seed: u64, count: u64) -> io::Result<Outcome> {
     let mut outcome = Outcome::new();
     for long in long_files()? {
-        if let Err(reason) = outcome.check_long_file(&long) {
-            outcome.failures += 1;
-            println!("{}: {reason:.LONGEST_REASON$}", long.name);
-        }
+        let checked = outcome.check_long_file(&long);
+        outcome.tell(long.name, checked);
+    }
+    for nest in nests::deepest().into_iter().chain([nests::many_rows()]) {
+        let compared = outcome.compare_file(&nest);
+        outcome.tell("file made for its many rows", compared.map(|_| ()));
     }
     for number in 0..count {
-        let file = numbered_file(seed, number);
-        if let Err(reason) = outcome.check_file(&file) {
-            outcome.failures += 1;
-            if outcome.failures <= MOST_TOLD {
-                report(seed, number, &file, &reason)?;
-            }
+        for kind in Kind::ALL {
+            outcome.check_numbered(kind, seed, number)?;
         }
     }
     Ok(outcome)
@@ -77,17 +118,50 @@ impl Outcome {
     /// Nothing came of a run yet.
     fn new() -> Outcome {
         Outcome {
-            coverage: Coverage::new(),
+            coverage: Coverage::new(goals()),
+            stored_coverage: Coverage::new(stored_goals()),
             calls: Calls::new(),
             bytes: 0,
             longest: 0,
+            nests: 0,
             failures: 0,
         }
     }
 
-    /// What was never reached.
-    fn missing(&self) -> Vec<String> {
-        [self.coverage.missing(), self.calls.missing()].concat()
+    /// What was never reached, and too few files with files inside.
+    fn missing(&self, least_nests: u64) -> Vec<String> {
+        let mut missing = self.coverage.missing();
+        missing.extend(self.stored_coverage.missing());
+        missing.extend(self.calls.missing());
+        if self.nests < least_nests {
+            missing.push(format!("{least_nests} files with files inside"));
+        }
+        missing
+    }
+
+    /// Tells of a file that is not generated, if it failed.
+    fn tell(&mut self, name: &str, checked: Result<(), String>) {
+        if let Err(reason) = checked {
+            self.failures += 1;
+            println!("{name}: {reason:.LONGEST_REASON$}");
+        }
+    }
+
+    /// Generates and checks one; a failing one is kept and told of.
+    fn check_numbered(&mut self, kind: Kind, seed: u64, number: u64) -> io::Result<()> {
+        let bytes = kind.numbered(seed, number);
+        let checked = match kind {
+            Kind::File | Kind::Nest => self.check_file(&bytes),
+            Kind::Outline => self.check_outline(&bytes),
+        };
+        let Err(reason) = checked else {
+            return Ok(());
+        };
+        self.failures += 1;
+        if self.failures > MOST_TOLD {
+            return Ok(());
+        }
+        report(&kind.path(seed, number), &bytes, &reason)
     }
 
     /// Puts a generated file through all checks.
@@ -96,6 +170,8 @@ impl Outcome {
         self.longest = self.longest.max(file.len());
         let lent = file.to_vec();
         let answers = self.compare_file(&lent)?;
+        self.nests += u64::from(answers.records().iter().any(holds_a_file));
+        without_panic(|| read_back(&lent, &answers, &mut self.calls))??;
         same("the file after all calls", &lent[..], file)?;
         without_panic(|| self_check::check(file, &answers))?
     }
@@ -113,6 +189,20 @@ impl Outcome {
         without_panic(|| compare(file, &answers, &mut self.calls))??;
         Ok(answers)
     }
+
+    /// Counts what a stored outline reaches, and compares what is said of it.
+    fn check_outline(&mut self, stored: &[u8]) -> Result<(), String> {
+        let lent = stored.to_vec();
+        let answers = without_panic(|| StoredAnswers::to(stored))?;
+        self.stored_coverage.count(stored, &answers);
+        without_panic(|| compare_stored(&lent, &answers, &mut self.calls))??;
+        same("the outline after all calls", &lent[..], stored)
+    }
+}
+
+/// Whether a block holds what begins like a file.
+fn holds_a_file(record: &Record) -> bool {
+    record.inner != Inner::Plain
 }
 
 /// What the work gives; a panic fails only the file at hand.
@@ -121,10 +211,9 @@ fn without_panic<T>(work: impl FnOnce() -> T) -> Result<T, String> {
 }
 
 /// Writes a failing file and tells of it.
-fn report(seed: u64, number: u64, file: &[u8], reason: &str) -> io::Result<()> {
-    let path = Path::new(FAILING).join(format!("{seed}-{number}.asdf"));
+fn report(path: &Path, file: &[u8], reason: &str) -> io::Result<()> {
     fs::create_dir_all(FAILING)?;
-    fs::write(&path, file)?;
+    fs::write(path, file)?;
     println!("{}: {reason:.LONGEST_REASON$}", path.display());
     Ok(())
 }
@@ -135,8 +224,9 @@ mod tests {
 
     #[test]
     fn default_run_reaches_everything_and_nothing_fails() -> io::Result<()> {
-        let outcome = check_files(DEFAULT_SEED, DEFAULT_COUNT / 4)?;
-        assert_eq!(outcome.missing(), [""; 0]);
+        let count = DEFAULT_COUNT / 4;
+        let outcome = check_files(DEFAULT_SEED, count)?;
+        assert_eq!(outcome.missing(count), [""; 0]);
         assert_eq!(outcome.failures, 0);
         Ok(())
     }

@@ -1,6 +1,6 @@
 //! Whether the second program's answers to a file fit together.
 
-use crate::answers::{of_whole, Answers, BUFFER_TOO_SHORT};
+use crate::answers::{of_whole, Answers, BUFFER_TOO_SHORT, NO_INDEX_POSSIBLE};
 use crate::same::same;
 use asdf_second::{
     edit, listing, most_rows, outline, read, read_outline, records, rewrite_outline, row_count,
@@ -10,7 +10,6 @@ use asdf_second::{
 
 const EDIT_WITHOUT_TREE: u8 = 18;
 const TEXT_LONGER_THAN_ROOM: u8 = 20;
-const NO_INDEX_POSSIBLE: u8 = 22;
 
 /// What a lent buffer holds before it is written to.
 const UNTOUCHED: u8 = 0xA5;
@@ -64,12 +63,13 @@ fn check_rows(file: &[u8], answers: &Answers) -> Result<(), String> {
 fn check_outline(file: &[u8], answers: &Answers) -> Result<(), String> {
     let expected = expected_rows(answers);
     let length = expected.as_ref().map_or(0, Vec::len) * ROW_LENGTH;
-    let stored = written("outline", length, |out| outline(file, out))?;
+    let stored = checked_writing("outline", length, |out| outline(file, out))?;
     match stored {
         Err(refusal) => same("outline", Err(refusal), expected),
         Ok(stored) => {
             same("outline read back", read_outline(&stored), expected)?;
-            let again = written("outline again", length, |out| rewrite_outline(&stored, out))?;
+            let again =
+                checked_writing("outline again", length, |out| rewrite_outline(&stored, out))?;
             same("outline written again", again, Ok(stored))
         }
     }
@@ -77,7 +77,7 @@ fn check_outline(file: &[u8], answers: &Answers) -> Result<(), String> {
 
 /// What a writer writes into a buffer that is long enough. The buffer behind it has to stay, and
 /// all of a buffer that is one byte too short.
-fn written(
+fn checked_writing(
     what: &str,
     most: usize,
     write: impl Fn(&mut [u8]) -> Result<usize, Refusal>,
@@ -97,7 +97,7 @@ fn written(
 
 /// The index is refused where there can be none.
 fn check_index(file: &[u8], answers: &Answers) -> Result<(), String> {
-    let text = written("index", LONGEST_INDEX, |out| write_index(file, out))?;
+    let text = checked_writing("index", LONGEST_INDEX, |out| write_index(file, out))?;
     match (&answers.layout, answers.chain_end(), text) {
         (Ok(_), Some(end), Ok(text)) => check_index_text(&file[..end], answers.blocks(), &text),
         (Ok(_), Some(_), Err(refusal)) => Err(format!("index: {refusal}")),

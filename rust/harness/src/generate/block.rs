@@ -3,6 +3,7 @@
 use super::text::MARK;
 use crate::fields::{FIELD_BYTES, HEADER_SIZE_COUNTS_FROM};
 use crate::rng::Rng;
+use crate::sparse::{block_header, HEADER_LINE};
 
 /// The bit that says that a block is streamed.
 const STREAMED: u32 = 1;
@@ -68,6 +69,7 @@ fn unused_space(rng: &mut Rng) -> Vec<u8> {
         1 => rng.bytes(length),
         2 => b" 1.0.0\n".to_vec(),
         3 => MARK.to_vec(),
+        4 => [HEADER_LINE, &block_header(0, 0)].concat(),
         _ => Vec::new(),
     }
 }

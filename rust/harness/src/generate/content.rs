@@ -21,12 +21,18 @@ const LIKE_A_FILE: &[&[u8]] = &[
     b"#ASDF BLOCK INDEX\n%YAML 1.1\n--- [12]\n...\n",
 ];
 
+/// So seldom one of the other blocks holds a file, if the shape asks for branches.
+const BRANCH_ONE_IN: usize = 6;
+
 /// The content of a block; one that nests holds a file, if the shape asks for nesting.
 pub fn content(rng: &mut Rng, shape: &Shape, nests: bool) -> Vec<u8> {
     if nests && shape.nesting > 0 {
-        nested_file(rng, shape.nesting - 1)
+        nested_file(rng, shape.nesting - 1, shape.branches)
     } else if shape.blocks > Shape::USUAL_BLOCKS {
         plain_bytes(rng, 12)
+    } else if shape.branches && rng.chance(BRANCH_ONE_IN) {
+        let nesting = rng.below(shape.nesting);
+        nested_file(rng, nesting, true)
     } else {
         any_content(rng)
     }
@@ -43,13 +49,13 @@ fn any_content(rng: &mut Rng) -> Vec<u8> {
         10 => rng.pick(LIKE_A_FILE).to_vec(),
         11 => [FILE_BEGIN, &plain_bytes(rng, 12)].concat(),
         12 => [MARK, &plain_bytes(rng, 80)].concat(),
-        _ => nested_file(rng, 0),
+        _ => nested_file(rng, 0, false),
     }
 }
 
 /// A file with so many more in one another inside it.
-fn nested_file(rng: &mut Rng, nesting: usize) -> Vec<u8> {
-    let shape = Shape::inner(rng, nesting);
+fn nested_file(rng: &mut Rng, nesting: usize, branches: bool) -> Vec<u8> {
+    let shape = Shape::inner(rng, nesting, branches);
     file(rng, &shape)
 }
 

@@ -4,6 +4,8 @@ use crate::rng::Rng;
 
 /// The most blocks a file may have.
 pub const MOST_BLOCKS: usize = 64;
+/// The most files in one another; eight are read.
+const MOST_NESTED: usize = 11;
 
 /// The parts of a file that can be made wrong.
 #[derive(Debug, Clone, Copy, PartialEq, Eq)]
@@ -44,6 +46,8 @@ pub struct Shape {
     pub blocks: usize,
     /// How many files stand in one another inside one of the blocks.
     pub nesting: usize,
+    /// Whether others of the blocks hold files too.
+    pub branches: bool,
     /// The length to which zeros lengthen the file if it is shorter.
     pub least_length: usize,
 }
@@ -60,6 +64,7 @@ impl Shape {
             tree: false,
             blocks: 0,
             nesting: 0,
+            branches: false,
             least_length: 0,
         }
     }
@@ -76,18 +81,32 @@ impl Shape {
             tree: rng.chance(2),
             blocks,
             nesting: nesting(rng),
+            branches: false,
             least_length: least_length(rng),
         }
     }
 
+    /// The shape of an outermost file with files in one another, in several of its blocks.
+    pub fn nest(rng: &mut Rng) -> Shape {
+        Shape {
+            wrong: Vec::new(),
+            tree: rng.chance(4),
+            blocks: rng.between(1, 4),
+            nesting: rng.between(1, MOST_NESTED),
+            branches: true,
+            least_length: 0,
+        }
+    }
+
     /// The shape of a file in a block.
-    pub fn inner(rng: &mut Rng, nesting: usize) -> Shape {
+    pub fn inner(rng: &mut Rng, nesting: usize, branches: bool) -> Shape {
         let one_in = if nesting > 0 { 16 } else { 2 };
         Shape {
             wrong: wrong_parts(rng, one_in),
             tree: rng.chance(3),
             blocks: block_count(rng, 100).max(nesting.min(1)),
             nesting,
+            branches,
             least_length: 0,
         }
     }
@@ -135,7 +154,7 @@ fn nesting(rng: &mut Rng) -> usize {
     match rng.below(8) {
         0 => 1,
         1 => rng.between(2, 5),
-        2 => rng.between(6, 11),
+        2 => rng.between(6, MOST_NESTED),
         _ => 0,
     }
 }

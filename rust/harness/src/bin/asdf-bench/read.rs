@@ -1,17 +1,11 @@
-//! The benchmark: the proved reader against the second program's and a bare search of libc.
+//! The layout of one file by itself, beside the second program and a bare search of libc.
 
-#![deny(unsafe_code)]
-
+use crate::measure::medians;
 use asdf_harness::exports::{self, SparseFile};
 use asdf_harness::sparse::{block_header, chain_of_blocks, HEADER_LINE, MARK};
 use std::hint::black_box;
 use std::io;
-use std::time::{Duration, Instant};
 
-/// So many times each is measured.
-const RUNS: usize = 31;
-/// What is measured lasts at least about so long; a short call is repeated.
-const LEAST_TIME: Duration = Duration::from_millis(1);
 /// The bytes of an answer.
 const LAYOUT_BYTES: usize = 88;
 
@@ -23,6 +17,9 @@ const BLOCKS: usize = 64;
 const TREE_BEGIN: &[u8] = b"%YAML 1.1\n---\n";
 const TREE_END: &[u8] = b"...\n";
 
+/// A line of 40 bytes and its end.
+pub const LINE_OF_41: &[u8] = b"xxxxxxxxxxxxxxxxxxxxxxxxxxxxxxxxxxxxxxxx\n";
+
 /// A search of libc that has to look at the same bytes as a reader.
 type Floor = fn(&[u8]) -> usize;
 
@@ -33,8 +30,8 @@ struct Case {
     floor: Floor,
 }
 
-fn main() -> io::Result<()> {
-    println!("median of {RUNS} runs each; times in microseconds; floor: memchr or memmem of libc");
+/// Measures every file and prints a line for each.
+pub fn print_table() -> io::Result<()> {
     println!(
         "{:<36}{:>12}{:>12}{:>12}{:>12}{:>12}",
         "file", "asdf_read", "second", "floor", "to second", "to floor"
@@ -47,10 +44,9 @@ fn main() -> io::Result<()> {
 
 /// All files that are measured.
 fn cases() -> io::Result<Vec<Case>> {
-    let line_of_41 = [vec![b'x'; 40], vec![b'\n']].concat();
     let long_line = [vec![b'x'; MIB - 1], vec![b'\n']].concat();
     Ok(vec![
-        tree_case("tree of 1 MiB in lines of 41 bytes", &line_of_41)?,
+        tree_case("tree of 1 MiB in lines of 41 bytes", LINE_OF_41)?,
         tree_case("tree of 1 MiB in lines of 1 byte", b"\n")?,
         tree_case("tree of 1 MiB in one line", &long_line)?,
         Case {
@@ -76,7 +72,7 @@ fn tree_case(name: &'static str, line: &[u8]) -> io::Result<Case> {
 }
 
 /// A file with this content of its tree, this free space, and an empty block.
-fn tree_file(content: &[u8], free_space: &[u8]) -> io::Result<SparseFile> {
+pub fn tree_file(content: &[u8], free_space: &[u8]) -> io::Result<SparseFile> {
     let block = block_header(0, 0);
     let parts = [
         HEADER_LINE,
@@ -129,41 +125,4 @@ fn print_row(case: &Case) {
         ours / second,
         ours / floor
     );
-}
-
-/// The median time of each, in microseconds. They take turns, so that what disturbs one run
-/// disturbs all.
-fn medians<const N: usize>(mut works: [&mut dyn FnMut() -> usize; N]) -> [f64; N] {
-    let repeats = works.each_mut().map(|work| repeats_of(*work));
-    let mut times = [(); N].map(|()| Vec::new());
-    for _ in 0..RUNS {
-        for (place, work) in works.iter_mut().enumerate() {
-            times[place].push(microseconds(*work, repeats[place]));
-        }
-    }
-    times.map(median)
-}
-
-/// How often a work has to be repeated to last long enough.
-fn repeats_of(work: &mut dyn FnMut() -> usize) -> u32 {
-    let mut repeats = 1;
-    while microseconds(work, repeats) * f64::from(repeats) < LEAST_TIME.as_micros() as f64 {
-        repeats *= 2;
-    }
-    repeats
-}
-
-/// How long a work lasts if it is done so many times.
-fn microseconds(work: &mut dyn FnMut() -> usize, repeats: u32) -> f64 {
-    let began = Instant::now();
-    for _ in 0..repeats {
-        black_box(work());
-    }
-    began.elapsed().as_secs_f64() * 1e6 / f64::from(repeats)
-}
-
-/// The middle of an odd number of times.
-fn median(mut times: Vec<f64>) -> f64 {
-    times.sort_by(f64::total_cmp);
-    times[times.len() / 2]
 }

@@ -1,0 +1,75 @@
+//! Files inside files that are built by hand: for many rows, for the stack and for the benchmark.
+
+use crate::generate::FILE_BEGIN;
+use crate::sparse::{block_header, HEADER_LINE};
+
+/// The most blocks of a file.
+pub const MOST_BLOCKS: usize = 64;
+/// The levels at which files are read: depths 0 to 7.
+pub const LEVELS: usize = 8;
+
+/// A file with these contents, each in a block of its own.
+pub fn file_of<'a>(contents: impl IntoIterator<Item = &'a [u8]>) -> Vec<u8> {
+    let mut file = HEADER_LINE.to_vec();
+    for content in contents {
+        file.extend(block_header(0, content.len() as u64));
+        file.extend(content);
+    }
+    file
+}
+
+/// So many files in one another, each with so many blocks; the block of an ordinal holds the next
+/// file, or the innermost content, and the others are empty.
+pub fn path(levels: usize, blocks: usize, ordinal: usize, innermost: &[u8]) -> Vec<u8> {
+    (0..levels).fold(innermost.to_vec(), |inner, _| {
+        file_of((0..blocks).map(|block| if block == ordinal { &inner[..] } else { b"" }))
+    })
+}
+
+/// So many files in one another; each of so many blocks holds the next file, or the innermost
+/// content.
+pub fn tree(levels: usize, blocks: usize, innermost: &[u8]) -> Vec<u8> {
+    (0..levels).fold(innermost.to_vec(), |inner, _| {
+        file_of((0..blocks).map(|_| &inner[..]))
+    })
+}
+
+/// The files that make the walk go deepest: as many blocks as there may be at every level that is
+/// read, and the next level in the last of them, in the first, or in one between.
+pub fn deepest() -> Vec<Vec<u8>> {
+    [MOST_BLOCKS - 1, 0, 31]
+        .map(|ordinal| path(LEVELS, MOST_BLOCKS, ordinal, FILE_BEGIN))
+        .into()
+}
+
+/// The rows of a file with more of them than two bytes count.
+pub const MANY_ROWS: usize = 41 + 41 * 41 + 41 * 41 * 41;
+
+/// A file with that many rows.
+pub fn many_rows() -> Vec<u8> {
+    tree(3, 41, b"")
+}
+
+#[cfg(test)]
+mod tests {
+    use super::*;
+    use asdf_second::{records, row_count, Inner};
+
+    #[test]
+    fn deepest_files_have_every_block_and_end_too_deep() {
+        for file in deepest() {
+            let records = records(&file).unwrap();
+            assert_eq!(records.len(), LEVELS * MOST_BLOCKS);
+            let too_deep = records
+                .iter()
+                .filter(|record| record.inner == Inner::TooDeep);
+            assert_eq!(too_deep.count(), 1);
+        }
+    }
+
+    #[test]
+    fn many_rows_are_more_than_two_bytes_count() {
+        assert_eq!(row_count(&many_rows()), Ok(MANY_ROWS));
+        assert!(MANY_ROWS > usize::from(u16::MAX));
+    }
+}

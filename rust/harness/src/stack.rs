@@ -1,0 +1,44 @@
+//! How much stack the proved functions take on the files that make them go deepest.
+
+use crate::exports;
+use crate::loan::result_in;
+use crate::nests::deepest;
+use crate::numbers::{NUMBER_BYTES, RECORD_NUMBERS};
+use crate::same::same;
+use asdf_second::ROW_LENGTH;
+use std::io;
+use std::thread;
+
+/// What a walk of one file gives.
+#[derive(Debug, PartialEq)]
+struct Walked {
+    count: u64,
+    outline: Vec<u8>,
+    records: Vec<u8>,
+    last: Vec<u8>,
+}
+
+/// Walks the deepest files in a thread with a stack of so many bytes, and compares what comes of
+/// it with a walk on the main stack. A stack that is too small ends the whole process.
+pub fn walk_with_stack(bytes: usize) -> io::Result<Result<(), String>> {
+    let files = deepest();
+    let expected: Vec<Walked> = files.iter().map(|file| walked(file)).collect();
+    let walk = move || files.iter().map(|file| walked(file)).collect();
+    let thread = thread::Builder::new().stack_size(bytes).spawn(walk)?;
+    let found: Option<Vec<Walked>> = thread.join().ok();
+    Ok(same("walk with a small stack", found, Some(expected)))
+}
+
+/// What count, outline, records and record say of a file.
+fn walked(file: &[u8]) -> Walked {
+    let count = exports::count(file);
+    let rows = count as usize;
+    let written = |bytes, ask: &dyn Fn(&mut [u8]) -> u64| result_in(bytes, ask).unwrap_or_default();
+    let record_bytes = RECORD_NUMBERS * NUMBER_BYTES;
+    Walked {
+        count,
+        outline: written(rows * ROW_LENGTH, &|out| exports::outline(file, out)),
+        records: written(rows * record_bytes, &|out| exports::records(file, out)),
+        last: written(record_bytes, &|out| exports::record(file, count - 1, out)),
+    }
+}

@@ -1,0 +1,68 @@
+//! The worked examples of outlines and indexes, as run: exact bytes.
+
+use asdf_harness::exports;
+use asdf_harness::nests::file_of;
+
+/// What every lent buffer holds before a call.
+const UNTOUCHED: u8 = 0xA5;
+/// The bytes of every lent buffer.
+const LENT: usize = 100;
+
+/// The file with one empty block: 66 bytes.
+fn one_block() -> Vec<u8> {
+    file_of([&b""[..]])
+}
+
+/// A lent buffer that begins with these bytes.
+fn beginning(bytes: &[u8]) -> [u8; LENT] {
+    let mut buffer = [UNTOUCHED; LENT];
+    buffer[..bytes.len()].copy_from_slice(bytes);
+    buffer
+}
+
+/// Asks a writer, which has to write these bytes and nothing else.
+fn assert_writes(ask: impl FnOnce(&mut [u8]) -> u64, expected: &[u8]) {
+    let mut buffer = [UNTOUCHED; LENT];
+    assert_eq!(ask(&mut buffer), expected.len() as u64);
+    assert_eq!(buffer, beginning(expected));
+}
+
+/// The verdict of a file, the last of the numbers of its layout.
+fn verdict(file: &[u8]) -> u8 {
+    let mut layout = [0; 88];
+    assert_eq!(exports::read(file, &mut layout), 88);
+    layout[87]
+}
+
+#[test]
+fn p4_outline_of_one_block() {
+    let file = one_block();
+    let row = [0, 0, 0, 0x30, 0, 0, 0, 0x0C, 0, 0, 0, 0, 0, 0, 0, 0];
+    assert_eq!(exports::count(&file), 1);
+    assert_writes(|out| exports::outline(&file, out), &row);
+}
+
+#[test]
+fn p5_index_of_one_block_is_good_behind_it() {
+    let file = one_block();
+    let text = b"#ASDF BLOCK INDEX\n%YAML 1.1\n--- [12]\n...\n";
+    assert_eq!(text.len(), 41);
+    assert_writes(|out| exports::index(&file, out), text);
+    assert_eq!(verdict(&file), 0);
+    assert_eq!(verdict(&[&file[..], text].concat()), 1);
+}
+
+#[test]
+fn p10_outline_of_a_file_in_a_block() {
+    let file = file_of([&one_block()[..]]);
+    let rows = [
+        [
+            0x01, 0, 0, 0x30, 0, 0, 0, 0x0C, 0, 0, 0, 0x42, 0, 0, 0, 0x42,
+        ],
+        [
+            0x20, 0, 0, 0x30, 0, 0, 0, 0x4E, 0, 0, 0, 0x00, 0, 0, 0, 0x00,
+        ],
+    ];
+    assert_eq!(exports::count(&file), 2);
+    assert_writes(|out| exports::outline(&file, out), &rows.concat());
+}

@@ -1,0 +1,12 @@
+//! The stack that the walk of files inside files takes.
+
+use asdf_harness::stack::walk_with_stack;
+
+/// The least power of two with which the deepest files are walked; `asdf-harness --stack BYTES`
+/// tries others.
+const STACK_BYTES: usize = 1 << 20;
+
+#[test]
+fn deepest_files_are_walked_with_a_small_stack() {
+    assert_eq!(walk_with_stack(STACK_BYTES).unwrap(), Ok(()));
+}
