@@ -1,5 +1,4 @@
 // The program: prints the listing of what comes on standard input, of up to 65,536 bytes.
-use format::answer::CountAnswer;
 use libc::STDIN_FILENO;
 use libc::STDOUT_FILENO;
 
@@ -10,16 +9,10 @@ fn main() {
     print_listing(&input[..n]);
 }
 
-// Prints the listing of a file. The buffers are long enough for every listing, so the refusal, which prints nothing, never
-// happens.
+// Prints the listing of a file.
 fn print_listing(s: &[u8]) {
     let mut rows = io::large_buffer();
     let mut out = io::large_buffer();
-    match listing::list(s, &mut rows, &mut out) {
-        CountAnswer::Refused(_) => {}
-        CountAnswer::Counted(n) => {
-            let end = n as usize;
-            io::write_all(STDOUT_FILENO, &out[..end]);
-        }
-    }
+    let n = listing::list_lent(s, &mut rows, &mut out);
+    io::write_all(STDOUT_FILENO, &out[..n]);
 }

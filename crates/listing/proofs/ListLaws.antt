@@ -23,6 +23,7 @@ use Rattle.format.specs.Lent.{placed, writes, leaves}
 use Rattle.format.specs.Outcome.{Outcome, accepted, refused, refusal, _>>=_}
 use Rattle.format.specs.Outline.{outlineOf, rows, outline, stored}
 use Rattle.format.specs.Listing.{mostInput, sentence, treeText, rowText, listed, printed, listing}
+use Rattle.format.proofs.ByteLaws.{and-right}
 use Rattle.format.proofs.OutcomeLaws.{Accepts, accepted-holds, accepts-bind}
 use Rattle.format.proofs.OutlineLaws.{refused-no-rows, accepted-rows, read-back}
 use Rattle.put.specs.Written.{Written}
@@ -248,3 +249,45 @@ module _ (s : Bytes) (short : length s ≤ mostInput) where
             → Listed s rows out rows-after out-after r
         own-listed rows out rows-after out-after r =
             is-listed s _ _ rows out rows-after out-after r (outline-is (take n after) (own-taken .is)) (text-is (take n after) (own-taken .is))
+
+-- what the answer tells
+module _ (s rows out rows-after out-after : Bytes) (x : CountAnswer) (h : Listed s rows out rows-after out-after x) where
+  module _ (n : ℕ) (e : x ≡ Counted n) where
+    text-written : Written (accepted (listing s)) out out-after (Counted n)
+    unfolding countAnswer
+    text-written = by-test (bothFit (outlineFor s) (listing s) rows out) refl
+      where
+        by-test : (t : Bool) → bothFit (outlineFor s) (listing s) rows out ≡ t → Written (accepted (listing s)) out out-after (Counted n)
+        by-test true q =
+            let count : accepted n ≡ accepted (length (listing s)) = rw (e, q) at (h .put .answer) in
+            let same : n ≡ length (listing s) = cc in
+            let fits = leb-true _ _ (and-right (leb (length (outlineFor s)) (length rows)) _ q) in
+            written-placed (accepted (listing s)) out (listing s) refl fits out-after (rw q at (h .put .text-put)) n same
+        by-test false q =
+            let clash : accepted n ≡ refused (refusal 21 0) = rw (e, q) at (h .put .answer) in
+            let z : _≡_ {A = ℕ} 0 1 = cc in
+            absurd (omega arith)
+
+    text-taken : Taken (accepted (listing s)) out-after n
+    text-taken = written-taken (accepted (listing s)) out out-after n text-written
+
+    pub shown-listed : Listed s rows out rows-after out-after (Counted n)
+    shown-listed = rw (← e) h
+
+    -- the first n bytes of the buffer are the listing
+    pub shown-is : take n out-after ≡ listing s
+    shown-is = let same = text-taken .is in cc
+
+    pub shown-count : n ≡ length (take n out-after)
+    shown-count = sym (text-taken .size)
+
+    pub shown-fits : n ≤ length out-after
+    shown-fits = omega (arith, text-taken .size, length-take n out-after)
+
+  -- buffers as long as the program's are never refused
+  pub never-refused : (r : Refusal) → x ≡ Refused r → length rows ≡ lentBytes → length out ≡ lentBytes → ⊥
+  unfolding countAnswer
+  never-refused r e p q =
+      let clash : refused r ≡ accepted (length (listing s)) = rw e at (h .enough (omega arith) (omega arith)) in
+      let z : _≡_ {A = ℕ} 0 1 = cc in
+      omega arith

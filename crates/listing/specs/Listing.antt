@@ -3,7 +3,7 @@ use Prim.Native.Nat.{ℕ, _≤_}
 use mathlib.Core.Path.{_≡_}
 use mathlib.Core.Bool.{Bool, true, false, _&&_}
 use mathlib.Core.List.{[]}
-use lib.ListN.{length}
+use lib.ListN.{length, take}
 use lib.Dec.{leb}
 use Rattle.format.specs.declared.answer.CountAnswer.{CountAnswer}
 use Rattle.format.specs.Answer.{countAnswer}
@@ -49,6 +49,10 @@ lentBytes = 65536
 pub record Listed (s rows out rowsAfter outAfter : Bytes) (r : CountAnswer) : Type 0 where
   pub put : BothPut (outlineFor s) (listing s) rows out rowsAfter outAfter r
   pub enough : lentBytes ≤ length rows → lentBytes ≤ length out → countAnswer r ≡ accepted (length (listing s))
+
+-- n bytes stand at the start of a buffer
+abbrev pub Stands : ℕ → Bytes → Type 0
+Stands n out = (n ≤ length out) × (n ≡ length (take n out))
 
 -- an outline and a text that such buffers hold were put
 pub record BothShort (b t rows out rowsAfter outAfter : Bytes) (r : CountAnswer) : Type 0 where

@@ -4,11 +4,11 @@ mod text;
 ghost use Prim.Native.Nat.{_≤_};
 ghost use mathlib.Core.Path.{_≡_};
 ghost use lib.ListN.{length};
-ghost use Rattle.format.specs.declared.answer.CountAnswer.the-variants.{Refused};
+ghost use Rattle.format.specs.declared.answer.CountAnswer.the-variants.{Counted, Refused};
 ghost use Rattle.format.specs.File.{layout as File·layout};
 ghost use Rattle.format.specs.Listing.{mostInput, printed};
 ghost use Rattle.format.specs.Outcome.{accepted, refused as Outcome·refused, refusal};
-ghost use Rattle.listing.specs.Listing.{mostOutline, BothShort, Listed, Short};
+ghost use Rattle.listing.specs.Listing.{mostOutline, BothShort, Listed, Short, Stands};
 ghost use Rattle.listing.specs.Text.{fileText};
 use format::answer::CountAnswer;
 use format::answer::LayoutAnswer;
@@ -28,6 +28,17 @@ pub fn list(s: &[u8], rows: &mut [u8], out: &mut [u8]) -> CountAnswer
     match file::layout::read(s) {
         LayoutAnswer::Refused(r) => write_refused(r, out),
         LayoutAnswer::Accepted(l) => list_accepted(s, l, rows, out),
+    }
+}
+
+// The same with buffers that are long enough for every file.
+pub fn list_lent(s: &[u8], rows: &mut [u8; 65536], out: &mut [u8; 65536]) -> usize
+    ensures { λ r. ⌜ Listed (now (s .entry)) (now (rows .entry)) (now (out .entry)) (now (rows .exit)) (now (out .exit)) (Counted r) ⌝ }
+    ensures { λ r. ⌜ Stands r (now (out .exit)) ⌝ }
+{
+    match list(s, rows, out) {
+        CountAnswer::Refused(_) => 0,
+        CountAnswer::Counted(n) => n as usize,
     }
 }
 
