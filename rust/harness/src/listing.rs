@@ -1,6 +1,5 @@
 //! The listing of a file, from the proved functions' own answers.
 
-use crate::exports;
 use crate::loan::{result_in, result_of};
 use crate::numbers::{numbers_of, LAYOUT_NUMBERS, NUMBER_BYTES, ROW_NUMBERS};
 use asdf_second::{Refusal, ROW_LENGTH};
@@ -16,12 +15,12 @@ pub fn listing(file: &[u8]) -> String {
 /// The listing of a file that is accepted.
 fn accepted_listing(file: &[u8]) -> Result<String, Refusal> {
     let layout = result_in(LAYOUT_NUMBERS * NUMBER_BYTES, |out| {
-        exports::read(file, out)
+        asdf_sys::read(file, out)
     })?;
     let layout = numbers_of(&layout);
-    let rows = result_of(exports::count(file))?;
+    let rows = result_of(asdf_sys::count(file))?;
     let length = rows as usize * ROW_LENGTH;
-    let outline = result_in(length, |out| exports::outline(file, out))?;
+    let outline = result_in(length, |out| asdf_sys::outline(file, out))?;
     let lines = (0..rows).map(|number| row_line(&outline, number));
     let lines: String = lines.collect::<Result<_, Refusal>>()?;
     let [.., present, start, end, _, _, verdict] = layout[..] else {
@@ -40,7 +39,7 @@ fn accepted_listing(file: &[u8]) -> Result<String, Refusal> {
 /// The line of a row of an outline.
 fn row_line(outline: &[u8], number: u64) -> Result<String, Refusal> {
     let length = ROW_NUMBERS * NUMBER_BYTES;
-    let row = result_in(length, |out| exports::stored_row(outline, number, out))?;
+    let row = result_in(length, |out| asdf_sys::stored_row(outline, number, out))?;
     let words: Vec<String> = numbers_of(&row).iter().map(u64::to_string).collect();
     Ok(format!("{}\n", words.join(" ")))
 }
