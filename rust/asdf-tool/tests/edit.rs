@@ -7,6 +7,7 @@ use std::collections::BTreeSet;
 use std::fs;
 use std::os::unix::fs::{symlink, FileExt, MetadataExt, PermissionsExt};
 use std::path::{Path, PathBuf};
+use std::thread;
 
 /// The room of the files here takes more than one piece of writing.
 const SPACES: usize = 200_000;
@@ -305,4 +306,27 @@ fn longest_file_is_edited_without_being_copied() {
     assert_eq!(metadata.len(), length);
     // Blocks of 512 bytes: what was not edited is still a hole.
     assert!(metadata.blocks() < 1_000);
+}
+
+#[test]
+fn edits_at_the_same_time_come_one_after_another() {
+    let folder = folder("edit-together");
+    let file = folder.join("file");
+    fs::write(&file, file_with_room(SPACES)).unwrap();
+    let texts: Vec<String> = (0..8)
+        .map(|number| {
+            format!(
+                "%YAML 1.1\n---\n{}...\n",
+                format!("{number}\n").repeat(50_000)
+            )
+        })
+        .collect();
+    thread::scope(|scope| {
+        for text in &texts {
+            let edit = || run_with_input(&["edit", word(&file), "-"], text.as_bytes());
+            scope.spawn(move || assert_eq!(edit(), SILENT));
+        }
+    });
+    assert!(texts.contains(&printed(&["tree", word(&file)])));
+    assert_eq!(names(&folder), BTreeSet::from(["file".to_string()]));
 }
