@@ -1,6 +1,6 @@
 //! Outlines: sixteen bytes for each block, to be stored beside a file and read without it.
 
-use crate::answer::{answer, numbers, written_rows};
+use crate::answer::{answer, numbers, written, written_rows};
 use crate::Refusal;
 use asdf_sys::{ROW_BYTES, ROW_NUMBERS};
 use std::borrow::Cow;
@@ -75,6 +75,13 @@ impl<'a> Outline<'a> {
     pub fn read(stored: &'a [u8]) -> Result<Outline<'a>, Refusal> {
         answer(asdf_sys::stored_count(stored))?;
         let bytes = Cow::Borrowed(stored);
+        Ok(Outline { bytes })
+    }
+
+    /// The same outline with bytes of its own, written by the rows that were read: they are the same.
+    pub fn rewritten(&self) -> Result<Outline<'static>, Refusal> {
+        let rewrite = |out: &mut [u8]| asdf_sys::rewrite(&self.bytes, out);
+        let bytes = Cow::Owned(written(self.bytes.len(), rewrite)?);
         Ok(Outline { bytes })
     }
 

@@ -1,6 +1,6 @@
 //! All blocks of a file and of the files inside its blocks, in walking order.
 
-use crate::answer::{answer, numbers_of, written_rows};
+use crate::answer::{answer, numbers, numbers_of, written_rows};
 use crate::{Block, Refusal};
 use asdf_sys::{NUMBER_BYTES, RECORD_NUMBERS};
 use std::iter::Map;
@@ -87,6 +87,14 @@ impl<'a> IntoIterator for &'a Records {
 }
 
 impl Record {
+    /// The record of this number in walking order, if there is one.
+    ///
+    /// Every call walks the file anew; for all records, ask [`Records::read`] once.
+    pub fn read(file: &[u8], number: u64) -> Result<Option<Record>, Refusal> {
+        let numbers = numbers(|out| asdf_sys::record(file, number, out))?;
+        Ok(numbers.map(Record::from_numbers))
+    }
+
     /// The record that these numbers tell; each is promised to fit its field.
     fn from_numbers(numbers: [u64; RECORD_NUMBERS]) -> Record {
         let [depth, offset, state, number, place, block @ ..] = numbers;

@@ -134,7 +134,15 @@ fn records_are_the_same() {
         let told = expected.map(|records| records.iter().map(record).collect::<Vec<_>>());
         let found = Records::read(file).map(|records| records.iter().collect::<Vec<_>>());
         assert_eq!(found, told);
-        assert_eq!(row_count(file), told.map(|records| records.len() as u64));
+        assert_eq!(
+            row_count(file),
+            told.clone().map(|records| records.len() as u64)
+        );
+        let Ok(told) = told else { return };
+        for number in 0..=told.len() {
+            let record = told.get(number).copied();
+            assert_eq!(Record::read(file, number as u64), Ok(record));
+        }
     });
 }
 
@@ -149,7 +157,12 @@ fn outlines_and_their_rows_are_the_same() {
             .map(|outline| outline.rows().collect::<Vec<_>>());
         assert_eq!(found, told);
         let Ok(outline) = outline else { return };
-        assert_eq!(Outline::read(outline.as_bytes()), Ok(outline.clone()));
+        let stored = Outline::read(outline.as_bytes());
+        assert_eq!(stored, Ok(outline.clone()));
+        assert_eq!(
+            stored.and_then(|stored| stored.rewritten()),
+            Ok(outline.clone())
+        );
     });
 }
 

@@ -54,13 +54,19 @@ pub struct Kept {
 pub fn keep(target: &Target, room: Range<usize>, steps: &mut Steps) -> Result<(), Failure> {
     let part = beside(&target.path, UNFINISHED_SUFFIX);
     let path = beside(&target.path, SUFFIX);
-    write_part(target, room, &part, steps)
-        .and_then(|()| fs::rename(&part, &path))
-        .and_then(|()| {
-            steps.done();
-            sync_folder(&path)
-        })
-        .map_err(|error| Failure::at("cannot keep the old room in", &path, error))?;
+    let kept = write_part(target, room, &part, steps).and_then(|()| give_name(&part, &path, steps));
+    kept.map_err(|error| {
+        // What could not be written whole is of no use, and may be long.
+        let _ = fs::remove_file(&part);
+        Failure::at("cannot keep the old room in", &path, error)
+    })
+}
+
+/// Gives its own name to what is kept, and brings the name to the disk.
+fn give_name(part: &Path, path: &Path, steps: &mut Steps) -> io::Result<()> {
+    fs::rename(part, path)?;
+    steps.done();
+    sync_folder(path)?;
     steps.done();
     Ok(())
 }

@@ -20,6 +20,14 @@ pub fn is_standard(path: &Path) -> bool {
     path == Path::new(STANDARD)
 }
 
+/// What the input at a path is called.
+fn name(path: &Path) -> String {
+    match is_standard(path) {
+        true => "standard input".to_string(),
+        false => path.display().to_string(),
+    }
+}
+
 /// Bytes, and where they are from.
 pub struct Source {
     path: PathBuf,
@@ -58,9 +66,11 @@ impl Source {
             true => read(io::stdin(), enough),
             false => File::open(path).and_then(|file| bytes_of(file, enough)),
         };
-        let bytes = bytes.map_err(|error| Failure::at("cannot read", path, error))?;
-        let path = path.to_path_buf();
-        Ok(Source { path, bytes })
+        let failed = |error| Failure::system(format_args!("cannot read {}", name(path)), error);
+        Ok(Source {
+            bytes: bytes.map_err(failed)?,
+            path: path.to_path_buf(),
+        })
     }
 
     /// What a proved function says of these bytes, or the failure that tells its refusal.
@@ -70,10 +80,7 @@ impl Source {
 
     /// What the bytes are called.
     pub fn name(&self) -> String {
-        match is_standard(&self.path) {
-            true => "standard input".to_string(),
-            false => self.path.display().to_string(),
-        }
+        name(&self.path)
     }
 
     /// Whether these bytes are those of the file at a path.
