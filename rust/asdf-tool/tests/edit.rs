@@ -89,6 +89,12 @@ impl Case {
         }
     }
 
+    /// Nothing of an edit is left beside the file.
+    fn assert_nothing_beside(&self) {
+        let expected = BTreeSet::from(["file.asdf", "text"].map(String::from));
+        assert_eq!(names(self.file.parent().unwrap()), expected);
+    }
+
     /// After a stopped edit: the next call says so, and the old file comes back.
     fn assert_restorable(&self) {
         let before = self.bytes();
@@ -147,11 +153,7 @@ fn edit_changes_the_room_alone_and_leaves_nothing_beside() {
     let case = Case::new("edit-done");
     assert_eq!(case.edit(), SILENT);
     assert_eq!(case.state(), State::New);
-    let left = names(case.file.parent().unwrap());
-    assert_eq!(
-        left,
-        BTreeSet::from(["file.asdf", "text"].map(String::from))
-    );
+    case.assert_nothing_beside();
     assert_eq!(
         printed(&["tree", word(&case.file)]).as_bytes(),
         fs::read(&case.text).unwrap()
@@ -193,6 +195,7 @@ fn edit_stopped_at_any_step_leaves_the_old_file_the_new_one_or_a_restorable_one(
             State::KeptOld | State::KeptHalf | State::KeptNew => case.assert_restorable(),
         }
         assert!(matches!(case.state(), State::Old | State::New));
+        case.assert_nothing_beside();
     }
     assert_eq!(case.state(), State::New);
     use State::*;
