@@ -18,6 +18,7 @@ use Rattle.format.specs.Tree.{endLine, yamlLine, isStart, isDirective, c
 use Rattle.format.specs.Block.{block, isStreamed, flags}
 use Rattle.format.specs.Chain.{Chain, extent, tail, chain}
 use Rattle.format.specs.File.{file}
+use Rattle.format.specs.Lent.{writes}
 use Rattle.format.specs.IndexWriter.{indexFor}
 use Rattle.format.specs.Edit.{editTree, edit}
 use Rattle.format.proofs.OutcomeLaws.{choice}
@@ -33,9 +34,19 @@ numbered-bind (accepted a) f h k = k a
 numbered-bind (refused r) f h k = h
 
 -- a test, and what follows it
-pub numbered-need : {A : Type 0} (t : Bool) (n p : ℕ) (o : Outcome A) → eqb n 0 ≡ false → Numbered o → Numbered (_>>_ (need t n p) o)
+numbered-need : {A : Type 0} (t : Bool) (n p : ℕ) (o : Outcome A) → eqb n 0 ≡ false → Numbered o → Numbered (_>>_ (need t n p) o)
 numbered-need true n p o h k = k
 numbered-need false n p o h k = h
+
+-- a step, and a value for it
+pub numbered-done : {A B : Type 0} (o : Outcome A) (b : B) → Numbered o → Numbered (_>>_ o (accepted b))
+numbered-done (accepted a) b h = tt
+numbered-done (refused r) b h = h
+
+-- what is written to a buffer that may be too short
+pub numbered-writes : (result : Outcome Bytes) (out : Bytes) → Numbered result → Numbered (writes result out)
+unfolding writes
+numbered-writes result out h = search (numbered-bind, numbered-need)
 
 numbered-header-of : (v : Option Version) (e : ℕ) → Numbered (headerOf v e)
 unfolding headerOf
@@ -95,8 +106,8 @@ numbered-chain (suc k) i n t =
     choice Numbered (begins mark t) _ _
     (numbered-bind (block i n t) _ (numbered-block i n t)
     (λ b.
-      let others = numbered-chain k (i + 1) (n + extent b) (drop (extent b) t) in
-      search (numbered-bind, choice {A = Outcome Chain} Numbered (isStreamed (b .flags)), others)))
+    let others = numbered-chain k (i + 1) (n + extent b) (drop (extent b) t) in
+    search (numbered-bind, choice {A = Outcome Chain} Numbered (isStreamed (b .flags)), others)))
     (numbered-tail n t)
 
 numbered-file : (s : Bytes) → Numbered (file s)
