@@ -6,7 +6,8 @@ use Rattle.format.specs.declared.block.Block.{Block}
 use Rattle.format.specs.declared.block.Record.{Record}
 use Rattle.format.specs.declared.block.Inner.{Inner}
 use Rattle.format.specs.declared.block.Inner.the-variants.{Plain, Opened, Refused, TooDeep}
-use Rattle.format.specs.Bytes.{Bytes, toBytes}
+use Rattle.format.specs.declared.row.Row.{Row}
+use Rattle.format.specs.Bytes.{Bytes, toBytes, bit}
 use Rattle.format.specs.Outcome.{Outcome, accepted, _>>=_}
 use Rattle.format.specs.Nest.{records, recordAt}
 
@@ -31,6 +32,14 @@ innerFields TooDeep = 3 ∷ 0 ∷ 0 ∷ []
 -- depth, offset in the outermost file, the inner state, the block
 unfoldable pub recordFields : Record → List ℕ
 recordFields r = r .depth ∷ r .at .0 ∷ (innerFields (r .inner) ++ blockFields (r .block))
+
+-- of a row, in the order in which the program prints it: depth, ordinal, offset, header size, allocated, used, streamed, compressed,
+-- checksum, inner state
+abbrev pub rowFields : Row → List ℕ
+rowFields r =
+    r .depth ∷ r .ordinal ∷ r .at .0 ∷ r .«header_size» ∷ r .allocated ∷ r .used ∷ bit (r .streamed) ∷ bit (r .compressed) ∷ bit (r .checksum)
+    ∷ r .inner
+    ∷ []
 
 -- how many bytes a record takes
 abbrev pub recordBytes : ℕ
