@@ -8,21 +8,18 @@ use Rattle.format.specs.declared.answer.LayoutAnswer.{LayoutAnswer}
 use Rattle.format.specs.declared.answer.LayoutAnswer.the-variants as LayoutAnswer·is
 use Rattle.format.specs.declared.answer.BlockAnswer.{BlockAnswer}
 use Rattle.format.specs.declared.answer.BlockAnswer.the-variants as BlockAnswer·is
-use Rattle.format.specs.declared.answer.RecordAnswer.{RecordAnswer}
-use Rattle.format.specs.declared.answer.RecordAnswer.the-variants as RecordAnswer·is
 use Rattle.format.specs.declared.answer.RowAnswer.{RowAnswer}
 use Rattle.format.specs.declared.answer.RowAnswer.the-variants as RowAnswer·is
 use Rattle.format.specs.declared.block.Block.{Block}
-use Rattle.format.specs.declared.block.Record.{Record}
 use Rattle.format.specs.declared.layout.Layout.{Layout}
 use Rattle.format.specs.declared.refusal.Refusal.{Refusal}
 use Rattle.format.specs.declared.row.Row.{Row}
 use Rattle.format.specs.Bytes.{Bytes}
 use Rattle.format.specs.Outcome.{Outcome, accepted, refused}
 use Rattle.format.specs.File.{layout}
-use Rattle.format.specs.Answer.{layoutAnswer, blockAnswer, recordAnswer, rowAnswer}
-use Rattle.format.specs.Fields.{numberBytes, blockFields, recordFields, rowFields}
-use Rattle.asdf.specs.Export.{Exported, word, layoutFields, layoutBytes, foundBytes}
+use Rattle.format.specs.Answer.{layoutAnswer, blockAnswer, rowAnswer}
+use Rattle.format.specs.Fields.{numberBytes, blockFields, rowFields, foundNumbers, foundBytes}
+use Rattle.asdf.specs.Export.{Exported, word, layoutFields, layoutBytes}
 use Rattle.put.proofs.PutLaws.{placed-nothing}
 use Rattle.asdf.proofs.ExportLaws.{exported-refused, exported-placed}
 
@@ -42,19 +39,19 @@ module _ (s : Bytes) (a : LayoutAnswer) (read : layoutAnswer a ≡ layout s) whe
 module _ {A : Type 0} (fields : A → List ℕ) (result : Outcome (Option A)) where
   -- what is asked is refused
   found-refused : (r : Refusal) → result ≡ refused r → (out : Bytes) (w : ℕ) → w ≡ word (refused r) → Exported (foundBytes fields result) out out w
-  unfolding foundBytes
-  found-refused r e = exported-refused (foundBytes fields result) r (rw (foundBytes, e))
+  unfolding foundBytes foundNumbers
+  found-refused r e = exported-refused (foundBytes fields result) r (rw (e))
 
   -- there is none
   found-none : result ≡ accepted none → (out : Bytes) → Exported (foundBytes fields result) out out 0
-  unfolding foundBytes
-  found-none e out = rw (foundBytes, e) (exported-placed [] out (omega arith) out (placed-nothing out 0 (omega arith)) 0 refl)
+  unfolding foundBytes foundNumbers
+  found-none e out = rw (e) (exported-placed [] out (omega arith) out (placed-nothing out 0 (omega arith)) 0 refl)
 
   -- it is put
   found-put : (x : A) → result ≡ accepted (some x) → (ns : List ℕ) → ns ≡ fields x → (out after : Bytes) (w : ℕ)
       → Exported (accepted (numberBytes ns)) out after w → Exported (foundBytes fields result) out after w
-  unfolding foundBytes
-  found-put x e ns n out after w h = rw (foundBytes, e, ← n) h
+  unfolding foundBytes foundNumbers
+  found-put x e ns n out after w h = rw (e, ← n) h
 
 module _ (result : Outcome (Option Block)) (a : BlockAnswer) (read : blockAnswer a ≡ result) where
   -- of a block
@@ -71,22 +68,6 @@ module _ (result : Outcome (Option Block)) (a : BlockAnswer) (read : blockAnswer
       → Exported (accepted (numberBytes ns)) out after w → Exported (foundBytes blockFields result) out after w
   unfolding blockAnswer
   block-put b e = found-put blockFields result b (sym read ∙ ap blockAnswer e)
-
-module _ (result : Outcome (Option Record)) (a : RecordAnswer) (read : recordAnswer a ≡ result) where
-  -- of a record
-  pub record-refused : (r : Refusal) → a ≡ RecordAnswer·is.Refused r → (out : Bytes) (w : ℕ) → w ≡ word (refused r)
-      → Exported (foundBytes recordFields result) out out w
-  unfolding recordAnswer
-  record-refused r e = found-refused recordFields result r (sym read ∙ ap recordAnswer e)
-
-  pub record-none : a ≡ RecordAnswer·is.NoSuchBlock → (out : Bytes) → Exported (foundBytes recordFields result) out out 0
-  unfolding recordAnswer
-  record-none e = found-none recordFields result (sym read ∙ ap recordAnswer e)
-
-  pub record-put : (b : Record) → a ≡ RecordAnswer·is.Found b → (ns : List ℕ) → ns ≡ recordFields b → (out after : Bytes) (w : ℕ)
-      → Exported (accepted (numberBytes ns)) out after w → Exported (foundBytes recordFields result) out after w
-  unfolding recordAnswer
-  record-put b e = found-put recordFields result b (sym read ∙ ap recordAnswer e)
 
 module _ (result : Outcome (Option Row)) (a : RowAnswer) (read : rowAnswer a ≡ result) where
   -- of a row

@@ -78,9 +78,3 @@ unfoldable pub layoutBytes : Bytes → Outcome Bytes
 layoutBytes s = do
   l ← layout s
   accepted (numberBytes (layoutFields l))
-
--- the bytes of what is found, as these numbers; no bytes where there is none
-unfoldable pub foundBytes : {A : Type 0} → (A → List ℕ) → Outcome (Option A) → Outcome Bytes
-foundBytes fields result = do
-  found ← result
-  accepted (elim found [ none ↦ [] | some x ↦ numberBytes (fields x) ])

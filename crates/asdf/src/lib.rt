@@ -4,14 +4,13 @@ mod fields;
 mod word;
 
 ghost use mathlib.Core.Path.{_≡_};
-ghost use Rattle.format.specs.Fields.{blockFields, recordFields, rowFields, recordTable};
+ghost use Rattle.format.specs.Fields.{blockFields, recordFields, rowFields, foundBytes, recordTable};
 ghost use Rattle.format.specs.File.{blockAt};
 ghost use Rattle.format.specs.Nest.{recordCount, recordAt};
 ghost use Rattle.format.specs.Outline.{outline as Outline·outline, storedCount, storedAt, rewritten};
-ghost use Rattle.asdf.specs.Export.{word as Export·word, Exported, IndexExported, EditExported, layoutBytes, foundBytes};
+ghost use Rattle.asdf.specs.Export.{word as Export·word, Exported, IndexExported, EditExported, layoutBytes};
 use format::answer::BlockAnswer;
 use format::answer::LayoutAnswer;
-use format::answer::RecordAnswer;
 use format::answer::RowAnswer;
 
 // The layout of a file: 88 bytes.
@@ -64,14 +63,7 @@ pub extern "C" fn asdf_outline(file: &[u8], out: &mut [u8]) -> u64
 pub extern "C" fn asdf_record(file: &[u8], k: u64, out: &mut [u8]) -> u64
     ensures { λ r. ⌜ Exported (foundBytes recordFields (recordAt (now (file .entry)) k)) (now (out .entry)) (now (out .exit)) r ⌝ }
 {
-    match nest::record(file, k) {
-        RecordAnswer::Refused(r) => word::refused(r),
-        RecordAnswer::NoSuchBlock => 0,
-        RecordAnswer::Found(r) => {
-            let numbers = put::fields::record_fields(r);
-            word::put_numbers(out, &numbers)
-        }
-    }
+    word::counted(nest::record(file, k, out))
 }
 
 // The records of all blocks in walking order: 120 bytes for each.
