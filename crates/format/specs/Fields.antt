@@ -6,9 +6,10 @@ use Rattle.format.specs.declared.block.Block.{Block}
 use Rattle.format.specs.declared.block.Record.{Record}
 use Rattle.format.specs.declared.block.Inner.{Inner}
 use Rattle.format.specs.declared.block.Inner.the-variants.{Plain, Opened, Refused, TooDeep}
-use Rattle.format.specs.Bytes.{Bytes, toBytes}
+use Rattle.format.specs.declared.row.Row.{Row}
+use Rattle.format.specs.Bytes.{Bytes, toBytes, bit}
 use Rattle.format.specs.Outcome.{Outcome, accepted, _>>=_}
-use Rattle.format.specs.Nest.{records, recordAt}
+use Rattle.format.specs.Nest.{records}
 
 -- numbers of eight bytes each, the most significant byte first
 unfoldable pub numberBytes : List ℕ → Bytes
@@ -32,6 +33,14 @@ innerFields TooDeep = 3 ∷ 0 ∷ 0 ∷ []
 unfoldable pub recordFields : Record → List ℕ
 recordFields r = r .depth ∷ r .at .0 ∷ (innerFields (r .inner) ++ blockFields (r .block))
 
+-- of a row, in the order in which the program prints it: depth, ordinal, offset, header size, allocated, used, streamed, compressed,
+-- checksum, inner state
+abbrev pub rowFields : Row → List ℕ
+rowFields r =
+    r .depth ∷ r .ordinal ∷ r .at .0 ∷ r .«header_size» ∷ r .allocated ∷ r .used ∷ bit (r .streamed) ∷ bit (r .compressed) ∷ bit (r .checksum)
+    ∷ r .inner
+    ∷ []
+
 -- how many bytes a record takes
 abbrev pub recordBytes : ℕ
 recordBytes = 120
@@ -45,13 +54,12 @@ recordTable s = do
   rs ← records s
   accepted (flatMap encodeRecord rs)
 
--- the bytes of a record, or none where there is none
-unfoldable pub foundRecord : Option Record → Bytes
-foundRecord none = []
-foundRecord (some r) = encodeRecord r
+-- the bytes of what is found, as these numbers; none where there is none
+unfoldable pub foundNumbers : {A : Type 0} → (A → List ℕ) → Option A → Bytes
+foundNumbers fields none = []
+foundNumbers fields (some x) = numberBytes (fields x)
 
--- the bytes of record number k
-unfoldable pub recordBytesAt : Bytes → ℕ → Outcome Bytes
-recordBytesAt s k = do
-  r ← recordAt s k
-  accepted (foundRecord r)
+unfoldable pub foundBytes : {A : Type 0} → (A → List ℕ) → Outcome (Option A) → Outcome Bytes
+foundBytes fields result = do
+  found ← result
+  accepted (foundNumbers fields found)

@@ -24,7 +24,7 @@ use Rattle.format.specs.Bytes.{Bytes, wrapped}
 use Rattle.format.specs.Outcome.{Outcome, accepted, refused, refusal}
 use Rattle.format.specs.File.{mostBytes, layout, firstBlock}
 use Rattle.format.specs.Nest.{deepest, recordsFrom, records, recordCount, recordAt}
-use Rattle.format.specs.Fields.{encodeRecord, recordTable, foundRecord, recordBytesAt}
+use Rattle.format.specs.Fields.{recordFields, encodeRecord, recordTable, foundNumbers, foundBytes}
 use Rattle.format.specs.Lent.{placed}
 use Rattle.format.specs.Outline.{rowOf, encodeRow, outlineOf, rows, outline}
 use Rattle.format.proofs.OutcomeLaws.{accepted-holds}
@@ -98,15 +98,15 @@ put-behind w n out (r ∷ rs) few h =
 
 -- what is put where one record is wanted
 put-one : (w n : ℕ) (out : Bytes) (rs : List Record) → n + length rs < 2 ^ 64 → n ≤ w
-    → putAll (One w) n out rs ≡ placed out 0 (foundRecord (getElem? rs (w - n)))
-unfolding putAll foundRecord
+    → putAll (One w) n out rs ≡ placed out 0 (foundNumbers recordFields (getElem? rs (w - n)))
+unfolding putAll foundNumbers encodeRecord
 put-one w n out [] few h = placed-nothing out 0 (omega arith)
 put-one w n out (r ∷ rs) few h = by-test (eqb w n) refl (λ out. put-one w (wrapped n 1) out rs)
   where
     by-test : (t : Bool) → eqb w n ≡ t
         → ((out : Bytes) → wrapped n 1 + length rs < 2 ^ 64 → wrapped n 1 ≤ w
-        → putAll (One w) (wrapped n 1) out rs ≡ placed out 0 (foundRecord (getElem? rs (w - wrapped n 1))))
-        → putAll (One w) n out (r ∷ rs) ≡ placed out 0 (foundRecord (getElem? (r ∷ rs) (w - n)))
+        → putAll (One w) (wrapped n 1) out rs ≡ placed out 0 (foundNumbers recordFields (getElem? rs (w - wrapped n 1))))
+        → putAll (One w) n out (r ∷ rs) ≡ placed out 0 (foundNumbers recordFields (getElem? (r ∷ rs) (w - n)))
     by-test true e rest =
         let same = eqb-true w n e in
         let first : w - n ≡ 0 = omega arith in
@@ -123,8 +123,8 @@ no-record (r ∷ rs) zero h = absurd (omega arith)
 no-record (r ∷ rs) (suc k) h = no-record rs k (omega arith)
 
 -- before it there is one
-record-there : (rs : List Record) (k : ℕ) → k < length rs → length (foundRecord (getElem? rs k)) ≡ 120
-unfolding foundRecord
+record-there : (rs : List Record) (k : ℕ) → k < length rs → length (foundNumbers recordFields (getElem? rs k)) ≡ 120
+unfolding foundNumbers encodeRecord
 record-there [] k h = absurd (omega arith)
 record-there (r ∷ rs) zero h = record-length r
 record-there (r ∷ rs) (suc k) h = record-there rs k (omega arith)
@@ -141,39 +141,39 @@ module _ (s : Bytes) (l : Layout) (read : layout s ≡ accepted l) (out after : 
     abbrev found : Option Record
     found = getElem? (allRecords s) w
 
-    one-is : recordBytesAt s w ≡ accepted (foundRecord found)
-    unfolding recordBytesAt recordAt
-    one-is = rw (recordBytesAt, recordAt, accepted-all s l read)
+    one-is : foundBytes recordFields (recordAt s w) ≡ accepted (foundNumbers recordFields found)
+    unfolding foundBytes recordAt
+    one-is = rw (foundBytes, recordAt, accepted-all s l read)
 
-    one-put : after ≡ placed out 0 (foundRecord found)
+    one-put : after ≡ placed out 0 (foundNumbers recordFields found)
     one-put =
         let few = all-few s l read in
         d .buffer ∙ put-one w 0 out (allRecords s) (omega arith) (omega arith) ∙ rw (sub-zero w)
 
     -- there is none
-    pub one-none : x ≤ w → Written (recordBytesAt s w) out after (CountAnswer·is.Counted 0)
-    unfolding foundRecord
+    pub one-none : x ≤ w → Written (foundBytes recordFields (recordAt s w)) out after (CountAnswer·is.Counted 0)
+    unfolding foundNumbers encodeRecord
     one-none h =
         let none-there : found ≡ none = no-record (allRecords s) w (omega (arith, counted (One w) d)) in
-        let nothing : foundRecord found ≡ [] = rw none-there in
+        let nothing : foundNumbers recordFields found ≡ [] = rw none-there in
         written-placed _ out [] (one-is ∙ ap accepted nothing) (omega arith) after (one-put ∙ rw nothing) 0 refl
 
     module _ (h : w < x) where
-      one-length : length (foundRecord found) ≡ 120
+      one-length : length (foundNumbers recordFields found) ≡ 120
       one-length = record-there (allRecords s) w (omega (arith, counted (One w) d))
 
       one-room : length after ≡ length out
-      one-room = ap length one-put ∙ placed-length out 0 (foundRecord found)
+      one-room = ap length one-put ∙ placed-length out 0 (foundNumbers recordFields found)
 
       -- it does not fit
-      pub one-short : length after < 120 → (a : CountAnswer) → a ≡ CountAnswer·is.Refused (refusal 21 0) → Written (recordBytesAt s w) out after a
+      pub one-short : length after < 120 → (a : CountAnswer) → a ≡ CountAnswer·is.Refused (refusal 21 0) → Written (foundBytes recordFields (recordAt s w)) out after a
       one-short g a e =
-          let same : after ≡ out = one-put ∙ sym (placed-none out 0 (foundRecord found) (omega (arith, one-length, one-room))) in
-          rw same (written-short _ out (foundRecord found) one-is (omega (arith, one-length, one-room)) a e)
+          let same : after ≡ out = one-put ∙ sym (placed-none out 0 (foundNumbers recordFields found) (omega (arith, one-length, one-room))) in
+          rw same (written-short _ out (foundNumbers recordFields found) one-is (omega (arith, one-length, one-room)) a e)
 
       -- it is put
-      pub one-written : 120 ≤ length after → Written (recordBytesAt s w) out after (CountAnswer·is.Counted 120)
-      one-written g = written-placed _ out (foundRecord found) one-is (omega (arith, one-length, one-room)) after one-put 120 (sym one-length)
+      pub one-written : 120 ≤ length after → Written (foundBytes recordFields (recordAt s w)) out after (CountAnswer·is.Counted 120)
+      one-written g = written-placed _ out (foundNumbers recordFields found) one-is (omega (arith, one-length, one-room)) after one-put 120 (sym one-length)
 
 -- an entry has its width
 entry-length : (form : Form) (r : Record) → 1 ≤ width form → length (encoded form r) ≡ width form
@@ -267,9 +267,9 @@ module _ (s : Bytes) (a : LayoutAnswer) (read : layoutAnswer a ≡ layout s) whe
     unfolding countAnswer recordCount
     count-refused = rw (recordCount, refused-as r e)
 
-    pub record-refused : (w : ℕ) (out : Bytes) → Written (recordBytesAt s w) out out (CountAnswer·is.Refused r)
-    unfolding recordBytesAt recordAt
-    record-refused w out = written-refused (recordBytesAt s w) out r (rw (recordBytesAt, recordAt, refused-as r e)) _ refl
+    pub record-refused : (w : ℕ) (out : Bytes) → Written (foundBytes recordFields (recordAt s w)) out out (CountAnswer·is.Refused r)
+    unfolding foundBytes recordAt
+    record-refused w out = written-refused (foundBytes recordFields (recordAt s w)) out r (rw (foundBytes, recordAt, refused-as r e)) _ refl
 
     pub outline-refused : (out : Bytes) → Written (outline s) out out (CountAnswer·is.Refused r)
     unfolding outline rows

@@ -6,9 +6,9 @@ ghost use Prim.Native.Nat.{_≤_};
 ghost use mathlib.Core.Path.{_≡_};
 ghost use Rattle.format.specs.declared.answer.CountAnswer.the-variants.{Refused};
 ghost use Rattle.format.specs.Answer.{countAnswer};
-ghost use Rattle.format.specs.Fields.{recordTable, recordBytesAt};
+ghost use Rattle.format.specs.Fields.{recordFields, foundBytes, recordTable};
 ghost use Rattle.format.specs.File.{layout as File·layout};
-ghost use Rattle.format.specs.Nest.{recordCount};
+ghost use Rattle.format.specs.Nest.{recordCount, recordAt};
 ghost use Rattle.format.specs.Outcome.{accepted, refusal};
 ghost use Rattle.format.specs.Outline.{outline as Outline·outline};
 ghost use Rattle.put.specs.Written.{Written};
@@ -54,7 +54,7 @@ pub fn records(s: &[u8], out: &mut [u8]) -> CountAnswer
 
 // Writes the record of this number, in 120 bytes, or nothing where there is none.
 pub fn record(s: &[u8], wanted: u64, out: &mut [u8]) -> CountAnswer
-    ensures { λ r. ⌜ Written (recordBytesAt (now (s .entry)) wanted) (now (out .entry)) (now (out .exit)) r ⌝ }
+    ensures { λ r. ⌜ Written (foundBytes recordFields (recordAt (now (s .entry)) wanted)) (now (out .entry)) (now (out .exit)) r ⌝ }
 {
     match file::layout::read(s) {
         LayoutAnswer::Refused(r) => CountAnswer::Refused(r),
@@ -74,7 +74,7 @@ fn count_in(s: &[u8], l: Layout) -> u64
 // Writes the record of this number of an accepted file. One walk does: where the record does not fit, the walk changes nothing.
 fn write_one(s: &[u8], l: Layout, wanted: u64, out: &mut [u8]) -> CountAnswer
     requires { ⌜ File·layout (now s) ≡ accepted l ⌝ }
-    ensures { λ r. ⌜ Written (recordBytesAt (now (s .entry)) wanted) (now (out .entry)) (now (out .exit)) r ⌝ }
+    ensures { λ r. ⌜ Written (foundBytes recordFields (recordAt (now (s .entry)) wanted)) (now (out .entry)) (now (out .exit)) r ⌝ }
 {
     let n = walk::walk_all(s, l, Form::One(wanted), out);
     if n <= wanted {
