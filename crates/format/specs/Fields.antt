@@ -1,6 +1,7 @@
 -- What is reported of a block as numbers of eight bytes each: the fixed width in which records are put into a lent buffer.
 use Prim.Native.Nat.{ℕ}
 use mathlib.Core.List.{List, [], _∷_, _++_, flatMap}
+use mathlib.Core.Option.{Option, none, some}
 use Rattle.format.specs.declared.block.Block.{Block}
 use Rattle.format.specs.declared.block.Record.{Record}
 use Rattle.format.specs.declared.block.Inner.{Inner}
@@ -8,7 +9,7 @@ use Rattle.format.specs.declared.block.Inner.the-variants.{Plain, Opened
 use Rattle.format.specs.declared.row.Row.{Row}
 use Rattle.format.specs.Bytes.{Bytes, toBytes, bit}
 use Rattle.format.specs.Outcome.{Outcome, accepted, _>>=_}
-use Rattle.format.specs.Nest.{records}
+use Rattle.format.specs.Nest.{records, recordAt}
 
 -- numbers of eight bytes each, the most significant byte first
 unfoldable pub numberBytes : List ℕ → Bytes
@@ -52,3 +53,14 @@ unfoldable pub recordTable : Bytes → Outcome Bytes
 recordTable s = do
   rs ← records s
   accepted (flatMap encodeRecord rs)
+
+-- the bytes of a record, or none where there is none
+unfoldable pub foundRecord : Option Record → Bytes
+foundRecord none = []
+foundRecord (some r) = encodeRecord r
+
+-- the bytes of record number k
+unfoldable pub recordBytesAt : Bytes → ℕ → Outcome Bytes
+recordBytesAt s k = do
+  r ← recordAt s k
+  accepted (foundRecord r)
