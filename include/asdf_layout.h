@@ -157,7 +157,7 @@ uint64_t asdf_outline(const uint8_t *file, size_t file_length, uint8_t *out, siz
 /* The record of the k-th row, from 0: ASDF_RECORD_BYTES, or 0 where there is none. Each call walks anew. */
 uint64_t asdf_record(const uint8_t *file, size_t file_length, uint64_t k, uint8_t *out, size_t out_length);
 
-/* The records of all rows in walking order, by one walk: ASDF_RECORD_BYTES for each. */
+/* The records of all rows in walking order, by one call: ASDF_RECORD_BYTES for each. */
 uint64_t asdf_records(const uint8_t *file, size_t file_length, uint8_t *out, size_t out_length);
 
 /* The text of a block index, to stand directly behind the last block: at most ASDF_LONGEST_INDEX bytes. */

@@ -6,10 +6,10 @@ use mathlib.Core.Path.{_≡_, refl, sym, ap, _∙_}
 use mathlib.Core.Bool.{Bool, true, false}
 use mathlib.Core.List.{List, [], _∷_, _++_, map, flatMap}
 use mathlib.Core.Option.{Option, none, some}
-use lib.ListN.{length, getElem?, length-append}
+use lib.ListN.{length, take, getD, getElem?, length-append}
 use lib.Dec.{eqb}
 use borrow.Author.Tests.{leb-true, eqb-true, eqb-false, eq-eqb, ne-eqb}
-use mir.Syntax.{w64}
+use mir.Syntax.{w8, w64}
 use mir.Val.{Fits}
 use Rattle.format.specs.declared.answer.CountAnswer.{CountAnswer}
 use Rattle.format.specs.declared.answer.CountAnswer.the-variants as CountAnswer·is
@@ -28,13 +28,15 @@ use Rattle.format.specs.Fields.{recordFields, encodeRecord, recordTable, foundN
 use Rattle.format.specs.Lent.{placed}
 use Rattle.format.specs.Outline.{rowOf, encodeRow, outlineOf, rows, outline}
 use Rattle.format.proofs.OutcomeLaws.{accepted-holds}
+use Rattle.format.proofs.OutlineLaws.{read-back}
 use Rattle.format.proofs.RowLaws.{encoded-length}
 use Rattle.put.specs.Written.{Written}
 use Rattle.put.proofs.PutLaws.{placed-nothing, placed-none, placed-length, placed-append}
-use Rattle.put.proofs.WrittenLaws.{written-refused, written-short, written-placed}
+use Rattle.put.proofs.WrittenLaws.{written-refused, written-short, written-placed, written-taken}
 use Rattle.nest.specs.declared.sink.Form.{Form}
 use Rattle.nest.specs.declared.sink.Form.the-variants.{Count, Rows, Table, One}
 use Rattle.nest.specs.Sink.{encoded, width, entries, entry, numberBehind, putAll, Delivered}
+use Rattle.nest.specs.Promise.{OutlineWritten}
 use Rattle.nest.specs.Walk.{recordsOf, allRecords}
 use Rattle.nest.proofs.SinkLaws.{record-length}
 use Rattle.nest.proofs.BlocksLaws.{records-few}
@@ -254,6 +256,14 @@ rows-entries (r ∷ rs) = ap (λ (b : Bytes). encodeRow (rowOf r) ++ b) (rows-en
 
 -- the answers of the public functions
 module _ (s : Bytes) (a : LayoutAnswer) (read : layoutAnswer a ≡ layout s) where
+  -- what is written of an outline reads back
+  back : ((i : ℕ) → Fits w8 (getD s i 0)) → (out after : Bytes) (x : CountAnswer) → Written (outline s) out after x → OutlineWritten s out after x
+  back known out after x w =
+      record {
+        written = w;
+        reads-back = λ n e. let t = written-taken (outline s) out after n (rw e at w) in read-back s (take n after) (λ i. known i .fits) (t .is);
+      }
+
   refused-as : (r : Refusal) → a ≡ LayoutAnswer·is.Refused r → records s ≡ refused r
   unfolding layoutAnswer
   refused-as r e = records-refused s r (sym read ∙ ap layoutAnswer e)
@@ -271,9 +281,9 @@ module _ (s : Bytes) (a : LayoutAnswer) (read : layoutAnswer a ≡ layout s) whe
     unfolding foundBytes recordAt
     record-refused w out = written-refused (foundBytes recordFields (recordAt s w)) out r (rw (foundBytes, recordAt, refused-as r e)) _ refl
 
-    pub outline-refused : (out : Bytes) → Written (outline s) out out (CountAnswer·is.Refused r)
+    pub outline-refused : ((i : ℕ) → Fits w8 (getD s i 0)) → (out : Bytes) → OutlineWritten s out out (CountAnswer·is.Refused r)
     unfolding outline rows
-    outline-refused out = written-refused (outline s) out r (rw (outline, rows, refused-as r e)) _ refl
+    outline-refused known out = back known out out _ (written-refused (outline s) out r (rw (outline, rows, refused-as r e)) _ refl)
 
     pub table-refused : (out : Bytes) → Written (recordTable s) out out (CountAnswer·is.Refused r)
     unfolding recordTable
@@ -284,10 +294,11 @@ module _ (s : Bytes) (a : LayoutAnswer) (read : layoutAnswer a ≡ layout s) whe
     unfolding countAnswer recordCount
     count-accepted n c = rw (recordCount, accepted-all s l (accepted-as l e), c)
 
-    pub outline-written : (out after : Bytes) (x : CountAnswer) → Written (accepted (entries Rows (allRecords s))) out after x
-        → Written (outline s) out after x
+    pub outline-written : ((i : ℕ) → Fits w8 (getD s i 0)) → (out after : Bytes) (x : CountAnswer)
+        → Written (accepted (entries Rows (allRecords s))) out after x → OutlineWritten s out after x
     unfolding outline rows entries
-    outline-written out after x w = rw (outline, rows, accepted-all s l (accepted-as l e), rows-entries (allRecords s)) w
+    outline-written known out after x w =
+        back known out after x (rw (outline, rows, accepted-all s l (accepted-as l e), rows-entries (allRecords s)) w)
 
     pub table-written : (out after : Bytes) (x : CountAnswer) → Written (accepted (entries Table (allRecords s))) out after x
         → Written (recordTable s) out after x

@@ -10,9 +10,9 @@ ghost use Rattle.format.specs.Fields.{recordFields, foundBytes, recordTable};
 ghost use Rattle.format.specs.File.{layout as File·layout};
 ghost use Rattle.format.specs.Nest.{recordCount, recordAt};
 ghost use Rattle.format.specs.Outcome.{accepted, refusal};
-ghost use Rattle.format.specs.Outline.{outline as Outline·outline};
 ghost use Rattle.put.specs.Written.{Written};
 ghost use lib.ListN.{length};
+ghost use Rattle.nest.specs.Promise.{OutlineWritten};
 ghost use Rattle.nest.specs.Walk.{allRecords};
 ghost use Rattle.nest.specs.Sink.{entries, width};
 use crate::sink::Form;
@@ -34,7 +34,7 @@ pub fn count(s: &[u8]) -> CountAnswer
 
 // Writes the outline of a file: a row of sixteen bytes for each block.
 pub fn outline(s: &[u8], out: &mut [u8]) -> CountAnswer
-    ensures { λ r. ⌜ Written (Outline·outline (now (s .entry))) (now (out .entry)) (now (out .exit)) r ⌝ }
+    ensures { λ r. ⌜ OutlineWritten (now (s .entry)) (now (out .entry)) (now (out .exit)) r ⌝ }
 {
     match file::layout::read(s) {
         LayoutAnswer::Refused(r) => CountAnswer::Refused(r),

@@ -19,7 +19,7 @@ pub(crate) fn written(most: usize, ask: impl FnOnce(&mut [u8]) -> u64) -> Result
     Ok(out)
 }
 
-/// All rows of a file, of so many bytes each, by one walk of usual files; the rows of others are counted first.
+/// All rows of a file, of so many bytes each, by one call for usual files; the rows of others are counted first.
 pub(crate) fn written_rows(
     file: &[u8],
     row_bytes: usize,

@@ -58,7 +58,7 @@ pub struct Records {
 }
 
 impl Records {
-    /// Walks a file and the files inside once; where there are more than 64 rows, once more to count them.
+    /// All records by one call; where there are more than 64, their number is asked for first.
     pub fn read(file: &[u8]) -> Result<Records, Refusal> {
         let bytes = written_rows(file, RECORD_BYTES, asdf_sys::records)?;
         Ok(Records { bytes })
