@@ -6,7 +6,7 @@
 use std::ffi::{c_int, c_void};
 use std::fs::File;
 use std::io;
-use std::ops::{Deref, DerefMut};
+use std::ops::Deref;
 use std::os::fd::AsRawFd;
 use std::ptr::null_mut;
 use std::slice;
@@ -31,48 +31,63 @@ const MAP_ANONYMOUS: c_int = 0x20;
 const MAP_NORESERVE: c_int = 0x4000;
 const NO_FILE: c_int = -1;
 
-/// Mapped bytes, to be read.
+/// Mapped bytes. They can be read; to be changed they are lent. What is changed takes memory, and no file sees it.
 pub struct Map {
-    stretch: Stretch,
-}
-
-/// Mapped bytes that may be changed. What is changed takes memory, and no file sees it.
-pub struct MapMut {
-    stretch: Stretch,
+    /// Nowhere where there are no bytes, since the system makes no such map.
+    start: *mut c_void,
+    length: usize,
 }
 
 impl Map {
     /// The bytes of a file.
     pub fn of_file(file: &File) -> io::Result<Map> {
-        let stretch = Stretch::of_file(file, PROT_READ)?;
-        Ok(Map { stretch })
-    }
-}
-
-impl MapMut {
-    /// The bytes of a file, copied where they are changed.
-    pub fn of_file(file: &File) -> io::Result<MapMut> {
-        let stretch = Stretch::of_file(file, PROT_READ | PROT_WRITE)?;
-        Ok(MapMut { stretch })
+        let length = usize::try_from(file.metadata()?.len()).map_err(io::Error::other)?;
+        Map::new(length, MAP_PRIVATE | MAP_NORESERVE, file.as_raw_fd())
     }
 
-    /// So many zeros; only what is changed takes memory.
-    pub fn of_zeros(length: usize) -> io::Result<MapMut> {
-        let stretch = Stretch::new(
-            length,
-            PROT_READ | PROT_WRITE,
-            MAP_PRIVATE | MAP_ANONYMOUS | MAP_NORESERVE,
-            NO_FILE,
-        )?;
-        Ok(MapMut { stretch })
+    /// So many zeros.
+    pub fn of_zeros(length: usize) -> io::Result<Map> {
+        let flags = MAP_PRIVATE | MAP_ANONYMOUS | MAP_NORESERVE;
+        Map::new(length, flags, NO_FILE)
     }
 
-    /// The same bytes, which nobody can change any more: the system ends a process that tries to.
-    pub fn read_only(self) -> io::Result<Map> {
-        self.stretch.protect(PROT_READ)?;
-        Ok(Map {
-            stretch: self.stretch,
-        })
+    /// A new map.
+    fn new(length: usize, flags: c_int, file: c_int) -> io::Result<Map> {
+        if length == 0 {
+            let start = null_mut();
+            return Ok(Map { start, length });
+        }
+        // SAFETY: a new map at an address that the system chooses touches no memory in use.
+        let start = unsafe { mmap(null_mut(), length, PROT_READ, flags, file, 0) };
+        // Failure is the address of all ones.
+        if start as isize == -1 {
+            return Err(io::Error::last_os_error());
+        }
+        Ok(Map { start, length })
+    }
+
+    /// The bytes to be changed.
+    pub fn lend(&mut self) -> io::Result<&mut [u8]> {
+        self.allow(PROT_READ | PROT_WRITE)?;
+        if self.length == 0 {
+            return Ok(&mut []);
+        }
+        // SAFETY: a map of this length begins there, is writable now, and is lent with `self` alone.
+        Ok(unsafe { slice::from_raw_parts_mut(self.start.cast(), self.length) })
+    }
+
+    /// After bytes were lent: the system ends a process that writes to them again without that.
+    pub fn protect(&mut self) -> io::Result<()> {
+        self.allow(PROT_READ)
+    }
+
+    /// Says what may be done with the bytes; they are always readable.
+    fn allow(&mut self, protection: c_int) -> io::Result<()> {
+        // SAFETY: the map has this length and is ours alone, and no slice of it is lent now.
+        match unsafe { mprotect(self.start, self.length, protection) } {
+            0 => Ok(()),
+            _ => Err(io::Error::last_os_error()),
+        }
     }
 }
 
@@ -80,70 +95,6 @@ impl Deref for Map {
     type Target = [u8];
 
     fn deref(&self) -> &[u8] {
-        self.stretch.bytes()
-    }
-}
-
-impl Deref for MapMut {
-    type Target = [u8];
-
-    fn deref(&self) -> &[u8] {
-        self.stretch.bytes()
-    }
-}
-
-impl DerefMut for MapMut {
-    fn deref_mut(&mut self) -> &mut [u8] {
-        let Stretch { start, length } = self.stretch;
-        if length == 0 {
-            return &mut [];
-        }
-        // SAFETY: a map of this length begins there, is writable, and is lent with `self` alone.
-        unsafe { slice::from_raw_parts_mut(start.cast(), length) }
-    }
-}
-
-/// Where a map is; one of no bytes is nowhere, since the system makes none.
-struct Stretch {
-    start: *mut c_void,
-    length: usize,
-}
-
-impl Stretch {
-    /// A map of a whole file.
-    fn of_file(file: &File, protection: c_int) -> io::Result<Stretch> {
-        let length = usize::try_from(file.metadata()?.len()).map_err(io::Error::other)?;
-        let flags = MAP_PRIVATE | MAP_NORESERVE;
-        Stretch::new(length, protection, flags, file.as_raw_fd())
-    }
-
-    /// A new map.
-    fn new(length: usize, protection: c_int, flags: c_int, file: c_int) -> io::Result<Stretch> {
-        if length == 0 {
-            let start = null_mut();
-            return Ok(Stretch { start, length });
-        }
-        // SAFETY: a new map at an address that the system chooses touches no memory in use.
-        let start = unsafe { mmap(null_mut(), length, protection, flags, file, 0) };
-        // Failure is the address of all ones.
-        if start as isize == -1 {
-            return Err(io::Error::last_os_error());
-        }
-        Ok(Stretch { start, length })
-    }
-
-    /// Sets what may be done with the bytes.
-    fn protect(&self, protection: c_int) -> io::Result<()> {
-        // SAFETY: the map is ours alone, and no slice of it is lent while it is handed from its old owner to its new one.
-        let status = unsafe { mprotect(self.start, self.length, protection) };
-        match status {
-            0 => Ok(()),
-            _ => Err(io::Error::last_os_error()),
-        }
-    }
-
-    /// The bytes.
-    fn bytes(&self) -> &[u8] {
         if self.length == 0 {
             return &[];
         }
@@ -152,7 +103,7 @@ impl Stretch {
     }
 }
 
-impl Drop for Stretch {
+impl Drop for Map {
     fn drop(&mut self) {
         if self.length != 0 {
             // SAFETY: the map was made with this length, and every slice of it is gone.
@@ -180,8 +131,8 @@ mod tests {
     #[test]
     fn change_is_seen_in_its_own_map_only() -> io::Result<()> {
         let file = this_file()?;
-        let mut changed = MapMut::of_file(&file)?;
-        changed[0] = b'!';
+        let mut changed = Map::of_file(&file)?;
+        changed.lend()?[0] = b'!';
         assert_eq!(changed[..2], *b"!/");
         assert_eq!(Map::of_file(&file)?[..2], *b"//");
         Ok(())
@@ -189,18 +140,19 @@ mod tests {
 
     #[test]
     fn zeros_hold_what_is_put_into_them() -> io::Result<()> {
-        let mut map = MapMut::of_zeros(10_000)?;
-        map[9_998..].copy_from_slice(b"yz");
-        let map = map.read_only()?;
+        let mut map = Map::of_zeros(10_000)?;
+        map.lend()?[9_998..].copy_from_slice(b"yz");
+        map.protect()?;
         assert_eq!(map[..], [&[0; 9_998][..], b"yz"].concat());
         Ok(())
     }
 
     #[test]
     fn no_bytes_are_a_map_too() -> io::Result<()> {
-        let mut empty = MapMut::of_file(&File::open("/dev/null")?)?;
-        assert_eq!(empty.deref_mut(), b"");
-        assert_eq!(empty.read_only()?[..], b""[..]);
+        let mut empty = Map::of_file(&File::open("/dev/null")?)?;
+        assert_eq!(empty.lend()?, b"");
+        empty.protect()?;
+        assert_eq!(empty[..], b""[..]);
         Ok(())
     }
 }

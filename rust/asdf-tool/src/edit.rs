@@ -6,8 +6,6 @@ use crate::source::Source;
 use crate::steps::Steps;
 use crate::target::Target;
 use asdf_layout::{Layout, Refusal};
-use asdf_map::MapMut;
-use std::io;
 use std::ops::Range;
 use std::path::Path;
 
@@ -17,12 +15,16 @@ pub fn edit(path: &Path, text: &Source) -> Result<(), Failure> {
     if kept::is_beside(&target.path) {
         return Err(Failure::usage(kept::unfinished(path)));
     }
-    let mut bytes = changeable(&target)?;
-    let room = edited_room(&mut bytes, text)
-        .map_err(|refusal| Failure::refused(path.display(), refusal))?;
+    let mut map = target.map()?;
+    let bytes = target.changeable(&mut map)?;
+    let refused = |refusal| Failure::refused(path.display(), refusal);
+    asdf_layout::edit(bytes, text).map_err(refused)?;
+    // An edit leaves the room where it was.
+    let room = room_of(bytes).map_err(refused)?;
+    let room = room.expect("an edited file has a tree");
     let mut steps = Steps::new();
     kept::keep(&target, room.clone(), &mut steps)?;
-    finish(&target, &bytes, room, &mut steps)
+    finish(&target, bytes, room, &mut steps)
 }
 
 /// Brings back the tree that the file had before an edit that was not finished.
@@ -32,24 +34,13 @@ pub fn restore(path: &Path) -> Result<(), Failure> {
         let path = path.display();
         return Err(Failure::usage(format!("no edit of {path} was interrupted")));
     };
-    let mut bytes = changeable(&target)?;
+    let mut map = target.map()?;
+    let bytes = target.changeable(&mut map)?;
     // The proved reader has to find the old room again, else it is of another file.
-    if !kept.put_into(&mut bytes) || room_of(&bytes).ok().flatten() != Some(kept.room()) {
+    if !kept.put_into(bytes) || room_of(bytes).ok().flatten() != Some(kept.room()) {
         return Err(kept.of_another_file(&target));
     }
-    finish(&target, &bytes, kept.room(), &mut Steps::new())
-}
-
-/// The bytes of the file, which can be changed without it.
-fn changeable(target: &Target) -> Result<MapMut, Failure> {
-    let failed = |error: io::Error| Failure::at("cannot read", &target.path, error);
-    MapMut::of_file(&target.file).map_err(failed)
-}
-
-/// Edits bytes, and finds the room in which alone they are new.
-fn edited_room(bytes: &mut [u8], text: &[u8]) -> Result<Range<usize>, Refusal> {
-    asdf_layout::edit(bytes, text)?;
-    Ok(room_of(bytes)?.expect("an edited file has a tree"))
+    finish(&target, bytes, kept.room(), &mut Steps::new())
 }
 
 /// The room of a file's tree, if it has one.

@@ -2,6 +2,7 @@
 
 use crate::failure::Failure;
 use crate::steps::Steps;
+use asdf_map::Map;
 use std::fs::{self, File};
 use std::io;
 use std::ops::Range;
@@ -31,6 +32,17 @@ impl Target {
         let locked = file.lock();
         locked.map_err(|error| Failure::at("cannot lock", &path, error))?;
         Ok(Target { path, file })
+    }
+
+    /// The bytes of the file.
+    pub fn map(&self) -> Result<Map, Failure> {
+        Map::of_file(&self.file).map_err(|error| Failure::at("cannot read", &self.path, error))
+    }
+
+    /// Mapped bytes, to be changed without the file.
+    pub fn changeable<'a>(&self, map: &'a mut Map) -> Result<&'a mut [u8], Failure> {
+        map.lend()
+            .map_err(|error| Failure::at("cannot copy", &self.path, error))
     }
 
     /// Writes the room of changed bytes to the file: behind this it is on the disk.

@@ -3,6 +3,7 @@
 use crate::answers::Answers;
 use crate::calls::{Calls, Function};
 use crate::compare_nest::compare_nest;
+use crate::exports;
 use crate::loan::{compare_numbered, Asked, Expected};
 use crate::numbers::{block_numbers, bytes_of, layout_numbers};
 
@@ -12,13 +13,13 @@ const FAR_ORDINALS: [u64; 6] = [64, 1 << 8, 1 << 16, 1 << 32, 1 << 63, u64::MAX]
 /// Says where a proved function answers otherwise than the second program, if anywhere.
 pub fn compare(file: &[u8], answers: &Answers, calls: &mut Calls) -> Result<(), String> {
     let layout = Asked::new(Function::Read, expected_layout(answers), file.len());
-    layout.compare(|out| asdf_sys::read(file, out), calls)?;
+    layout.compare(|out| exports::read(file, out), calls)?;
     compare_numbered(
         Function::Block,
         ordinals(answers.blocks().len()),
         file.len(),
         |ordinal| expected_block(answers, ordinal),
-        |ordinal, out| asdf_sys::block(file, ordinal, out),
+        |ordinal, out| exports::block(file, ordinal, out),
         calls,
     )?;
     compare_nest(file, answers, calls)

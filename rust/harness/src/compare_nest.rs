@@ -3,6 +3,7 @@
 use crate::answers::Answers;
 use crate::calls::{Calls, Function};
 use crate::compare_stored::compare_stored;
+use crate::exports;
 use crate::loan::{compare_count, compare_numbered, result_in, Asked, Expected};
 use crate::numbers::{bytes_of, layout_numbers, record_numbers};
 use crate::rng::Rng;
@@ -13,20 +14,20 @@ use asdf_second::{Record, Row, Verdict, LONGEST_INDEX, ROW_LENGTH};
 /// Says where count, outline, records or index differ, if anywhere.
 pub fn compare_nest(file: &[u8], answers: &Answers, calls: &mut Calls) -> Result<(), String> {
     let count = answers.count();
-    compare_count(Function::Count, count, asdf_sys::count(file), calls)?;
+    compare_count(Function::Count, count, exports::count(file), calls)?;
     let asked = |function, expected| Asked::new(function, expected, file.len());
     let outline = asked(Function::Outline, answers.outline.clone());
-    outline.compare(|out| asdf_sys::outline(file, out), calls)?;
+    outline.compare(|out| exports::outline(file, out), calls)?;
     let records = asked(Function::Records, expected_records(answers));
-    records.compare(|out| asdf_sys::records(file, out), calls)?;
+    records.compare(|out| exports::records(file, out), calls)?;
     let index = asked(Function::Index, answers.index.clone());
-    index.compare(|out| asdf_sys::index(file, out), calls)?;
+    index.compare(|out| exports::index(file, out), calls)?;
     compare_numbered(
         Function::Record,
         wanted(count.unwrap_or(0)).into_iter(),
         file.len(),
         |number| expected_record(answers, number),
-        |number, out| asdf_sys::record(file, number, out),
+        |number, out| exports::record(file, number, out),
         calls,
     )
 }
@@ -73,8 +74,7 @@ fn read_outline_back(file: &[u8], answers: &Answers, calls: &mut Calls) -> Resul
         return Ok(());
     };
     let length = records.len() * ROW_LENGTH;
-    let stored =
-        result_in(length, |out| asdf_sys::outline(file, out)).map_err(|r| r.to_string())?;
+    let stored = result_in(length, |out| exports::outline(file, out)).map_err(|r| r.to_string())?;
     let expected = StoredAnswers {
         rows: Ok(records.iter().map(|record| Row::from(*record)).collect()),
         rewritten: Ok(stored.clone()),
@@ -87,13 +87,13 @@ fn read_index_back(file: &[u8], answers: &Answers) -> Result<(), String> {
     let (Ok(layout), Some(end)) = (&answers.layout, answers.chain_end()) else {
         return Ok(());
     };
-    let text = result_in(LONGEST_INDEX, |out| asdf_sys::index(file, out));
+    let text = result_in(LONGEST_INDEX, |out| exports::index(file, out));
     let text = text.map_err(|refusal| refusal.to_string())?;
     let indexed = [&file[..end], &text].concat();
     let mut expected = layout.clone();
     expected.index = Verdict::Good;
     let expected = bytes_of(&layout_numbers(&expected));
-    let found = result_in(expected.len(), |out| asdf_sys::read(&indexed, out));
+    let found = result_in(expected.len(), |out| exports::read(&indexed, out));
     same("file with the written index", found, Ok(expected))
 }
 

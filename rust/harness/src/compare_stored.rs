@@ -2,6 +2,7 @@
 
 use crate::calls::{Calls, Function};
 use crate::compare_nest::wanted;
+use crate::exports;
 use crate::loan::{compare_count, compare_numbered, Asked, Expected};
 use crate::numbers::{bytes_of, row_numbers};
 use crate::stored_answers::StoredAnswers;
@@ -17,17 +18,17 @@ pub fn compare_stored(
 ) -> Result<(), String> {
     let count = expected.rows.as_ref().map(Vec::len);
     let count = count.map_err(|&refusal| refusal);
-    let word = asdf_sys::stored_count(stored);
+    let word = exports::stored_count(stored);
     compare_count(Function::StoredCount, count, word, calls)?;
     let rewritten = expected.rewritten.clone();
     let rewritten = Asked::new(Function::Rewrite, rewritten, stored.len());
-    rewritten.compare(|out| asdf_sys::rewrite(stored, out), calls)?;
+    rewritten.compare(|out| exports::rewrite(stored, out), calls)?;
     compare_numbered(
         Function::StoredRow,
         row_places(expected.rows().len()),
         stored.len(),
         |number| expected_row(expected, number),
-        |number, out| asdf_sys::stored_row(stored, number, out),
+        |number, out| exports::stored_row(stored, number, out),
         calls,
     )
 }

@@ -1,11 +1,11 @@
 //! Files at the limit of the length, with what has to be said of them told by hand.
 
 use crate::answers::{of_whole, Answers};
+use crate::exports::SparseFile;
 use crate::fields::FIELD_BYTES;
 use crate::numbers::{layout_numbers, record_numbers, LAYOUT_NUMBERS, RECORD_NUMBERS};
 use crate::same::same;
-use crate::sparse::{block_header, sparse_file, HEADER_LINE, LEAST_HEADER_SIZE};
-use asdf_map::Map;
+use crate::sparse::{block_header, HEADER_LINE, LEAST_HEADER_SIZE};
 use asdf_second::Refusal;
 use std::io;
 
@@ -28,7 +28,7 @@ const INDEX: &[u8] = b"#ASDF BLOCK INDEX\n%YAML 1.1\n--- [12, 4294967000]\n...\n
 /// A long file and the numbers that tell its layout and its records, or its refusal.
 pub struct LongFile {
     pub name: &'static str,
-    pub file: Map,
+    pub file: SparseFile,
     layout: Result<[u64; LAYOUT_NUMBERS], Refusal>,
     records: Vec<[u64; RECORD_NUMBERS]>,
     /// The index behind the last block, where there is one.
@@ -101,7 +101,7 @@ pub fn long_files() -> io::Result<Vec<LongFile>> {
 fn too_long() -> io::Result<LongFile> {
     Ok(LongFile {
         name: "file of 4,294,967,296 bytes",
-        file: sparse_file(LONGEST + 1, &[(0, HEADER_LINE)])?,
+        file: SparseFile::new(LONGEST + 1, &[(0, HEADER_LINE)])?,
         layout: Err(of_whole(TOO_LONG)),
         records: Vec::new(),
         index: b"",
@@ -171,7 +171,7 @@ fn longest_file(
     let verdict = if index.is_empty() { ABSENT } else { GOOD };
     Ok(LongFile {
         name,
-        file: sparse_file(LONGEST, &parts)?,
+        file: SparseFile::new(LONGEST, &parts)?,
         layout: Ok([1, 0, 0, end, end, 0, 0, 0, 0, count, verdict]),
         records: blocks.iter().map(Block::numbers).collect(),
         index,

@@ -1,8 +1,8 @@
 //! Parts of files that are written by hand.
 
+use crate::exports::SparseFile;
 use crate::fields::FIELD_BYTES;
 pub use crate::generate::MARK;
-use asdf_map::{Map, MapMut};
 use std::io;
 
 /// A header line.
@@ -21,32 +21,10 @@ pub fn block_header(flags: u32, size: u64) -> Vec<u8> {
 }
 
 /// A file of zeros with a header line and so many blocks, each of this length with its header.
-pub fn chain_of_blocks(blocks: usize, length: usize) -> io::Result<Map> {
+pub fn chain_of_blocks(blocks: usize, length: usize) -> io::Result<SparseFile> {
     let header = block_header(0, (length - FIELD_BYTES) as u64);
     let place = |block| HEADER_LINE.len() + block * length;
     let mut parts = vec![(0, HEADER_LINE)];
     parts.extend((0..blocks).map(|block| (place(block), &header[..])));
-    sparse_file(place(blocks), &parts)
-}
-
-/// A file of zeros with other bytes at these places. Only what is not zero takes memory.
-pub fn sparse_file(length: usize, parts: &[(usize, &[u8])]) -> io::Result<Map> {
-    let mut file = MapMut::of_zeros(length)?;
-    for (place, bytes) in parts {
-        file[*place..][..bytes.len()].copy_from_slice(bytes);
-    }
-    file.read_only()
-}
-
-#[cfg(test)]
-mod tests {
-    use super::*;
-
-    #[test]
-    fn sparse_file_holds_its_parts_and_zeros() -> io::Result<()> {
-        let file = sparse_file(10_000, &[(0, b"ab"), (9_998, b"yz")])?;
-        let expected = [b"ab", &[0; 9_996][..], b"yz"].concat();
-        assert_eq!(file[..], expected);
-        Ok(())
-    }
+    SparseFile::new(place(blocks), &parts)
 }

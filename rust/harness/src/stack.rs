@@ -1,5 +1,6 @@
 //! How much stack the proved functions take on the files that make them go deepest.
 
+use crate::exports;
 use crate::loan::result_in;
 use crate::nests::deepest;
 use crate::numbers::{NUMBER_BYTES, RECORD_NUMBERS};
@@ -30,14 +31,14 @@ pub fn walk_with_stack(bytes: usize) -> io::Result<Result<(), String>> {
 
 /// What count, outline, records and record say of a file.
 fn walked(file: &[u8]) -> Walked {
-    let count = asdf_sys::count(file);
+    let count = exports::count(file);
     let rows = count as usize;
     let written = |bytes, ask: &dyn Fn(&mut [u8]) -> u64| result_in(bytes, ask).unwrap_or_default();
     let record_bytes = RECORD_NUMBERS * NUMBER_BYTES;
     Walked {
         count,
-        outline: written(rows * ROW_LENGTH, &|out| asdf_sys::outline(file, out)),
-        records: written(rows * record_bytes, &|out| asdf_sys::records(file, out)),
-        last: written(record_bytes, &|out| asdf_sys::record(file, count - 1, out)),
+        outline: written(rows * ROW_LENGTH, &|out| exports::outline(file, out)),
+        records: written(rows * record_bytes, &|out| exports::records(file, out)),
+        last: written(record_bytes, &|out| exports::record(file, count - 1, out)),
     }
 }

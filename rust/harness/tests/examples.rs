@@ -1,5 +1,6 @@
 //! The worked examples of outlines and indexes, as run: exact bytes.
 
+use asdf_harness::exports;
 use asdf_harness::nests::file_of;
 
 /// What every lent buffer holds before a call.
@@ -29,7 +30,7 @@ fn assert_writes(ask: impl FnOnce(&mut [u8]) -> u64, expected: &[u8]) {
 /// The verdict of a file, the last of the numbers of its layout.
 fn verdict(file: &[u8]) -> u8 {
     let mut layout = [0; 88];
-    assert_eq!(asdf_sys::read(file, &mut layout), 88);
+    assert_eq!(exports::read(file, &mut layout), 88);
     layout[87]
 }
 
@@ -37,8 +38,8 @@ fn verdict(file: &[u8]) -> u8 {
 fn p4_outline_of_one_block() {
     let file = one_block();
     let row = [0, 0, 0, 0x30, 0, 0, 0, 0x0C, 0, 0, 0, 0, 0, 0, 0, 0];
-    assert_eq!(asdf_sys::count(&file), 1);
-    assert_writes(|out| asdf_sys::outline(&file, out), &row);
+    assert_eq!(exports::count(&file), 1);
+    assert_writes(|out| exports::outline(&file, out), &row);
 }
 
 #[test]
@@ -46,7 +47,7 @@ fn p5_index_of_one_block_is_good_behind_it() {
     let file = one_block();
     let text = b"#ASDF BLOCK INDEX\n%YAML 1.1\n--- [12]\n...\n";
     assert_eq!(text.len(), 41);
-    assert_writes(|out| asdf_sys::index(&file, out), text);
+    assert_writes(|out| exports::index(&file, out), text);
     assert_eq!(verdict(&file), 0);
     assert_eq!(verdict(&[&file[..], text].concat()), 1);
 }
@@ -62,6 +63,6 @@ fn p10_outline_of_a_file_in_a_block() {
             0x20, 0, 0, 0x30, 0, 0, 0, 0x4E, 0, 0, 0, 0x00, 0, 0, 0, 0x00,
         ],
     ];
-    assert_eq!(asdf_sys::count(&file), 2);
-    assert_writes(|out| asdf_sys::outline(&file, out), &rows.concat());
+    assert_eq!(exports::count(&file), 2);
+    assert_writes(|out| exports::outline(&file, out), &rows.concat());
 }

@@ -2,8 +2,8 @@
 
 use crate::measure::medians;
 use crate::read::{tree_file, LINE_OF_41};
+use asdf_harness::exports::{self, SparseFile};
 use asdf_harness::nests::{file_of, path, tree, LEVELS, MOST_BLOCKS};
-use asdf_map::Map;
 use asdf_second::{most_rows, ROW_LENGTH};
 use std::hint::black_box;
 use std::io;
@@ -67,7 +67,7 @@ fn refused_files() -> Vec<u8> {
 }
 
 /// A file of about this length with a tree and an empty block.
-fn plain_file(length: usize) -> io::Result<Map> {
+fn plain_file(length: usize) -> io::Result<SparseFile> {
     let lines = length.saturating_sub(PLAIN_FRAME) / LINE_OF_41.len();
     tree_file(&LINE_OF_41.repeat(lines), b"")
 }
@@ -113,7 +113,7 @@ fn buffer(file: &[u8]) -> Vec<u8> {
 /// Writes the outline by the proved function.
 fn our_outline(file: &[u8]) -> impl FnMut() -> usize + '_ {
     let mut out = buffer(file);
-    move || asdf_sys::outline(black_box(file), &mut out) as usize
+    move || exports::outline(black_box(file), &mut out) as usize
 }
 
 /// Writes the outline by the second program.

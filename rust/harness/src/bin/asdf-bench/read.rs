@@ -1,12 +1,13 @@
 //! The layout of one file by itself, beside the second program and a bare search of libc.
 
 use crate::measure::medians;
-use asdf_harness::search::{find_byte, find_bytes};
-use asdf_harness::sparse::{block_header, chain_of_blocks, sparse_file, HEADER_LINE, MARK};
-use asdf_map::Map;
-use asdf_sys::{LAYOUT_NUMBERS, NUMBER_BYTES};
+use asdf_harness::exports::{self, SparseFile};
+use asdf_harness::sparse::{block_header, chain_of_blocks, HEADER_LINE, MARK};
 use std::hint::black_box;
 use std::io;
+
+/// The bytes of an answer.
+const LAYOUT_BYTES: usize = 88;
 
 const MIB: usize = 1 << 20;
 const GIB: usize = 1 << 30;
@@ -25,7 +26,7 @@ type Floor = fn(&[u8]) -> usize;
 /// A file to be read.
 struct Case {
     name: &'static str,
-    file: Map,
+    file: SparseFile,
     floor: Floor,
 }
 
@@ -71,7 +72,7 @@ fn tree_case(name: &'static str, line: &[u8]) -> io::Result<Case> {
 }
 
 /// A file with this content of its tree, this free space, and an empty block.
-pub fn tree_file(content: &[u8], free_space: &[u8]) -> io::Result<Map> {
+pub fn tree_file(content: &[u8], free_space: &[u8]) -> io::Result<SparseFile> {
     let block = block_header(0, 0);
     let parts = [
         HEADER_LINE,
@@ -82,13 +83,13 @@ pub fn tree_file(content: &[u8], free_space: &[u8]) -> io::Result<Map> {
         &block,
     ];
     let file = parts.concat();
-    sparse_file(file.len(), &[(0, &file)])
+    SparseFile::new(file.len(), &[(0, &file)])
 }
 
 /// Finds each line's end with memchr, and counts them.
 fn find_line_ends(file: &[u8]) -> usize {
     let (mut start, mut lines) = (0, 0);
-    while let Some(length) = find_byte(&file[start..], b'\n') {
+    while let Some(length) = exports::find_byte(&file[start..], b'\n') {
         start += length + 1;
         lines += 1;
     }
@@ -97,7 +98,7 @@ fn find_line_ends(file: &[u8]) -> usize {
 
 /// Finds the first mark with memmem.
 fn find_mark(file: &[u8]) -> usize {
-    find_bytes(file, MARK).unwrap_or(file.len())
+    exports::find_bytes(file, MARK).unwrap_or(file.len())
 }
 
 /// Finds the mark at each block's place with memmem.
@@ -109,10 +110,10 @@ fn find_each_block(file: &[u8]) -> usize {
 /// Measures one file and prints what came of it.
 fn print_row(case: &Case) {
     let file: &[u8] = &case.file;
-    let mut out = [0; LAYOUT_NUMBERS * NUMBER_BYTES];
-    assert_eq!(asdf_sys::read(file, &mut out), out.len() as u64);
+    let mut out = [0; LAYOUT_BYTES];
+    assert_eq!(exports::read(file, &mut out), LAYOUT_BYTES as u64);
     let [ours, second, floor] = medians([
-        &mut || black_box(asdf_sys::read(black_box(file), &mut out)) as usize,
+        &mut || black_box(exports::read(black_box(file), &mut out)) as usize,
         &mut || {
             black_box(asdf_second::read(black_box(file))).map_or(0, |layout| layout.blocks.len())
         },

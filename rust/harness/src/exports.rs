@@ -1,8 +1,14 @@
-//! Searches of libc, to measure beside the readers: the only unsafe code of the harness.
+//! The proved functions, and what is taken from libc: the only unsafe code of the harness.
 
 #![allow(unsafe_code)]
 
+use asdf_map::Map;
+pub use asdf_sys::{
+    block, count, edit, index, outline, read, record, records, rewrite, stored_count, stored_row,
+};
 use std::ffi::{c_int, c_void};
+use std::io;
+use std::ops::Deref;
 
 extern "C" {
     fn memchr(bytes: *const c_void, byte: c_int, length: usize) -> *mut c_void;
@@ -40,9 +46,48 @@ fn place_in(bytes: &[u8], found: *mut c_void) -> Option<usize> {
     (!found.is_null()).then(|| found as usize - bytes.as_ptr() as usize)
 }
 
+/// A long stretch of zeros with other bytes at some places. Only what is not zero takes memory.
+pub struct SparseFile {
+    map: Map,
+}
+
+impl SparseFile {
+    /// A file of this length with these bytes at these places in it.
+    pub fn new(length: usize, parts: &[(usize, &[u8])]) -> io::Result<SparseFile> {
+        let mut map = Map::of_zeros(length)?;
+        let file = map.lend()?;
+        for (place, bytes) in parts {
+            file[*place..][..bytes.len()].copy_from_slice(bytes);
+        }
+        map.protect()?;
+        Ok(SparseFile { map })
+    }
+
+    /// The bytes to be changed.
+    pub fn lend(&mut self) -> io::Result<&mut [u8]> {
+        self.map.lend()
+    }
+}
+
+impl Deref for SparseFile {
+    type Target = [u8];
+
+    fn deref(&self) -> &[u8] {
+        &self.map
+    }
+}
+
 #[cfg(test)]
 mod tests {
     use super::*;
+
+    #[test]
+    fn sparse_file_holds_its_parts_and_zeros() -> io::Result<()> {
+        let file = SparseFile::new(10_000, &[(0, b"ab"), (9_998, b"yz")])?;
+        let expected = [b"ab", &[0; 9_996][..], b"yz"].concat();
+        assert_eq!(file[..], expected);
+        Ok(())
+    }
 
     #[test]
     fn libc_finds_what_is_there_and_nothing_else() {
