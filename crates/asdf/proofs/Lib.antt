@@ -3,3 +3,4 @@ pub mod FieldLaws
 pub mod ExportLaws
 pub mod NumberLaws
 pub mod AnswerLaws
+pub mod WordLaws

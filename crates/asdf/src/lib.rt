@@ -1,11 +1,17 @@
-// The functions that C and Rust call. Each returns one number: how many bytes it put at the start of the lent buffer, or a
-// refusal, its number in the top byte and its place below. A refusal changes no byte.
+// The functions that C and Rust call. Each returns one number: how many bytes it put at the start of the lent buffer, or the
+// count that was asked for, or a refusal, its number in the top byte and its place below. A refusal changes no byte.
 mod fields;
 mod word;
 
-ghost use Rattle.asdf.specs.Export.{Exported, layoutBytes, blockBytes};
+ghost use mathlib.Core.Path.{_≡_};
+ghost use Rattle.format.specs.Fields.{blockFields, recordFields, rowFields, foundBytes, recordTable};
+ghost use Rattle.format.specs.File.{blockAt};
+ghost use Rattle.format.specs.Nest.{recordCount, recordAt};
+ghost use Rattle.format.specs.Outline.{outline as Outline·outline, storedCount, storedAt, rewritten};
+ghost use Rattle.asdf.specs.Export.{word as Export·word, Exported, IndexExported, EditExported, layoutBytes};
 use format::answer::BlockAnswer;
 use format::answer::LayoutAnswer;
+use format::answer::RowAnswer;
 
 // The layout of a file: 88 bytes.
 #[no_mangle]
@@ -24,7 +30,7 @@ pub extern "C" fn asdf_read(file: &[u8], out: &mut [u8]) -> u64
 // The block of an ordinal in a file: 80 bytes, or none where there is no such block.
 #[no_mangle]
 pub extern "C" fn asdf_block(file: &[u8], ordinal: u64, out: &mut [u8]) -> u64
-    ensures { λ r. ⌜ Exported (blockBytes (now (file .entry)) ordinal) (now (out .entry)) (now (out .exit)) r ⌝ }
+    ensures { λ r. ⌜ Exported (foundBytes blockFields (blockAt (now (file .entry)) ordinal)) (now (out .entry)) (now (out .exit)) r ⌝ }
 {
     match file::layout::block(file, ordinal) {
         BlockAnswer::Refused(r) => word::refused(r),
@@ -34,4 +40,83 @@ pub extern "C" fn asdf_block(file: &[u8], ordinal: u64, out: &mut [u8]) -> u64
             word::put_numbers(out, &numbers)
         }
     }
+}
+
+// How many blocks a file and the files inside it have.
+#[no_mangle]
+pub extern "C" fn asdf_count(file: &[u8]) -> u64
+    ensures { λ r. ⌜ r ≡ Export·word (recordCount (now (file .entry))) ⌝ }
+{
+    word::counted(nest::count(file))
+}
+
+// The outline of a file: 16 bytes for each block.
+#[no_mangle]
+pub extern "C" fn asdf_outline(file: &[u8], out: &mut [u8]) -> u64
+    ensures { λ r. ⌜ Exported (Outline·outline (now (file .entry))) (now (out .entry)) (now (out .exit)) r ⌝ }
+{
+    word::counted(nest::outline(file, out))
+}
+
+// The record of block k in walking order: 120 bytes, or none where there is no such block.
+#[no_mangle]
+pub extern "C" fn asdf_record(file: &[u8], k: u64, out: &mut [u8]) -> u64
+    ensures { λ r. ⌜ Exported (foundBytes recordFields (recordAt (now (file .entry)) k)) (now (out .entry)) (now (out .exit)) r ⌝ }
+{
+    word::counted(nest::record(file, k, out))
+}
+
+// The records of all blocks in walking order: 120 bytes for each.
+#[no_mangle]
+pub extern "C" fn asdf_records(file: &[u8], out: &mut [u8]) -> u64
+    ensures { λ r. ⌜ Exported (recordTable (now (file .entry))) (now (out .entry)) (now (out .exit)) r ⌝ }
+{
+    word::counted(nest::records(file, out))
+}
+
+// The text of a block index for a file: at most 805 bytes.
+#[no_mangle]
+pub extern "C" fn asdf_index(file: &[u8], out: &mut [u8]) -> u64
+    ensures { λ r. ⌜ IndexExported (now (file .entry)) (now (out .entry)) (now (out .exit)) r ⌝ }
+{
+    word::counted(index::write(file, out))
+}
+
+// How many rows a stored outline has.
+#[no_mangle]
+pub extern "C" fn asdf_stored_count(stored: &[u8]) -> u64
+    ensures { λ r. ⌜ r ≡ Export·word (storedCount (now (stored .entry))) ⌝ }
+{
+    word::counted(outline::stored::count(stored))
+}
+
+// Row k of a stored outline: 80 bytes, or none where there is no such row.
+#[no_mangle]
+pub extern "C" fn asdf_stored_row(stored: &[u8], k: u64, out: &mut [u8]) -> u64
+    ensures { λ r. ⌜ Exported (foundBytes rowFields (storedAt (now (stored .entry)) k)) (now (out .entry)) (now (out .exit)) r ⌝ }
+{
+    match outline::stored::row(stored, k) {
+        RowAnswer::Refused(r) => word::refused(r),
+        RowAnswer::NoSuchRow => 0,
+        RowAnswer::Found(r) => {
+            let numbers = put::fields::row_fields(r);
+            word::put_numbers(out, &numbers)
+        }
+    }
+}
+
+// A stored outline, read and written again: the same bytes.
+#[no_mangle]
+pub extern "C" fn asdf_rewrite(stored: &[u8], out: &mut [u8]) -> u64
+    ensures { λ r. ⌜ Exported (rewritten (now (stored .entry))) (now (out .entry)) (now (out .exit)) r ⌝ }
+{
+    word::counted(outline::stored::rewrite(stored, out))
+}
+
+// Replaces a file's tree by a text, in place: 0 where that is done.
+#[no_mangle]
+pub extern "C" fn asdf_edit(file: &mut [u8], text: &[u8]) -> u64
+    ensures { λ r. ⌜ EditExported (now (file .entry)) (now (text .entry)) (now (file .exit)) r ⌝ }
+{
+    word::edited(edit::edit(file, text))
 }

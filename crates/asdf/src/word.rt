@@ -1,8 +1,11 @@
 // Answers as one number, and numbers in the lent buffer.
 ghost use mathlib.Core.Path.{_≡_};
 ghost use Rattle.format.specs.Outcome.{accepted, refused as Outcome·refused};
+ghost use Rattle.format.specs.Answer.{countAnswer, editAnswer};
 ghost use Rattle.format.specs.Fields.{numberBytes};
-ghost use Rattle.asdf.specs.Export.{Exported, word};
+ghost use Rattle.asdf.specs.Export.{Exported, word, doneWord};
+use format::answer::CountAnswer;
+use format::answer::EditAnswer;
 use format::offset::Offset;
 use format::refusal::Refusal;
 
@@ -11,6 +14,26 @@ pub(crate) fn refused(r: Refusal) -> u64
     ensures { λ w. ⌜ w ≡ word (Outcome·refused r) ⌝ }
 {
     r.number as u64 * 72057594037927936 + r.place.0 % 72057594037927936
+}
+
+// A count, or the refusal.
+pub(crate) fn counted(a: CountAnswer) -> u64
+    ensures { λ w. ⌜ w ≡ word (countAnswer a) ⌝ }
+{
+    match a {
+        CountAnswer::Counted(n) => n,
+        CountAnswer::Refused(r) => refused(r),
+    }
+}
+
+// 0 where it was edited, or the refusal.
+pub(crate) fn edited(a: EditAnswer) -> u64
+    ensures { λ w. ⌜ w ≡ doneWord (editAnswer a) ⌝ }
+{
+    match a {
+        EditAnswer::Edited => 0,
+        EditAnswer::Refused(r) => refused(r),
+    }
 }
 
 // Puts numbers at the buffer's start, each in eight bytes, and answers how many bytes that are; refuses a buffer that is too

@@ -2,6 +2,7 @@
 pub mod Meaning
 pub mod Examples
 pub mod OutcomeLaws
+pub mod NumberedLaws
 pub mod PackLaws
 pub mod RowLaws
 pub mod BlockLaws

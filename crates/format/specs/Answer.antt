@@ -5,8 +5,6 @@ use Rattle.format.specs.declared.answer.LayoutAnswer.{LayoutAnswer}
 use Rattle.format.specs.declared.answer.LayoutAnswer.the-variants as LayoutAnswer·is
 use Rattle.format.specs.declared.answer.BlockAnswer.{BlockAnswer}
 use Rattle.format.specs.declared.answer.BlockAnswer.the-variants as BlockAnswer·is
-use Rattle.format.specs.declared.answer.RecordAnswer.{RecordAnswer}
-use Rattle.format.specs.declared.answer.RecordAnswer.the-variants as RecordAnswer·is
 use Rattle.format.specs.declared.answer.RowAnswer.{RowAnswer}
 use Rattle.format.specs.declared.answer.RowAnswer.the-variants as RowAnswer·is
 use Rattle.format.specs.declared.answer.CountAnswer.{CountAnswer}
@@ -15,7 +13,6 @@ use Rattle.format.specs.declared.answer.EditAnswer.{EditAnswer}
 use Rattle.format.specs.declared.answer.EditAnswer.the-variants as EditAnswer·is
 use Rattle.format.specs.declared.layout.Layout.{Layout}
 use Rattle.format.specs.declared.block.Block.{Block}
-use Rattle.format.specs.declared.block.Record.{Record}
 use Rattle.format.specs.declared.row.Row.{Row}
 use Rattle.format.specs.Outcome.{Outcome, accepted, refused}
 
@@ -27,11 +24,6 @@ unfoldable pub blockAnswer : BlockAnswer → Outcome (Option Block)
 blockAnswer (BlockAnswer·is.Found b) = accepted (some b)
 blockAnswer BlockAnswer·is.NoSuchBlock = accepted none
 blockAnswer (BlockAnswer·is.Refused r) = refused r
-
-unfoldable pub recordAnswer : RecordAnswer → Outcome (Option Record)
-recordAnswer (RecordAnswer·is.Found b) = accepted (some b)
-recordAnswer RecordAnswer·is.NoSuchBlock = accepted none
-recordAnswer (RecordAnswer·is.Refused r) = refused r
 
 unfoldable pub rowAnswer : RowAnswer → Outcome (Option Row)
 rowAnswer (RowAnswer·is.Found b) = accepted (some b)

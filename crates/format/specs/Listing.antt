@@ -9,10 +9,11 @@ use Rattle.format.specs.declared.layout.Tree.the-variants.{NoTree, Found
 use Rattle.format.specs.declared.layout.Verdict.{Verdict}
 use Rattle.format.specs.declared.layout.Verdict.the-variants.{Absent, Good, IgnoredForm, IgnoredList}
 use Rattle.format.specs.declared.row.Row.{Row}
-use Rattle.format.specs.Bytes.{Bytes, text, bit}
+use Rattle.format.specs.Bytes.{Bytes, text}
 use Rattle.format.specs.Outcome.{Outcome, accepted, refused, _>>=_}
 use Rattle.format.specs.Numeral.{decimal}
 use Rattle.format.specs.File.{file}
+use Rattle.format.specs.Fields.{rowFields}
 use Rattle.format.specs.Outline.{rows}
 
 -- the longest input that the program takes
@@ -30,12 +31,7 @@ treeText NoTree = sentence (text "tree" ∷ text "none" ∷ [])
 treeText (Found n e m) = sentence (text "tree" ∷ decimal (n .0) ∷ decimal (e .0) ∷ [])
 
 unfoldable pub rowText : Row → Bytes
-rowText r =
-    sentence
-    (map decimal (r .depth ∷ r .ordinal ∷ r .at .0 ∷ r .«header_size» ∷ r .allocated ∷ r .used ∷ bit (r .streamed) ∷ bit (r .compressed)
-    ∷ bit (r .checksum)
-    ∷ r .inner
-    ∷ []))
+rowText r = sentence (map decimal (rowFields r))
 
 unfoldable pub verdictWord : Verdict → Bytes
 verdictWord Absent = text "absent"

@@ -1,6 +1,5 @@
 // The answer of each public function: what was asked for, or the refusal.
 use crate::block::Block;
-use crate::block::Record;
 use crate::layout::Layout;
 use crate::refusal::Refusal;
 use crate::row::Row;
@@ -12,12 +11,6 @@ pub enum LayoutAnswer {
 
 pub enum BlockAnswer {
     Found(Block),
-    NoSuchBlock,
-    Refused(Refusal),
-}
-
-pub enum RecordAnswer {
-    Found(Record),
     NoSuchBlock,
     Refused(Refusal),
 }

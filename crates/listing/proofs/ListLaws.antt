@@ -30,6 +30,7 @@ use Rattle.put.specs.Written.{Written}
 use Rattle.put.proofs.PutLaws.{placed-none, placed-nothing}
 use Rattle.put.proofs.WrittenLaws.{written-short, written-placed, Taken, written-taken}
 use Rattle.outline.specs.Row.{rowsIn}
+use Rattle.nest.specs.Promise.{OutlineWritten}
 use Rattle.outline.proofs.StoredLaws.{Read, read-stored}
 use Rattle.listing.specs.Listing.{outlineBytes, outlineFor, bothFit, putIf, BothPut, mostOutline, lentBytes, Listed, BothShort, Short}
 use Rattle.listing.specs.Text.{fileText, verdictText, PutAt}
@@ -221,19 +222,19 @@ module _ (s : Bytes) (short : length s ≤ mostInput) where
       outline-is = rw (outlineFor, is-short, is)
 
     -- it is written into a buffer that is long enough
-    module _ (own after : Bytes) (x : CountAnswer) (w : Written (outline s) own after x) where
+    module _ (own after : Bytes) (x : CountAnswer) (w : OutlineWritten s own after x) where
       pub own-refused : length own ≡ 19408 → (r : Refusal) → x ≡ Refused r → (rows out : Bytes) → Listed s rows out rows out (Refused r)
       unfolding outline countAnswer writes
       own-refused size r e rows out =
           let whole : outline s ≡ accepted (outlineOf (of .file-rows)) = rw (outline, of .rows-are) in
           let fits = le-leb (length (outlineOf (of .file-rows))) (length own) (omega (arith, outline-few (outlineOf (of .file-rows)) whole)) in
-          let clash : refused r ≡ accepted (length (outlineOf (of .file-rows))) = rw (e, whole, writes, fits) at (w .answer) in
+          let clash : refused r ≡ accepted (length (outlineOf (of .file-rows))) = rw (e, whole, writes, fits) at (w .written .answer) in
           let z : _≡_ {A = ℕ} 0 1 = cc in
           absurd (omega arith)
 
       module _ (n : ℕ) (e : x ≡ Counted n) where
         own-taken : Taken (outline s) after n
-        own-taken = written-taken (outline s) own after n (rw e at w)
+        own-taken = written-taken (outline s) own after n (rw e at (w .written))
 
         pub own-few : n ≤ length after
         own-few = omega (arith, own-taken .size, length-take n after)

@@ -5,8 +5,8 @@ use native.Mathlib.Omega.{arith}
 use mathlib.Core.Path.{_≡_, refl, sym, ap, _∙_}
 use mathlib.Core.Option.{Option, none, some}
 use mathlib.Core.List.{List, [], _∷_, _++_, map, flatMap, append-nil, append-assoc}
-use lib.ListN.{length, take, drop, getD}
-use lib.Seq.{take-suc, take-all, drop-drop}
+use lib.ListN.{length, take, drop, getD, length-drop}
+use lib.Seq.{length-take-le, take-suc, take-all, drop-drop}
 use borrow.Author.Tests.{le-leb}
 use Rattle.format.specs.declared.answer.RowAnswer.{RowAnswer}
 use Rattle.format.specs.declared.answer.RowAnswer.the-variants as RowAnswer·is
@@ -18,7 +18,8 @@ use Rattle.format.specs.declared.offset.Offset.{Offset}
 use Rattle.format.specs.declared.refusal.Refusal.{Refusal}
 use Rattle.format.specs.declared.row.Row.{Row}
 use Rattle.format.specs.Answer.{rowAnswer}
-use Rattle.format.specs.Bytes.{Bytes, text, bit}
+use Rattle.format.specs.Bytes.{Bytes, text}
+use Rattle.format.specs.Fields.{rowFields}
 use Rattle.format.specs.Lent.{placed}
 use Rattle.format.specs.Numeral.{decimal}
 use Rattle.format.specs.Outcome.{Outcome, accepted, refused}
@@ -126,22 +127,43 @@ module _ (before after : Bytes) (x : ℕ) where
     unfolding sentence verdictWord
     list-put = verdict-put IgnoredList
 
+-- the numbers of a line behind its first
+module _ (ns : List ℕ) where
+  abbrev others : List ℕ
+  others = take (length ns - 1) (drop 1 ns)
+
+  pub others-length : 1 ≤ length ns → length others ≡ length ns - 1
+  others-length h = length-take-le (length ns - 1) (drop 1 ns) (omega (arith, length-drop 1 ns))
+
+  pub others-few : 1 ≤ length ns → length ns ≤ 10 → length others ≤ 9
+  others-few h few = omega (arith, others-length h)
+
+  first-others : 1 ≤ length ns → getD ns 0 0 ∷ others ≡ ns
+  first-others h = by-list ns h
+    where
+      by-list : (l : List ℕ) → 1 ≤ length l → getD l 0 0 ∷ take (length l - 1) (drop 1 l) ≡ l
+      by-list [] h = absurd (omega arith)
+      by-list (k ∷ l) h = ap (λ (m : List ℕ). k ∷ m) (take-all (suc (length l) - 1) l (omega arith))
+
+  -- a line of numbers
+  pub numbers-put : 1 ≤ length ns → (before mid after : Bytes) (at n x : ℕ) → DecimalLength (getD ns 0 0) n
+      → mid ≡ placed before at (decimal (getD ns 0 0))
+      → PutAt mid after (at + n) (restText others) 221 x
+      → PutAt before after at (sentence (map decimal ns)) 253 x
+  numbers-put h before mid after at n x d e put =
+      let line = line-put before mid after at (at + n) x others (decimal (getD ns 0 0))
+      (part-put before mid at (decimal (getD ns 0 0)) 32 n e (d .is) (omega (arith, d .few))) put in
+      put-same before after at x _ _ 253 253 (ap (λ (l : List ℕ). sentence (map decimal l)) (first-others h)) (omega arith) line
+
 -- a row
-pub row-put : (before mid after : Bytes) (at n x : ℕ) (r : Row) (place streamed compressed checksum : ℕ)
-    → DecimalLength (r .depth) n
-    → mid ≡ placed before at (decimal (r .depth))
-    → place ≡ r .at .0
-    → streamed ≡ bit (r .streamed)
-    → compressed ≡ bit (r .compressed)
-    → checksum ≡ bit (r .checksum)
-    → PutAt mid after (at + n) (restText (r .ordinal ∷ place ∷ r .«header_size» ∷ r .allocated ∷ r .used ∷ streamed ∷ compressed ∷ checksum ∷ r .inner ∷ [])) 221 x
+pub row-put : (before after : Bytes) (at x : ℕ) (r : Row) (numbers : List ℕ) → numbers ≡ rowFields r
+    → PutAt before after at (sentence (map decimal numbers)) 253 x
     → PutAt before after at (rowText r) 253 x
 unfolding rowText
-row-put before mid after at n x r place streamed compressed checksum d e p s c k put =
-    line-put before mid after at (at + n) x
-    (r .ordinal ∷ r .at .0 ∷ r .«header_size» ∷ r .allocated ∷ r .used ∷ bit (r .streamed) ∷ bit (r .compressed) ∷ bit (r .checksum) ∷ r .inner ∷ [])
-    (decimal (r .depth)) (part-put before mid at (decimal (r .depth)) 32 n e (d .is) (omega (arith, d .few)))
-    (rw (← p, ← s, ← c, ← k) put)
+row-put before after at x r numbers e = put-same before after at x _ _ 253 253 (ap (λ (ns : List ℕ). sentence (map decimal ns)) e) (omega arith)
+
+pub row-numbers : (r : Row) (numbers : List ℕ) → numbers ≡ rowFields r → length numbers ≡ 10
+row-numbers r numbers e = ap length e
 
 -- a row is read from its bytes
 module _ (b : Bytes) (k : ℕ) (h : k * 16 + 16 ≤ length b) (x : RowAnswer) (read : rowAnswer x ≡ accepted (rowAt b (k * 16))) where

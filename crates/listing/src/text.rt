@@ -1,5 +1,6 @@
 // Parts of the text, put at an offset of a buffer. Each function answers where its part ends, also where the buffer is too
-// short: what is put into an empty buffer is only measured.
+// short: what is put into an empty buffer is only measured. Each promise names the most bytes that the part can have: 21 for a
+// number and the space before it, 32 for words, 53 for the line of a row that is read from sixteen bytes.
 ghost use Prim.Native.Nat.{_+_, _*_, _/_, _^_, _≤_, _<_};
 ghost use mathlib.Core.Path.{_≡_};
 ghost use mathlib.Core.List.{_∷_, map};
@@ -17,6 +18,7 @@ use format::refusal::Refusal;
 use format::row::Row;
 use outline::row;
 use put::decimal;
+use put::fields;
 use put::text;
 
 // A space and a number.
@@ -100,25 +102,25 @@ fn put_tree(out: &mut [u8], t: Tree) -> usize
     }
 }
 
+// A line of numbers, at least one.
+fn put_numbers(out: &mut [u8], at: usize, numbers: &[u64]) -> usize
+    requires { ⌜ 1 ≤ length (now numbers) ⌝ }
+    requires { ⌜ length (now numbers) ≤ 10 ⌝ }
+    requires { ⌜ at + 253 < 2 ^ 64 ⌝ }
+    ensures { λ r. ⌜ PutAt (now (out .entry)) (now (out .exit)) at (sentence (map Numeral·decimal (now (numbers .entry)))) 253 r ⌝ }
+{
+    let first = numbers[0];
+    decimal::put_decimal(out, at, first);
+    put_rest(out, at + decimal::decimal_length(first), &numbers[1..])
+}
+
 // The line of a row.
 fn put_row(out: &mut [u8], at: usize, r: Row) -> usize
     requires { ⌜ at + 253 < 2 ^ 64 ⌝ }
     ensures { λ x. ⌜ PutAt (now (out .entry)) (now (out .exit)) at (rowText r) 253 x ⌝ }
 {
-    let depth = r.depth as u64;
-    let numbers = [
-        r.ordinal as u64,
-        r.at.number(),
-        r.header_size as u64,
-        r.allocated,
-        r.used,
-        row::bit(r.streamed),
-        row::bit(r.compressed),
-        row::bit(r.checksum),
-        r.inner as u64,
-    ];
-    decimal::put_decimal(out, at, depth);
-    put_rest(out, at + decimal::decimal_length(depth), &numbers)
+    let numbers = fields::row_fields(r);
+    put_numbers(out, at, &numbers)
 }
 
 // The line of row number k of an outline.

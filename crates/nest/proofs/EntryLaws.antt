@@ -1,43 +1,42 @@
 -- What a whole walk leaves: a count, a record, entries in a buffer.
 use Prim.Native.Nat.{ℕ, zero, suc, _+_, _*_, _-_, _/_, _%_, _^_, _≤_, _<_}
 use native.Mathlib.Omega.{arith}
-use native.Mathlib.Nat.{zero-add, sub-zero, add-mul, suc-mul, one-mul, zero-mul, mul-comm, div-lt-iff-lt-mul, le-div-iff-mul-le}
+use native.Mathlib.Nat.{zero-add, sub-zero, mul-zero, add-mul, suc-mul, one-mul, zero-mul, mul-comm, div-lt-iff-lt-mul, le-div-iff-mul-le}
 use mathlib.Core.Path.{_≡_, refl, sym, ap, _∙_}
 use mathlib.Core.Bool.{Bool, true, false}
 use mathlib.Core.List.{List, [], _∷_, _++_, map, flatMap}
 use mathlib.Core.Option.{Option, none, some}
-use lib.ListN.{length, getElem?, length-append}
+use lib.ListN.{length, take, getD, getElem?, length-append}
 use lib.Dec.{eqb}
 use borrow.Author.Tests.{leb-true, eqb-true, eqb-false, eq-eqb, ne-eqb}
-use mir.Syntax.{w64}
+use mir.Syntax.{w8, w64}
 use mir.Val.{Fits}
 use Rattle.format.specs.declared.answer.CountAnswer.{CountAnswer}
 use Rattle.format.specs.declared.answer.CountAnswer.the-variants as CountAnswer·is
 use Rattle.format.specs.declared.answer.LayoutAnswer.{LayoutAnswer}
 use Rattle.format.specs.declared.answer.LayoutAnswer.the-variants as LayoutAnswer·is
-use Rattle.format.specs.declared.answer.RecordAnswer.{RecordAnswer}
-use Rattle.format.specs.declared.answer.RecordAnswer.the-variants as RecordAnswer·is
 use Rattle.format.specs.declared.block.Record.{Record}
 use Rattle.format.specs.declared.layout.Layout.{Layout}
 use Rattle.format.specs.declared.offset.OutermostOffset.{OutermostOffset}
 use Rattle.format.specs.declared.refusal.Refusal.{Refusal}
-use Rattle.format.specs.Answer.{countAnswer, layoutAnswer, recordAnswer}
+use Rattle.format.specs.Answer.{countAnswer, layoutAnswer}
 use Rattle.format.specs.Bytes.{Bytes, wrapped}
 use Rattle.format.specs.Outcome.{Outcome, accepted, refused, refusal}
 use Rattle.format.specs.File.{mostBytes, layout, firstBlock}
 use Rattle.format.specs.Nest.{deepest, recordsFrom, records, recordCount, recordAt}
-use Rattle.format.specs.Fields.{encodeRecord, recordTable}
+use Rattle.format.specs.Fields.{recordFields, encodeRecord, recordTable, foundNumbers, foundBytes}
 use Rattle.format.specs.Lent.{placed}
 use Rattle.format.specs.Outline.{rowOf, encodeRow, outlineOf, rows, outline}
 use Rattle.format.proofs.OutcomeLaws.{accepted-holds}
+use Rattle.format.proofs.OutlineLaws.{read-back}
 use Rattle.format.proofs.RowLaws.{encoded-length}
 use Rattle.put.specs.Written.{Written}
-use Rattle.put.proofs.PutLaws.{placed-nothing, placed-length, placed-append}
-use Rattle.put.proofs.WrittenLaws.{written-refused, written-short, written-placed}
+use Rattle.put.proofs.PutLaws.{placed-nothing, placed-none, placed-length, placed-append}
+use Rattle.put.proofs.WrittenLaws.{written-refused, written-short, written-placed, written-taken}
 use Rattle.nest.specs.declared.sink.Form.{Form}
 use Rattle.nest.specs.declared.sink.Form.the-variants.{Count, Rows, Table, One}
-use Rattle.nest.specs.declared.sink.Sink.{Sink}
-use Rattle.nest.specs.Sink.{encoded, width, entries, begun, foundAt, taken, takenAll, putAll, Delivered}
+use Rattle.nest.specs.Sink.{encoded, width, entries, entry, numberBehind, putAll, Delivered}
+use Rattle.nest.specs.Promise.{OutlineWritten}
 use Rattle.nest.specs.Walk.{recordsOf, allRecords}
 use Rattle.nest.proofs.SinkLaws.{record-length}
 use Rattle.nest.proofs.BlocksLaws.{records-few}
@@ -78,72 +77,105 @@ module _ (s : Bytes) (l : Layout) (read : layout s ≡ accepted l) where
   walk-blocks-few = omega (arith, of .count, of .own .few)
 
   -- and takes all its records
-  pub walk-whole : (form : Form) (k x : Sink) (out after : Bytes) (o : OutermostOffset) (first : ℕ) → k ≡ begun form → o .0 ≡ 0
-      → first ≡ firstBlock (l .«comments_end» .0) (l .tree) → Delivered k out (recordsOf 0 (o .0) s first 0 (l .blocks)) after x
-      → Delivered (begun form) out (allRecords s) after x
+  pub walk-whole : (form : Form) (x : ℕ) (out after : Bytes) (o : OutermostOffset) (first : ℕ) → o .0 ≡ 0
+      → first ≡ firstBlock (l .«comments_end» .0) (l .tree) → Delivered form 0 out (recordsOf 0 (o .0) s first 0 (l .blocks)) after x
+      → Delivered form 0 out (allRecords s) after x
   unfolding allRecords
-  walk-whole form k x out after o first e z f h = rw (allRecords, all-are) (rw (e, z, f) at h)
+  walk-whole form x out after o first z f h = rw (allRecords, all-are) (rw (z, f) at h)
 
--- one more has come
-one-more : (k : Sink) (r : Record) (rs : List Record) → k .number + length (r ∷ rs) < 2 ^ 64 → taken k r .number ≡ k .number + 1
-one-more k r rs h = omega arith
+-- the number behind records
+behind-number : (n : ℕ) (rs : List Record) → n + length rs < 2 ^ 64 → numberBehind n rs ≡ n + length rs
+unfolding numberBehind
+behind-number n [] h = omega arith
+behind-number n (r ∷ rs) h = behind-number (wrapped n 1) rs (omega arith) ∙ omega arith
 
--- the number of records that have come
-taken-number : (k : Sink) (rs : List Record) → k .number + length rs < 2 ^ 64 → takenAll k rs .number ≡ k .number + length rs
-unfolding takenAll
-taken-number k [] h = omega arith
-taken-number k (r ∷ rs) h =
-    let one = one-more k r rs h in
-    taken-number (taken k r) rs (omega arith) ∙ omega arith
+-- once the wanted record has come, nothing is put
+put-behind : (w n : ℕ) (out : Bytes) (rs : List Record) → n + length rs < 2 ^ 64 → w < n → putAll (One w) n out rs ≡ out
+unfolding putAll
+put-behind w n out [] few h = refl
+put-behind w n out (r ∷ rs) few h =
+    let none : placed out (n * 0) (entry (One w) n r) ≡ out =
+    rw (mul-zero n, entry, ne-eqb w n (λ e. omega arith)) (sym (placed-nothing out 0 (omega arith))) in
+    rw none (put-behind w (wrapped n 1) out rs (omega arith) (omega arith))
 
--- once the wanted record has come, what is found stays
-found-kept : (w : ℕ) (k : Sink) (rs : List Record) → k .form ≡ One w → k .number + length rs < 2 ^ 64 → w < k .number
-    → takenAll k rs .found ≡ k .found
-unfolding takenAll
-found-kept w k [] form few h = refl
-found-kept w k (r ∷ rs) form few h =
-    let one = one-more k r rs few in
-    let other : foundAt (k .form) (k .number) r (k .found) ≡ k .found = rw (form, foundAt, ne-eqb w (k .number) (λ e. omega arith)) in
-    found-kept w (taken k r) rs form (omega arith) (omega arith) ∙ other
-
--- what is found among the records that come
-found-among : (w : ℕ) (k : Sink) (rs : List Record) → k .form ≡ One w → k .number + length rs < 2 ^ 64 → k .found ≡ RecordAnswer·is.NoSuchBlock
-    → k .number ≤ w → recordAnswer (takenAll k rs .found) ≡ accepted (getElem? rs (w - k .number))
-unfolding takenAll recordAnswer
-found-among w k [] form few nothing h = rw nothing
-found-among w k (r ∷ rs) form few nothing h = by-test (eqb w (k .number)) refl (found-among w (taken k r) rs form)
+-- what is put where one record is wanted
+put-one : (w n : ℕ) (out : Bytes) (rs : List Record) → n + length rs < 2 ^ 64 → n ≤ w
+    → putAll (One w) n out rs ≡ placed out 0 (foundNumbers recordFields (getElem? rs (w - n)))
+unfolding putAll foundNumbers encodeRecord
+put-one w n out [] few h = placed-nothing out 0 (omega arith)
+put-one w n out (r ∷ rs) few h = by-test (eqb w n) refl (λ out. put-one w (wrapped n 1) out rs)
   where
-    by-test : (t : Bool) → eqb w (k .number) ≡ t
-        → (taken k r .number + length rs < 2 ^ 64 → taken k r .found ≡ RecordAnswer·is.NoSuchBlock → taken k r .number ≤ w
-        → recordAnswer (takenAll (taken k r) rs .found) ≡ accepted (getElem? rs (w - taken k r .number)))
-        → recordAnswer (takenAll k (r ∷ rs) .found) ≡ accepted (getElem? (r ∷ rs) (w - k .number))
+    by-test : (t : Bool) → eqb w n ≡ t
+        → ((out : Bytes) → wrapped n 1 + length rs < 2 ^ 64 → wrapped n 1 ≤ w
+        → putAll (One w) (wrapped n 1) out rs ≡ placed out 0 (foundNumbers recordFields (getElem? rs (w - wrapped n 1))))
+        → putAll (One w) n out (r ∷ rs) ≡ placed out 0 (foundNumbers recordFields (getElem? (r ∷ rs) (w - n)))
     by-test true e rest =
-        let same = eqb-true w (k .number) e in
-        let one = one-more k r rs few in
-        let here : taken k r .found ≡ RecordAnswer·is.Found r = rw (form, foundAt, e) in
-        let zero : w - k .number ≡ 0 = omega arith in
-        ap recordAnswer (found-kept w (taken k r) rs form (omega arith) (omega arith) ∙ here) ∙ rw zero
+        let same = eqb-true w n e in
+        let first : w - n ≡ 0 = omega arith in
+        rw (mul-zero n, entry, e, first) (put-behind w (wrapped n 1) (placed out 0 (encodeRecord r)) rs (omega arith) (omega arith))
     by-test false e rest =
-        let one = one-more k r rs few in
-        let differ = eqb-false w (k .number) e in
-        let still : taken k r .found ≡ RecordAnswer·is.NoSuchBlock = rw (form, foundAt, e) nothing in
-        let next : w - k .number ≡ suc (w - taken k r .number) = omega arith in
-        rest (omega arith) still (omega arith) ∙ rw next
+        let differ = eqb-false w n e in
+        let next : w - n ≡ suc (w - wrapped n 1) = omega arith in
+        rw (mul-zero n, entry, e, ← placed-nothing out 0 (omega arith), next) (rest out (omega arith) (omega arith))
 
-module _ (s : Bytes) (l : Layout) (read : layout s ≡ accepted l) (out after : Bytes) (x : Sink) where
+-- behind the last record there is none
+no-record : (rs : List Record) (k : ℕ) → length rs ≤ k → getElem? rs k ≡ none
+no-record [] k h = refl
+no-record (r ∷ rs) zero h = absurd (omega arith)
+no-record (r ∷ rs) (suc k) h = no-record rs k (omega arith)
+
+-- before it there is one
+record-there : (rs : List Record) (k : ℕ) → k < length rs → length (foundNumbers recordFields (getElem? rs k)) ≡ 120
+unfolding foundNumbers encodeRecord
+record-there [] k h = absurd (omega arith)
+record-there (r ∷ rs) zero h = record-length r
+record-there (r ∷ rs) (suc k) h = record-there rs k (omega arith)
+
+module _ (s : Bytes) (l : Layout) (read : layout s ≡ accepted l) (out after : Bytes) (x : ℕ) where
   -- the records of an accepted file are counted
-  pub counted : (form : Form) → Delivered (begun form) out (allRecords s) after x → x .number ≡ length (allRecords s)
+  pub counted : (form : Form) → Delivered form 0 out (allRecords s) after x → x ≡ length (allRecords s)
   counted form h =
       let few = all-few s l read in
-      ap (λ (k : Sink). k .number) (h .sink) ∙ taken-number (begun form) (allRecords s) (omega arith) ∙ omega arith
+      h .next ∙ behind-number 0 (allRecords s) (omega arith) ∙ omega arith
 
-  -- the wanted record is found, or there is none
-  pub found : (w : ℕ) → Delivered (begun (One w)) out (allRecords s) after x → recordAnswer (x .found) ≡ recordAt s w
-  unfolding recordAt
-  found w h =
-      let few = all-few s l read in
-      let e = found-among w (begun (One w)) (allRecords s) refl (omega arith) refl (omega arith) in
-      ap (λ (k : Sink). recordAnswer (k .found)) (h .sink) ∙ e ∙ rw (recordAt, accepted-all s l read, sub-zero w)
+  -- one record is wanted
+  module _ (w : ℕ) (d : Delivered (One w) 0 out (allRecords s) after x) where
+    abbrev found : Option Record
+    found = getElem? (allRecords s) w
+
+    one-is : foundBytes recordFields (recordAt s w) ≡ accepted (foundNumbers recordFields found)
+    unfolding foundBytes recordAt
+    one-is = rw (foundBytes, recordAt, accepted-all s l read)
+
+    one-put : after ≡ placed out 0 (foundNumbers recordFields found)
+    one-put =
+        let few = all-few s l read in
+        d .buffer ∙ put-one w 0 out (allRecords s) (omega arith) (omega arith) ∙ rw (sub-zero w)
+
+    -- there is none
+    pub one-none : x ≤ w → Written (foundBytes recordFields (recordAt s w)) out after (CountAnswer·is.Counted 0)
+    unfolding foundNumbers encodeRecord
+    one-none h =
+        let none-there : found ≡ none = no-record (allRecords s) w (omega (arith, counted (One w) d)) in
+        let nothing : foundNumbers recordFields found ≡ [] = rw none-there in
+        written-placed _ out [] (one-is ∙ ap accepted nothing) (omega arith) after (one-put ∙ rw nothing) 0 refl
+
+    module _ (h : w < x) where
+      one-length : length (foundNumbers recordFields found) ≡ 120
+      one-length = record-there (allRecords s) w (omega (arith, counted (One w) d))
+
+      one-room : length after ≡ length out
+      one-room = ap length one-put ∙ placed-length out 0 (foundNumbers recordFields found)
+
+      -- it does not fit
+      pub one-short : length after < 120 → (a : CountAnswer) → a ≡ CountAnswer·is.Refused (refusal 21 0) → Written (foundBytes recordFields (recordAt s w)) out after a
+      one-short g a e =
+          let same : after ≡ out = one-put ∙ sym (placed-none out 0 (foundNumbers recordFields found) (omega (arith, one-length, one-room))) in
+          rw same (written-short _ out (foundNumbers recordFields found) one-is (omega (arith, one-length, one-room)) a e)
+
+      -- it is put
+      pub one-written : 120 ≤ length after → Written (foundBytes recordFields (recordAt s w)) out after (CountAnswer·is.Counted 120)
+      one-written g = written-placed _ out (foundNumbers recordFields found) one-is (omega (arith, one-length, one-room)) after one-put 120 (sym one-length)
 
 -- an entry has its width
 entry-length : (form : Form) (r : Record) → 1 ≤ width form → length (encoded form r) ≡ width form
@@ -158,23 +190,30 @@ unfolding entries flatMap
 entries-length form [] h = omega arith
 entries-length form (r ∷ rs) h = rw (length-append) (omega (arith, entry-length form r h, entries-length form rs h))
 
+-- what is put for a record is its entry, whatever its number
+entry-is : (form : Form) (n : ℕ) (r : Record) → 1 ≤ width form → entry form n r ≡ encoded form r
+entry-is Count n r h = absurd (omega arith)
+entry-is Rows n r h = refl
+entry-is Table n r h = refl
+entry-is (One w) n r h = absurd (omega arith)
+
 -- entries that fit are put one after another
-put-entries : (k : Sink) (out : Bytes) (rs : List Record) → 1 ≤ width (k .form) → k .number + length rs < 2 ^ 64
-    → (k .number + length rs) * width (k .form) ≤ length out
-    → putAll k out rs ≡ placed out (k .number * width (k .form)) (entries (k .form) rs)
+put-entries : (form : Form) (n : ℕ) (out : Bytes) (rs : List Record) → 1 ≤ width form → n + length rs < 2 ^ 64
+    → (n + length rs) * width form ≤ length out → putAll form n out rs ≡ placed out (n * width form) (entries form rs)
 unfolding putAll entries flatMap
-put-entries k out [] wide few fit = placed-nothing out (k .number * width (k .form)) (omega arith)
-put-entries k out (r ∷ rs) wide few fit =
-    let n = k .number in
-    let w = width (k .form) in
-    let one = one-more k r rs few in
-    let entry = entry-length (k .form) r wide in
-    let all = entries-length (k .form) rs wide in
-    let spread : (n + suc (length rs)) * w ≡ n * w + w + w * length rs = rw (add-mul n (suc (length rs)) w, suc-mul (length rs) w, mul-comm (length rs) w) (omega arith) in
-    let same : taken k r .number + length rs ≡ n + length (r ∷ rs) = omega arith in
-    let next : taken k r .number * w ≡ n * w + length (encoded (k .form) r) = rw (one, entry, add-mul n 1 w) (omega (arith, one-mul w)) in
-    put-entries (taken k r) (placed out (n * w) (encoded (k .form) r)) rs wide (omega arith) (rw (same, placed-length) fit)
-    ∙ rw next (placed-append out (n * w) (encoded (k .form) r) (entries (k .form) rs) (omega arith))
+put-entries form n out [] wide few fit = placed-nothing out (n * width form) (omega arith)
+put-entries form n out (r ∷ rs) wide few fit =
+    let w = width form in
+    let one : wrapped n 1 ≡ n + 1 = omega arith in
+    let size = entry-length form r wide in
+    let all = entries-length form rs wide in
+    let spread : (n + suc (length rs)) * w ≡ n * w + w + w * length rs =
+    rw (add-mul n (suc (length rs)) w, suc-mul (length rs) w, mul-comm (length rs) w) (omega arith) in
+    let same : n + 1 + length rs ≡ n + length (r ∷ rs) = omega arith in
+    let next : (n + 1) * w ≡ n * w + length (encoded form r) = rw (size, add-mul n 1 w) (omega (arith, one-mul w)) in
+    rw (one, entry-is form n r wide)
+    (put-entries form (n + 1) (placed out (n * w) (encoded form r)) rs wide (omega arith) (rw (same, placed-length) fit)
+    ∙ rw next (placed-append out (n * w) (encoded form r) (entries form rs) (omega arith)))
 
 module _ (s : Bytes) (l : Layout) (read : layout s ≡ accepted l) (form : Form) (each : ℕ) (width-is : each ≡ width form) (wide : 1 ≤ width form)
     (out : Bytes) (n : ℕ) (count : n ≡ length (allRecords s)) where
@@ -186,9 +225,9 @@ module _ (s : Bytes) (l : Layout) (read : layout s ≡ accepted l) (form : Form)
   each-some = omega arith
 
   -- the buffer is too short for all entries
-  pub entries-short : length out / each < n → Written (accepted (entries form (allRecords s))) out out (CountAnswer·is.Refused (refusal 21 0))
-  entries-short h =
-      written-short _ out (entries form (allRecords s)) refl (rw entries-bytes (div-lt-iff-lt-mul each-some .0 h)) _ refl
+  pub entries-short : length out / each < n → (a : CountAnswer) → a ≡ CountAnswer·is.Refused (refusal 21 0)
+      → Written (accepted (entries form (allRecords s))) out out a
+  entries-short h = written-short _ out (entries form (allRecords s)) refl (rw entries-bytes (div-lt-iff-lt-mul each-some .0 h))
 
   -- it is long enough
   module _ (h : n ≤ length out / each) where
@@ -199,13 +238,13 @@ module _ (s : Bytes) (l : Layout) (read : layout s ≡ accepted l) (form : Form)
     entries-fit g = rw (mul-comm each n) (omega (arith, room))
 
     -- they are put
-    pub entries-put : (after : Bytes) (x : Sink) → Delivered (begun form) out (allRecords s) after x
+    pub entries-put : (after : Bytes) (x : ℕ) → Delivered form 0 out (allRecords s) after x
         → Written (accepted (entries form (allRecords s))) out after (CountAnswer·is.Counted (each * n))
     entries-put after x d =
         let few = all-few s l read in
         let rs = allRecords s in
         let all : (0 + length rs) * width form ≤ length out = rw (zero-add (length rs), ← count, ← width-is) room in
-        let put = put-entries (begun form) out rs wide (omega arith) all in
+        let put = put-entries form 0 out rs wide (omega arith) all in
         written-placed _ out (entries form rs) refl (rw entries-bytes room) after (d .buffer ∙ put ∙ rw (zero-mul (width form))) (each * n)
         (mul-comm each n ∙ sym entries-bytes)
 
@@ -217,6 +256,14 @@ rows-entries (r ∷ rs) = ap (λ (b : Bytes). encodeRow (rowOf r) ++ b) (rows-en
 
 -- the answers of the public functions
 module _ (s : Bytes) (a : LayoutAnswer) (read : layoutAnswer a ≡ layout s) where
+  -- what is written of an outline reads back
+  back : ((i : ℕ) → Fits w8 (getD s i 0)) → (out after : Bytes) (x : CountAnswer) → Written (outline s) out after x → OutlineWritten s out after x
+  back known out after x w =
+      record {
+        written = w;
+        reads-back = λ n e. let t = written-taken (outline s) out after n (rw e at w) in read-back s (take n after) (λ i. known i .fits) (t .is);
+      }
+
   refused-as : (r : Refusal) → a ≡ LayoutAnswer·is.Refused r → records s ≡ refused r
   unfolding layoutAnswer
   refused-as r e = records-refused s r (sym read ∙ ap layoutAnswer e)
@@ -230,13 +277,13 @@ module _ (s : Bytes) (a : LayoutAnswer) (read : layoutAnswer a ≡ layout s) whe
     unfolding countAnswer recordCount
     count-refused = rw (recordCount, refused-as r e)
 
-    pub record-refused : (w : ℕ) → recordAnswer (RecordAnswer·is.Refused r) ≡ recordAt s w
-    unfolding recordAnswer recordAt
-    record-refused w = rw (recordAt, refused-as r e)
+    pub record-refused : (w : ℕ) (out : Bytes) → Written (foundBytes recordFields (recordAt s w)) out out (CountAnswer·is.Refused r)
+    unfolding foundBytes recordAt
+    record-refused w out = written-refused (foundBytes recordFields (recordAt s w)) out r (rw (foundBytes, recordAt, refused-as r e)) _ refl
 
-    pub outline-refused : (out : Bytes) → Written (outline s) out out (CountAnswer·is.Refused r)
+    pub outline-refused : ((i : ℕ) → Fits w8 (getD s i 0)) → (out : Bytes) → OutlineWritten s out out (CountAnswer·is.Refused r)
     unfolding outline rows
-    outline-refused out = written-refused (outline s) out r (rw (outline, rows, refused-as r e)) _ refl
+    outline-refused known out = back known out out _ (written-refused (outline s) out r (rw (outline, rows, refused-as r e)) _ refl)
 
     pub table-refused : (out : Bytes) → Written (recordTable s) out out (CountAnswer·is.Refused r)
     unfolding recordTable
@@ -247,10 +294,11 @@ module _ (s : Bytes) (a : LayoutAnswer) (read : layoutAnswer a ≡ layout s) whe
     unfolding countAnswer recordCount
     count-accepted n c = rw (recordCount, accepted-all s l (accepted-as l e), c)
 
-    pub outline-written : (out after : Bytes) (x : CountAnswer) → Written (accepted (entries Rows (allRecords s))) out after x
-        → Written (outline s) out after x
+    pub outline-written : ((i : ℕ) → Fits w8 (getD s i 0)) → (out after : Bytes) (x : CountAnswer)
+        → Written (accepted (entries Rows (allRecords s))) out after x → OutlineWritten s out after x
     unfolding outline rows entries
-    outline-written out after x w = rw (outline, rows, accepted-all s l (accepted-as l e), rows-entries (allRecords s)) w
+    outline-written known out after x w =
+        back known out after x (rw (outline, rows, accepted-all s l (accepted-as l e), rows-entries (allRecords s)) w)
 
     pub table-written : (out after : Bytes) (x : CountAnswer) → Written (accepted (entries Table (allRecords s))) out after x
         → Written (recordTable s) out after x

@@ -8,8 +8,6 @@ use mathlib.Core.List.{List, [], _∷_, _++_, flatMap}
 use lib.ListN.{length, length-append}
 use lib.Dec.{eqb}
 use borrow.Author.Tests.{eq-eqb, ne-eqb}
-use Rattle.format.specs.declared.answer.RecordAnswer.{RecordAnswer}
-use Rattle.format.specs.declared.answer.RecordAnswer.the-variants.{Found, NoSuchBlock}
 use Rattle.format.specs.declared.block.Record.{Record}
 use Rattle.format.specs.declared.row.Row.{Row}
 use Rattle.format.specs.Bytes.{Bytes, wrapped}
@@ -23,17 +21,7 @@ use Rattle.put.proofs.NumberLaws.{numbers-length}
 use Rattle.put.proofs.PutLaws.{placed-nothing, placed-none, placed-append, placed-length}
 use Rattle.nest.specs.declared.sink.Form.{Form}
 use Rattle.nest.specs.declared.sink.Form.the-variants.{Count, Rows, Table, One}
-use Rattle.nest.specs.declared.sink.Sink.{Sink}
-use Rattle.nest.specs.Sink.{encoded, width, entries, begun, foundAt, taken, takenAll, putAll, Delivered}
-
-module _ (form : Form) (n : ℕ) (r : Record) (found : RecordAnswer) (w : ℕ) (one : form ≡ One w) where
-  -- the wanted record has come
-  pub found-now : w ≡ n → Found r ≡ foundAt form n r found
-  found-now h = rw (one, foundAt, eq-eqb w n h)
-
-  -- another has come
-  pub found-before : (w ≡ n → ⊥) → found ≡ foundAt form n r found
-  found-before h = rw (one, foundAt, ne-eqb w n h)
+use Rattle.nest.specs.Sink.{encoded, width, entry, numberBehind, putAll, Delivered}
 
 -- fifteen numbers for each record
 pub record-length : (r : Record) → length (encodeRecord r) ≡ 120
@@ -47,59 +35,70 @@ record-length r = rw (numbers-length (recordFields r)) (fields (r .inner))
     fields TooDeep = refl
 
 -- records and then others
-all-append : (k : Sink) (rs qs : List Record) → takenAll (takenAll k rs) qs ≡ takenAll k (rs ++ qs)
-unfolding takenAll
-all-append k [] qs = refl
-all-append k (r ∷ rs) qs = all-append (taken k r) rs qs
+behind-append : (n : ℕ) (rs qs : List Record) → numberBehind (numberBehind n rs) qs ≡ numberBehind n (rs ++ qs)
+unfolding numberBehind
+behind-append n [] qs = refl
+behind-append n (r ∷ rs) qs = behind-append (wrapped n 1) rs qs
 
-put-append : (k : Sink) (out : Bytes) (rs qs : List Record) → putAll (takenAll k rs) (putAll k out rs) qs ≡ putAll k out (rs ++ qs)
-unfolding takenAll putAll
-put-append k out [] qs = refl
-put-append k out (r ∷ rs) qs = put-append (taken k r) (placed out (k .number * width (k .form)) (encoded (k .form) r)) rs qs
+put-append : (form : Form) (n : ℕ) (out : Bytes) (rs qs : List Record)
+    → putAll form (numberBehind n rs) (putAll form n out rs) qs ≡ putAll form n out (rs ++ qs)
+unfolding numberBehind putAll
+put-append form n out [] qs = refl
+put-append form n out (r ∷ rs) qs = put-append form (wrapped n 1) (placed out (n * width form) (entry form n r)) rs qs
 
 module _ (form : Form) (n : ℕ) (r : Record) (out : Bytes) where
   -- nothing is put of a record that is only counted
-  pub put-count : form ≡ Count → out ≡ placed out (n * width form) (encoded form r)
+  pub put-count : form ≡ Count → out ≡ placed out (n * width form) (entry form n r)
   put-count h = rw (h, mul-zero n) (placed-nothing out 0 (omega arith))
 
-  -- nor of one that is only looked at
-  pub put-one : (w : ℕ) → form ≡ One w → out ≡ placed out (n * width form) (encoded form r)
-  put-one w h = rw (h, mul-zero n) (placed-nothing out 0 (omega arith))
-
   -- there is no place for the row
-  pub put-no-row : form ≡ Rows → length out / 16 ≤ n → out ≡ placed out (n * width form) (encoded form r)
+  pub put-no-row : form ≡ Rows → length out / 16 ≤ n → out ≡ placed out (n * width form) (entry form n r)
   put-no-row h g = rw h (placed-none out (n * 16) (encodeRow (rowOf r)) (omega (arith, encoded-length (rowOf r))))
 
   -- the row is put
   pub put-row : form ≡ Rows → (row : Row) → row ≡ rowOf r → (after : Bytes) → after ≡ placed out (n * 16) (encodeRow row)
-      → after ≡ placed out (n * width form) (encoded form r)
+      → after ≡ placed out (n * width form) (entry form n r)
   put-row h row e after p = rw (h, ← e) p
 
   -- there is no place for the record
-  pub put-no-record : form ≡ Table → length out / 120 ≤ n → out ≡ placed out (n * width form) (encoded form r)
-  unfolding encodeRecord
+  pub put-no-record : form ≡ Table → length out / 120 ≤ n → out ≡ placed out (n * width form) (entry form n r)
   put-no-record h g = rw h (placed-none out (n * 120) (encodeRecord r) (omega (arith, record-length r)))
 
   -- the record is put
-  pub put-record : form ≡ Table → (numbers : List ℕ) → numbers ≡ recordFields r → (after : Bytes)
-      → after ≡ placed out (n * 120) (numberBytes numbers) → after ≡ placed out (n * width form) (encoded form r)
-  unfolding encodeRecord
-  put-record h numbers e after p = rw (h, encodeRecord, ← e) p
+  pub put-table : form ≡ Table → (after : Bytes) → after ≡ placed out (n * 120) (encodeRecord r) → after ≡ placed out (n * width form) (entry form n r)
+  put-table h after p = rw h p
+
+  module _ (w : ℕ) (one : form ≡ One w) where
+    -- another record is wanted
+    pub put-other : (w ≡ n → ⊥) → out ≡ placed out (n * width form) (entry form n r)
+    put-other h = rw (one, mul-zero n, entry, ne-eqb w n h) (placed-nothing out 0 (omega arith))
+
+    -- the wanted record is put
+    pub put-wanted : w ≡ n → (after : Bytes) → after ≡ placed out 0 (encodeRecord r) → after ≡ placed out (n * width form) (entry form n r)
+    put-wanted h after p = rw (one, mul-zero n, entry, eq-eqb w n h) p
+
+-- a record is put as its numbers
+pub record-put : (r : Record) (out : Bytes) (at : ℕ) (numbers : List ℕ) → numbers ≡ recordFields r → (after : Bytes)
+    → after ≡ placed out at (numberBytes numbers) → after ≡ placed out at (encodeRecord r)
+unfolding encodeRecord
+record-put r out at numbers e after p = rw (encodeRecord, ← e) p
 
 -- one record is taken
-pub delivered-one : (k : Sink) (r : Record) (out after : Bytes) → after ≡ placed out (k .number * width (k .form)) (encoded (k .form) r)
-    → (n : ℕ) → n ≡ wrapped (k .number) 1 → (found : RecordAnswer) → found ≡ foundAt (k .form) (k .number) r (k .found)
-    → Delivered k out (r ∷ []) after (record { form = k .form; number = n; found = found })
-unfolding takenAll putAll
-delivered-one k r out after p n e found f = record { sink = rw (e, f); buffer = p }
+pub delivered-one : (form : Form) (n : ℕ) (r : Record) (out after : Bytes) → after ≡ placed out (n * width form) (entry form n r)
+    → (x : ℕ) → x ≡ wrapped n 1 → Delivered form n out (r ∷ []) after x
+unfolding numberBehind putAll
+delivered-one form n r out after p x e = record { next = e; buffer = p }
 
 -- no record is taken
-pub delivered-none : (k : Sink) (out : Bytes) → Delivered k out [] out k
-unfolding takenAll putAll
-delivered-none k out = record { sink = refl; buffer = refl }
+pub delivered-none : (form : Form) (n : ℕ) (out : Bytes) → Delivered form n out [] out n
+unfolding numberBehind putAll
+delivered-none form n out = record { next = refl; buffer = refl }
 
 -- records are taken, and then others
-pub delivered-append : (k mid x : Sink) (out between after : Bytes) (rs qs : List Record) → Delivered k out rs between mid
-    → Delivered mid between qs after x → Delivered k out (rs ++ qs) after x
-delivered-append k mid x out between after rs qs h g =
-    record { sink = g .sink ∙ rw (h .sink) (all-append k rs qs); buffer = g .buffer ∙ rw (h .sink, h .buffer) (put-append k out rs qs) }
+pub delivered-append : (form : Form) (n m x : ℕ) (out between after : Bytes) (rs qs : List Record) → Delivered form n out rs between m
+    → Delivered form m between qs after x → Delivered form n out (rs ++ qs) after x
+delivered-append form n m x out between after rs qs h g =
+    record {
+      next = g .next ∙ rw (h .next) (behind-append n rs qs);
+      buffer = g .buffer ∙ rw (h .next, h .buffer) (put-append form n out rs qs);
+    }

@@ -1,3 +1,4 @@
 -- What the contracts of the walk cite.
 pub mod Sink
 pub mod Walk
+pub mod Promise

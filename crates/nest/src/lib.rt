@@ -4,20 +4,20 @@ mod walk;
 
 ghost use Prim.Native.Nat.{_≤_};
 ghost use mathlib.Core.Path.{_≡_};
-ghost use Rattle.format.specs.Answer.{countAnswer, recordAnswer};
-ghost use Rattle.format.specs.Fields.{recordTable};
+ghost use Rattle.format.specs.declared.answer.CountAnswer.the-variants.{Refused};
+ghost use Rattle.format.specs.Answer.{countAnswer};
+ghost use Rattle.format.specs.Fields.{recordFields, foundBytes, recordTable};
 ghost use Rattle.format.specs.File.{layout as File·layout};
 ghost use Rattle.format.specs.Nest.{recordCount, recordAt};
-ghost use Rattle.format.specs.Outcome.{accepted};
-ghost use Rattle.format.specs.Outline.{outline as Outline·outline};
+ghost use Rattle.format.specs.Outcome.{accepted, refusal};
 ghost use Rattle.put.specs.Written.{Written};
 ghost use lib.ListN.{length};
+ghost use Rattle.nest.specs.Promise.{OutlineWritten};
 ghost use Rattle.nest.specs.Walk.{allRecords};
 ghost use Rattle.nest.specs.Sink.{entries, width};
 use crate::sink::Form;
 use format::answer::CountAnswer;
 use format::answer::LayoutAnswer;
-use format::answer::RecordAnswer;
 use format::layout::Layout;
 use format::offset::Offset;
 use format::refusal::Refusal;
@@ -34,7 +34,7 @@ pub fn count(s: &[u8]) -> CountAnswer
 
 // Writes the outline of a file: a row of sixteen bytes for each block.
 pub fn outline(s: &[u8], out: &mut [u8]) -> CountAnswer
-    ensures { λ r. ⌜ Written (Outline·outline (now (s .entry))) (now (out .entry)) (now (out .exit)) r ⌝ }
+    ensures { λ r. ⌜ OutlineWritten (now (s .entry)) (now (out .entry)) (now (out .exit)) r ⌝ }
 {
     match file::layout::read(s) {
         LayoutAnswer::Refused(r) => CountAnswer::Refused(r),
@@ -52,13 +52,13 @@ pub fn records(s: &[u8], out: &mut [u8]) -> CountAnswer
     }
 }
 
-// The record of this number, that there is none, or the file's refusal.
-pub fn record(s: &[u8], wanted: u64) -> RecordAnswer
-    ensures { λ r. ⌜ recordAnswer r ≡ recordAt (now (s .entry)) wanted ⌝ }
+// Writes the record of this number, in 120 bytes, or nothing where there is none.
+pub fn record(s: &[u8], wanted: u64, out: &mut [u8]) -> CountAnswer
+    ensures { λ r. ⌜ Written (foundBytes recordFields (recordAt (now (s .entry)) wanted)) (now (out .entry)) (now (out .exit)) r ⌝ }
 {
     match file::layout::read(s) {
-        LayoutAnswer::Refused(r) => RecordAnswer::Refused(r),
-        LayoutAnswer::Accepted(l) => find_in(s, l, wanted),
+        LayoutAnswer::Refused(r) => CountAnswer::Refused(r),
+        LayoutAnswer::Accepted(l) => write_one(s, l, wanted, out),
     }
 }
 
@@ -68,18 +68,32 @@ fn count_in(s: &[u8], l: Layout) -> u64
     ensures { λ r. ⌜ r ≡ length (allRecords (now (s .entry))) ⌝ }
 {
     let mut nothing = [0u8; 1];
-    let end = walk::walk_all(s, l, Form::Count, &mut nothing);
-    end.number
+    walk::walk_all(s, l, Form::Count, &mut nothing)
 }
 
-// The record of this number in an accepted file, or that there is none.
-fn find_in(s: &[u8], l: Layout, wanted: u64) -> RecordAnswer
+// Writes the record of this number of an accepted file. One walk does: where the record does not fit, the walk changes nothing.
+fn write_one(s: &[u8], l: Layout, wanted: u64, out: &mut [u8]) -> CountAnswer
     requires { ⌜ File·layout (now s) ≡ accepted l ⌝ }
-    ensures { λ r. ⌜ recordAnswer r ≡ recordAt (now (s .entry)) wanted ⌝ }
+    ensures { λ r. ⌜ Written (foundBytes recordFields (recordAt (now (s .entry)) wanted)) (now (out .entry)) (now (out .exit)) r ⌝ }
 {
-    let mut nothing = [0u8; 1];
-    let end = walk::walk_all(s, l, Form::One(wanted), &mut nothing);
-    end.found
+    let n = walk::walk_all(s, l, Form::One(wanted), out);
+    if n <= wanted {
+        return CountAnswer::Counted(0);
+    }
+    if out.len() < 120 {
+        return too_short();
+    }
+    CountAnswer::Counted(120)
+}
+
+// The lent buffer is shorter than the result.
+fn too_short() -> CountAnswer
+    ensures { λ r. ⌜ r ≡ Refused (refusal 21 0) ⌝ }
+{
+    CountAnswer::Refused(Refusal {
+        number: 21,
+        place: Offset(0),
+    })
 }
 
 // Writes an entry for each record of an accepted file. They are counted first, so that a refusal changes nothing.
@@ -91,10 +105,7 @@ fn write(s: &[u8], l: Layout, form: Form, out: &mut [u8]) -> CountAnswer
     let each = sink::width_of(form);
     let n = count_in(s, l);
     if out.len() as u64 / each < n {
-        return CountAnswer::Refused(Refusal {
-            number: 21,
-            place: Offset(0),
-        });
+        return too_short();
     }
     walk::walk_all(s, l, form, out);
     CountAnswer::Counted(each * n)

@@ -5,11 +5,10 @@ ghost use lib.ListN.{length};
 ghost use Rattle.format.specs.File.{mostBytes, firstBlock, layout as File·layout};
 ghost use Rattle.format.specs.Nest.{deepest};
 ghost use Rattle.format.specs.Outcome.{accepted};
-ghost use Rattle.nest.specs.Sink.{Delivered, begun};
+ghost use Rattle.nest.specs.Sink.{Delivered};
 ghost use Rattle.nest.specs.Walk.{recordsOf, recordsWith, insideOf, NextIs, ContentIs, allRecords};
 use crate::sink;
 use crate::sink::Form;
-use crate::sink::Sink;
 use file::block;
 use file::block::BlockStep;
 use format::answer::LayoutAnswer;
@@ -43,13 +42,22 @@ pub(crate) enum NextStep {
 }
 
 // Walks all blocks of an accepted file.
-pub(crate) fn walk_all(s: &[u8], l: Layout, form: Form, out: &mut [u8]) -> Sink
+pub(crate) fn walk_all(s: &[u8], l: Layout, form: Form, out: &mut [u8]) -> u64
     requires { ⌜ File·layout (now s) ≡ accepted l ⌝ }
-    ensures { λ x. ⌜ Delivered (begun form) (now (out .entry)) (allRecords (now (s .entry))) (now (out .exit)) x ⌝ }
+    ensures { λ x. ⌜ Delivered form 0 (now (out .entry)) (allRecords (now (s .entry))) (now (out .exit)) x ⌝ }
 {
     let first = first_block(l);
-    let k = sink::begin(form);
-    walk_blocks(s, 0, OutermostOffset::start(), first, 0, l.blocks, k, out)
+    walk_blocks(
+        s,
+        0,
+        OutermostOffset::start(),
+        first,
+        0,
+        l.blocks,
+        form,
+        0,
+        out,
+    )
 }
 
 // Where the first block begins, if there is one.
@@ -76,25 +84,26 @@ fn walk_blocks(
     at: usize,
     ordinal: u8,
     left: u8,
-    k: Sink,
+    form: Form,
+    number: u64,
     out: &mut [u8],
-) -> Sink
+) -> u64
     requires { ⌜ start .0 + length (now s) ≤ mostBytes ⌝ }
     requires { ⌜ depth ≤ deepest ⌝ }
     requires { ⌜ at ≤ length (now s) ⌝ }
     requires { ⌜ ordinal + left ≤ 64 ⌝ }
-    ensures { λ x. ⌜ Delivered k (now (out .entry)) (recordsOf depth (start .0) (now (s .entry)) at ordinal left) (now (out .exit)) x ⌝ }
+    ensures { λ x. ⌜ Delivered form number (now (out .entry)) (recordsOf depth (start .0) (now (s .entry)) at ordinal left) (now (out .exit)) x ⌝ }
 {
     if left == 0 {
-        return k;
+        return number;
     }
     match next_block(s, at, ordinal) {
-        NextStep::NoBlock => k,
+        NextStep::NoBlock => number,
         NextStep::Block { b, from, to, next } => {
             let here = Offset(at as u64).outermost(start);
             let content = Offset(from as u64).outermost(start);
-            let mid = walk_content(&s[from..to], content, depth, here, b, k, out);
-            walk_blocks(s, depth, start, next, ordinal + 1, left - 1, mid, out)
+            let n = walk_content(&s[from..to], content, depth, here, b, form, number, out);
+            walk_blocks(s, depth, start, next, ordinal + 1, left - 1, form, n, out)
         }
     }
 }
@@ -126,12 +135,13 @@ fn walk_content(
     depth: u8,
     here: OutermostOffset,
     b: Block,
-    k: Sink,
+    form: Form,
+    number: u64,
     out: &mut [u8],
-) -> Sink
+) -> u64
     requires { ⌜ start .0 + length (now t) ≤ mostBytes ⌝ }
     requires { ⌜ depth ≤ deepest ⌝ }
-    ensures { λ x. ⌜ Delivered k (now (out .entry)) (recordsWith depth here b (insideOf depth (start .0) b (now (t .entry)))) (now (out .exit)) x ⌝ }
+    ensures { λ x. ⌜ Delivered form number (now (out .entry)) (recordsWith depth here b (insideOf depth (start .0) b (now (t .entry)))) (now (out .exit)) x ⌝ }
 {
     match content_of(t, depth, b) {
         ContentStep::Closed(inner) => {
@@ -141,7 +151,7 @@ fn walk_content(
                 block: b,
                 inner,
             };
-            sink::take_record(k, r, out)
+            sink::take_record(form, number, r, out)
         }
         ContentStep::Open { first, blocks } => {
             let inner = Inner::Opened;
@@ -151,8 +161,8 @@ fn walk_content(
                 block: b,
                 inner,
             };
-            let mid = sink::take_record(k, r, out);
-            walk_blocks(t, depth + 1, start, first, 0, blocks, mid, out)
+            let n = sink::take_record(form, number, r, out);
+            walk_blocks(t, depth + 1, start, first, 0, blocks, form, n, out)
         }
     }
 }

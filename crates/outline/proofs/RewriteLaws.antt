@@ -20,8 +20,9 @@ use Rattle.format.specs.Outline.{encodeRow, decodeRow, storedCount, rewritten}
 use Rattle.format.proofs.RowLaws.{encode-decode}
 use Rattle.format.proofs.OutlineLaws.{same-bytes}
 use Rattle.put.specs.Written.{Written}
+use Rattle.outline.specs.Rewrite.{WrittenAgain}
 use Rattle.put.proofs.PutLaws.{placed-sets, placed-length, placed-behind}
-use Rattle.put.proofs.WrittenLaws.{written-refused, written-short, written-placed}
+use Rattle.put.proofs.WrittenLaws.{written-refused, written-short, written-placed, written-taken}
 use Rattle.outline.proofs.RowLaws.{part-length, part-bytes}
 use Rattle.outline.proofs.StoredLaws.{has-rows, no-rows}
 
@@ -57,11 +58,16 @@ rows-step b before out after at r h e f known p whole room =
 pub rows-done : (b before after : Bytes) (at : ℕ) → Putting b before after at → length b ≤ at → after ≡ placed before 0 b
 rows-done b before after at h p = rw (take-all at b p) at (h .put)
 
+-- an outline that is not written is not written otherwise
+not-written : (b out : Bytes) (r : Refusal) (x : CountAnswer) → x ≡ Refused r → Written (rewritten b) out out x → WrittenAgain b out out x
+not-written b out r x e w = record { written = w; same = λ n f. let clash : Refused r ≡ Counted n = sym e ∙ f in cc }
+
 -- the outline is refused
 pub rewrite-refused : (b out : Bytes) (a : CountAnswer) (r : Refusal) → countAnswer a ≡ storedCount b → a ≡ Refused r
-    → Written (rewritten b) out out (Refused r)
+    → WrittenAgain b out out (Refused r)
 unfolding rewritten
-rewrite-refused b out a r h e = written-refused (rewritten b) out r (rw (rewritten, no-rows b a r h e)) (Refused r) refl
+rewrite-refused b out a r h e =
+    not-written b out r (Refused r) refl (written-refused (rewritten b) out r (rw (rewritten, no-rows b a r h e)) (Refused r) refl)
 
 module _ (b : Bytes) (a : CountAnswer) (n : ℕ) (h : countAnswer a ≡ storedCount b) (e : a ≡ Counted n) where
   -- it is accepted, and has whole rows
@@ -77,9 +83,17 @@ module _ (b : Bytes) (a : CountAnswer) (n : ℕ) (h : countAnswer a ≡ storedCo
         rw (rewritten, rows) (ap accepted (same-bytes b _ (λ i. known i .fits) rows))
 
     -- there is no room
-    pub rewrite-long : (x : CountAnswer) → length out < length b → x ≡ Refused (refusal 21 0) → Written (rewritten b) out out x
-    rewrite-long x p = written-short (rewritten b) out b same-again p x
+    pub rewrite-long : (x : CountAnswer) → length out < length b → x ≡ Refused (refusal 21 0) → WrittenAgain b out out x
+    rewrite-long x p f = not-written b out (refusal 21 0) x f (written-short (rewritten b) out b same-again p x f)
 
     -- there is
-    pub rewrite-done : (after : Bytes) → length b ≤ length out → after ≡ placed out 0 b → Written (rewritten b) out after (Counted (length b))
-    rewrite-done after p f = written-placed (rewritten b) out b same-again p after f (length b) refl
+    pub rewrite-done : (after : Bytes) → length b ≤ length out → after ≡ placed out 0 b → WrittenAgain b out after (Counted (length b))
+    rewrite-done after p f =
+        let w = written-placed (rewritten b) out b same-again p after f (length b) refl in
+        record {
+          written = w;
+          same = λ m c.
+              let t = written-taken (rewritten b) out after m (rw c at w) in
+              let both : accepted (take m after) ≡ accepted b = sym (t .is) ∙ same-again in
+              cc;
+        }

@@ -3,7 +3,6 @@ ghost use Prim.Native.Nat.{_+_, _≤_, _<_};
 ghost use mathlib.Core.Path.{_≡_};
 ghost use lib.ListN.{length, take, drop};
 ghost use Rattle.format.specs.Answer.{rowAnswer};
-ghost use Rattle.format.specs.Bytes.{bit as Bytes·bit};
 ghost use Rattle.format.specs.Lent.{placed};
 ghost use Rattle.format.specs.Outcome.{accepted};
 ghost use Rattle.format.specs.Outline.{encodeRow, decodeRow, innerNumber, rowOf};
@@ -15,6 +14,7 @@ use format::block::Record;
 use format::offset::Offset;
 use format::offset::OutermostOffset;
 use format::row::Row;
+use put::fields::bit;
 use scan::number;
 
 // The row of a block.
@@ -92,13 +92,6 @@ fn state(r: Row) -> u64
         + bit(r.compressed) * 8
         + bit(r.checksum) * 4
         + (r.inner % 4) as u64
-}
-
-// A flag as a number.
-pub fn bit(b: bool) -> u64
-    ensures { λ n. ⌜ (n ≡ Bytes·bit b) × (n < 2) ⌝ }
-{
-    if b { 1 } else { 0 }
 }
 
 // The row in the sixteen bytes at an offset, or that so many are not there. The rows around it are not looked at.

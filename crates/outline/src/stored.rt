@@ -6,8 +6,8 @@ ghost use Rattle.format.specs.declared.answer.CountAnswer.the-variants.{Refused
 ghost use Rattle.format.specs.Answer.{countAnswer, rowAnswer};
 ghost use Rattle.format.specs.Lent.{placed};
 ghost use Rattle.format.specs.Outcome.{refusal};
-ghost use Rattle.format.specs.Outline.{isRow, storedCount, storedAt, rewritten};
-ghost use Rattle.put.specs.Written.{Written};
+ghost use Rattle.format.specs.Outline.{isRow, storedCount, storedAt};
+ghost use Rattle.outline.specs.Rewrite.{WrittenAgain};
 use crate::row;
 use format::answer::CountAnswer;
 use format::answer::RowAnswer;
@@ -78,7 +78,7 @@ pub fn row(b: &[u8], k: u64) -> RowAnswer
 
 // Reads a stored outline and writes its rows again.
 pub fn rewrite(b: &[u8], out: &mut [u8]) -> CountAnswer
-    ensures { λ r. ⌜ Written (rewritten (now (b .entry))) (now (out .entry)) (now (out .exit)) r ⌝ }
+    ensures { λ r. ⌜ WrittenAgain (now (b .entry)) (now (out .entry)) (now (out .exit)) r ⌝ }
 {
     match count(b) {
         CountAnswer::Refused(r) => CountAnswer::Refused(r),

@@ -1,4 +1,4 @@
--- What is reported of a block, as lists of numbers.
+-- What is reported of a block, and of a row, as lists of numbers.
 use Prim.Native.Nat.{ℕ}
 use mathlib.Core.Path.{_≡_, refl}
 use mathlib.Core.List.{List, [], _∷_, _++_}
@@ -7,7 +7,9 @@ use Rattle.format.specs.declared.block.Record.{Record}
 use Rattle.format.specs.declared.block.Inner.{Inner}
 use Rattle.format.specs.declared.block.Inner.the-variants.{Plain, Opened, Refused, TooDeep}
 use Rattle.format.specs.declared.refusal.Refusal.{Refusal}
-use Rattle.format.specs.Fields.{blockFields, innerFields, recordFields}
+use Rattle.format.specs.declared.row.Row.{Row}
+use Rattle.format.specs.Bytes.{bit}
+use Rattle.format.specs.Fields.{blockFields, innerFields, recordFields, rowFields}
 
 -- a refused inner state's numbers
 pub inner-refused : (i : Inner) (r : Refusal) → i ≡ Refused r → 2 ∷ r .number ∷ r .place .0 ∷ [] ≡ innerFields i
@@ -26,3 +28,9 @@ pub record-three : (r : Record) (three : List ℕ) → three ≡ innerFields (r 
     → r .depth ∷ at ∷ getD three 0 0 ∷ getD three 1 0 ∷ getD three 2 0 ∷ blockFields (r .block) ≡ recordFields r
 unfolding recordFields
 record-three r three f at e = rw (f, e, three-fields (r .inner) (blockFields (r .block)))
+
+-- a row's offset and flags stand among its numbers
+pub row-numbers : (r : Row) (at streamed compressed checksum : ℕ) → at ≡ r .at .0 → streamed ≡ bit (r .streamed)
+    → compressed ≡ bit (r .compressed) → checksum ≡ bit (r .checksum)
+    → r .depth ∷ r .ordinal ∷ at ∷ r .«header_size» ∷ r .allocated ∷ r .used ∷ streamed ∷ compressed ∷ checksum ∷ r .inner ∷ [] ≡ rowFields r
+row-numbers r at streamed compressed checksum a s c k = rw (a, s, c, k)

@@ -1,6 +1,7 @@
 -- Bytes put into a buffer.
 use Prim.Native.Nat.{ℕ, zero, suc, _+_, _-_, _/_, _%_, _≤_, _<_}
 use native.Mathlib.Nat.{add-zero}
+use native.Mathlib.Numerals.{towards-suc}
 use native.Mathlib.Omega.{arith}
 use mathlib.Core.Path.{_≡_, refl, sym, _∙_}
 use mathlib.Core.Bool.{Bool, true, false}
@@ -38,6 +39,41 @@ pub placed-sets : (out : Bytes) (n : ℕ) (bytes : Bytes) → n + length bytes �
 unfolding placed
 placed-sets out n bytes h = rw (placed, le-leb (n + length bytes) (length out) h) (sym (sets-eq bytes out n h))
 
+-- bytes and others behind them are put in two steps
+pub sets-append : (out : Bytes) (n : ℕ) (bytes others : Bytes) → sets out n (bytes ++ others) ≡ sets (sets out n bytes) (n + length bytes) others
+sets-append out n [] others = rw (add-zero n)
+sets-append out n (a ∷ bytes) others =
+    let e : suc n + length bytes ≡ n + suc (length bytes) = omega arith in
+    rw (sets-append (set out n a) (suc n) bytes others, e)
+
+-- there is place for four bytes, so for each of them
+module _ (at n : ℕ) (h : at + 4 ≤ n) where
+  pub second-inside : at + 1 < n
+  second-inside = omega arith
+
+  pub third-inside : at + 2 < n
+  third-inside = omega arith
+
+  pub last-inside : at + 3 < n
+  last-inside = omega arith
+
+-- four bytes are put
+pub four-put : (out : Bytes) (at x : ℕ)
+    → set (set (set (set out at (x / 256 / 256 / 256 % 256)) (at + 1) (x / 256 / 256 % 256)) (at + 2) (x / 256 % 256)) (at + 3) (x % 256)
+    ≡ sets out at (toBytes 4 x)
+four-put out at x = simp towards-suc
+
+-- eight bytes are put by halves
+pub eight-put : (out mid after : Bytes) (at width x : ℕ) → width ≡ 8 → mid ≡ sets out at (toBytes 4 (x / 4294967296))
+    → after ≡ sets mid (at + 4) (toBytes 4 x) → after ≡ sets out at (toBytes width x)
+eight-put out mid after at width x h e f =
+    let halves : x / 4294967296 ≡ x / 256 / 256 / 256 / 256 = omega arith in
+    rw h (f ∙ rw (e, halves) (sym (sets-append out at (toBytes 4 (x / 256 / 256 / 256 / 256)) (toBytes 4 x))))
+
+-- four bytes are all
+pub four-all : (out after : Bytes) (at width x : ℕ) → width ≡ 4 → after ≡ sets out at (toBytes 4 x) → after ≡ sets out at (toBytes width x)
+four-all out after at width x h e = rw h e
+
 -- no bytes change nothing
 pub placed-nothing : (out : Bytes) (n : ℕ) → n ≤ length out → out ≡ placed out n []
 placed-nothing out n h = sym (placed-sets out n [] (omega arith))
@@ -50,13 +86,6 @@ placed-length out n bytes = by-test (leb (n + length bytes) (length out)) refl
     by-test : (t : Bool) → leb (n + length bytes) (length out) ≡ t → length (placed out n bytes) ≡ length out
     by-test true e = rw (placed-sets out n bytes (leb-true (n + length bytes) (length out) e), length-sets)
     by-test false e = rw (placed, e)
-
--- bytes and others behind them are put in two steps
-pub sets-append : (out : Bytes) (n : ℕ) (bytes others : Bytes) → sets out n (bytes ++ others) ≡ sets (sets out n bytes) (n + length bytes) others
-sets-append out n [] others = rw (add-zero n)
-sets-append out n (a ∷ bytes) others =
-    let e : suc n + length bytes ≡ n + suc (length bytes) = omega arith in
-    rw (sets-append (set out n a) (suc n) bytes others, e)
 
 -- where both fit, bytes placed directly behind others are placed with them
 pub placed-append : (out : Bytes) (n : ℕ) (bytes others : Bytes) → n + length bytes + length others ≤ length out

@@ -1,9 +1,12 @@
-// What is reported of a block, as a list of numbers.
+// What is reported of a block, and of a row, as a list of numbers.
+ghost use Prim.Native.Nat.{_<_};
 ghost use mathlib.Core.Path.{_≡_};
-ghost use Rattle.format.specs.Fields.{blockFields, innerFields, recordFields};
+ghost use Rattle.format.specs.Bytes.{bit as Bytes·bit};
+ghost use Rattle.format.specs.Fields.{blockFields, innerFields, recordFields, rowFields};
 use format::block::Block;
 use format::block::Inner;
 use format::block::Record;
+use format::row::Row;
 
 // A block: its ordinal, place, header size, flags, compression, sizes and checksum.
 pub fn block_fields(b: Block) -> [u64; 10]
@@ -59,4 +62,29 @@ pub fn record_fields(r: Record) -> [u64; 15]
         b.checksum_high,
         b.checksum_low,
     ]
+}
+
+// A row: its depth, ordinal, offset, header size and sizes, its flags and its inner state.
+pub fn row_fields(r: Row) -> [u64; 10]
+    ensures { λ x. ⌜ x ≡ rowFields r ⌝ }
+{
+    [
+        r.depth as u64,
+        r.ordinal as u64,
+        r.at.number(),
+        r.header_size as u64,
+        r.allocated,
+        r.used,
+        bit(r.streamed),
+        bit(r.compressed),
+        bit(r.checksum),
+        r.inner as u64,
+    ]
+}
+
+// A flag as a number.
+pub fn bit(b: bool) -> u64
+    ensures { λ n. ⌜ (n ≡ Bytes·bit b) × (n < 2) ⌝ }
+{
+    if b { 1 } else { 0 }
 }

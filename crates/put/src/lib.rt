@@ -24,8 +24,39 @@ pub fn put_number(out: &mut [u8], at: usize, width: usize, x: u64)
     put_bytes(out, at, width, x);
 }
 
-// The same where they fit.
+// The same where they fit. Eight and four bytes take no loop.
 fn put_bytes(out: &mut [u8], at: usize, width: usize, x: u64)
+    requires { ⌜ at + width ≤ length (now out) ⌝ }
+    ensures { λ _. ⌜ now (out .exit) ≡ sets (now (out .entry)) at (toBytes width x) ⌝ }
+{
+    if width == 8 {
+        put_four(out, at, x / 4294967296);
+        put_four(out, at + 4, x);
+        return;
+    }
+    if width == 4 {
+        put_four(out, at, x);
+        return;
+    }
+    put_each(out, at, width, x);
+}
+
+// Puts the last four bytes of a number: the compiler makes one write of it.
+fn put_four(out: &mut [u8], at: usize, x: u64)
+    requires { ⌜ at + 4 ≤ length (now out) ⌝ }
+    ensures { λ _. ⌜ now (out .exit) ≡ sets (now (out .entry)) at (toBytes 4 x) ⌝ }
+{
+    let third = x / 256;
+    let second = third / 256;
+    let first = second / 256;
+    out[at] = (first % 256) as u8;
+    out[at + 1] = (second % 256) as u8;
+    out[at + 2] = (third % 256) as u8;
+    out[at + 3] = (x % 256) as u8;
+}
+
+// Puts any number of bytes, the last first.
+fn put_each(out: &mut [u8], at: usize, width: usize, x: u64)
     requires { ⌜ at + width ≤ length (now out) ⌝ }
     ensures { λ _. ⌜ now (out .exit) ≡ sets (now (out .entry)) at (toBytes width x) ⌝ }
 {

@@ -1,25 +1,25 @@
 -- Numbers: one law for each way out of the loops and tests. What is read so far is the number of the bytes so far.
 use Prim.Native.Nat.{ℕ, suc, _+_, _-_, _*_, _%_, _^_, _≤_, _<_, min}
 use native.Mathlib.Nat.{lt-of-lt-of-le, pow-le-pow-right, pow-suc}
-use native.Mathlib.Numerals.{add-one}
+use native.Mathlib.Numerals.{add-one, towards-suc}
 use native.Mathlib.Omega.{arith}
 use mathlib.Core.Path.{_≡_, refl, sym, ap, _∙_}
 use mathlib.Core.Bool.{Bool, true, false, not, and-true, and-false}
 use mathlib.Core.List.{[], _∷_, _++_}
-use lib.ListN.{length, take, drop, getD, length-take}
-use lib.Seq.{take-suc, take-all, split-at}
+use lib.ListN.{length, take, drop, getD, length-take, length-drop, take-append-drop}
+use lib.Seq.{take-suc, take-all, split-at, drop-cons}
 use lib.Dec.{leb}
 use mir.Syntax.{w64}
 use mir.Val.{Fits}
 use borrow.Author.Tests.{le-leb, lt-leb, not-true, not-false}
-use Rattle.format.specs.Bytes.{Bytes, text, begins, number}
+use Rattle.format.specs.Bytes.{Bytes, text, begins, number, bigEndian}
 use Rattle.format.specs.Numeral.{isDigit, allDigits, decimalValue, isNumeral, numeral}
 use Rattle.format.proofs.ByteLaws.{and-both}
 use Rattle.format.proofs.PackLaws.{big-endian-append}
 use Rattle.format.proofs.NumeralLaws.{digits-append, length-snoc, value-snoc, digit-range, value-below}
 use Rattle.scan.specs.declared.number.Number.{Number}
 use Rattle.scan.specs.declared.number.Number.the-variants.{Value, Malformed}
-use Rattle.scan.specs.Number.{BigEndian, Digits, digitsOf, leadsWell, DigitsRead, NumeralRead}
+use Rattle.scan.specs.Number.{BigEndian, Four, Digits, digitsOf, leadsWell, DigitsRead, NumeralRead}
 
 -- a number of few digits is one of more
 below-more : (b x m n : ℕ) → 1 ≤ b → m ≤ n → x < b ^ m → x < b ^ n
@@ -47,6 +47,43 @@ module _ (s : Bytes) (i x : ℕ) (read : BigEndian (take i s) x) where
   -- all bytes are read
   pub big-endian-done : length s ≤ i → BigEndian s x
   big-endian-done h = rw (take-all i s h) at read
+
+-- the four bytes at an offset
+four-bytes : (s : Bytes) (at : ℕ) → at + 4 ≤ length s
+    → take 4 (drop at s) ≡ getD s at 0 ∷ getD s (at + 1) 0 ∷ getD s (at + 2) 0 ∷ getD s (at + 3) 0 ∷ []
+four-bytes s at h =
+    rw (drop-cons s at 0 (omega arith), drop-cons s (suc at) 0 (omega arith), drop-cons s (suc (suc at)) 0 (omega arith), drop-cons s (suc (suc (suc at))) 0 (omega arith))
+    (simp towards-suc)
+
+-- give this number
+pub four-read : (s : Bytes) (at a b c d : ℕ) → at + 4 ≤ length s → a ≡ getD s at 0 → b ≡ getD s (at + 1) 0 → c ≡ getD s (at + 2) 0
+    → d ≡ getD s (at + 3) 0 → a < 256 → b < 256 → c < 256 → d < 256 → Four s at (((a * 256 + b) * 256 + c) * 256 + d)
+four-read s at a b c d h ea eb ec ed la lb lc ld = record { is = rw (four-bytes s at h) (omega arith); small = omega arith }
+
+-- bytes of which no more than eight give a number
+few-bytes : (s : Bytes) (r n : ℕ) → length s ≡ n → n ≤ 8 → r ≡ bigEndian s → r < 256 ^ n → BigEndian s r
+few-bytes s r n e h is small =
+    record { is = omega (arith, below-more 256 r n 8 (omega arith) h small); whole = λ few. is; small = rw e small }
+
+module _ (s : Bytes) where
+  -- eight bytes are read by halves
+  pub eight-read : (a b : ℕ) → length s ≡ 8 → Four s 0 a → Four s 4 b → BigEndian s (a * 4294967296 + b)
+  eight-read a b h first second =
+      let rest = take-all 4 (drop 4 s) (simp length-drop (omega arith)) in
+      let four : length (drop 4 s) ≡ 4 = simp length-drop (omega arith) in
+      let sum = rw (take-append-drop 4 s, four) at (big-endian-append (take 4 s) (drop 4 s)) in
+      few-bytes s (a * 4294967296 + b) 8 h (omega arith) (omega (arith, sum, first .is, rw rest at (second .is))) (omega (arith, first .small, second .small))
+
+  -- four bytes
+  pub all-four : (a : ℕ) → length s ≡ 4 → Four s 0 a → BigEndian s a
+  all-four a h first = few-bytes s a 4 h (omega arith) (rw (take-all 4 s (omega arith)) at (first .is)) (first .small)
+
+-- two bytes
+pub two-read : (s : Bytes) (a b : ℕ) → length s ≡ 2 → a ≡ getD s 0 0 → b ≡ getD s 1 0 → a < 256 → b < 256 → BigEndian s (a * 256 + b)
+two-read [] a b h ea eb la lb = absurd (omega arith)
+two-read (x ∷ []) a b h ea eb la lb = absurd (omega arith)
+two-read (x ∷ y ∷ []) a b h ea eb la lb = few-bytes (x ∷ y ∷ []) (a * 256 + b) 2 h (omega arith) (omega arith) (omega arith)
+two-read (x ∷ y ∷ z ∷ s) a b h ea eb la lb = absurd (omega arith)
 
 module _ (s : Bytes) (n w r : ℕ) (read : BigEndian (take w (drop n s)) r) where
   -- the number of up to eight bytes at an offset

@@ -5,7 +5,7 @@ use mathlib.Core.Bool.{Bool, true, false, _||_, not}
 use mathlib.Core.Option.{Option, none, some}
 use lib.ListN.{length}
 use lib.Dec.{leb}
-use Rattle.format.specs.Bytes.{Bytes, text, begins, bigEndian}
+use Rattle.format.specs.Bytes.{Bytes, text, begins, bigEndian, number}
 use Rattle.format.specs.Numeral.{numeral, allDigits, decimalValue}
 use Rattle.scan.specs.declared.number.Number.{Number}
 use Rattle.scan.specs.declared.number.Number.the-variants.{Value, Malformed}
@@ -15,6 +15,11 @@ pub record BigEndian (s : Bytes) (r : ℕ) : Type 0 where
   pub is : r ≡ bigEndian s % 2 ^ 64
   pub whole : length s ≤ 8 → r ≡ bigEndian s
   pub small : r < 256 ^ length s
+
+-- r is the number in the four bytes at offset n
+pub record Four (s : Bytes) (n r : ℕ) : Type 0 where
+  pub is : r ≡ number n 4 s
+  pub small : r < 4294967296
 
 -- what an answer says
 abbrev pub numberOf : Number → Option ℕ

@@ -1,13 +1,38 @@
 // Numbers, in bytes and in decimal digits.
-ghost use Prim.Native.Nat.{_≤_, _<_};
+ghost use Prim.Native.Nat.{_+_, _≤_, _<_};
 ghost use mathlib.Core.Path.{_≡_};
 ghost use lib.ListN.{length};
 ghost use Rattle.format.specs.Numeral.{isDigit as Numeral·isDigit};
-ghost use Rattle.scan.specs.Number.{BigEndian, leadsWell, NumeralRead, DigitsRead};
+ghost use Rattle.scan.specs.Number.{BigEndian, Four, leadsWell, NumeralRead, DigitsRead};
 use crate::text;
 
 // The number that bytes give, the first the most significant; of more than eight bytes the last eight count.
+// Eight, four and two bytes, as fields have them, take no loop.
 pub fn big_endian(s: &[u8]) -> u64
+    ensures { λ r. ⌜ BigEndian (now (s .entry)) r ⌝ }
+{
+    if s.len() == 8 {
+        return four(s, 0) as u64 * 4294967296 + four(s, 4) as u64;
+    }
+    if s.len() == 4 {
+        return four(s, 0) as u64;
+    }
+    if s.len() == 2 {
+        return wide(s[0]) * 256 + wide(s[1]);
+    }
+    byte_by_byte(s)
+}
+
+// The number in the four bytes at an offset, in 32 bits: the compiler makes one read of it.
+fn four(s: &[u8], at: usize) -> u32
+    requires { ⌜ at + 4 ≤ length (now s) ⌝ }
+    ensures { λ r. ⌜ Four (now (s .entry)) at r ⌝ }
+{
+    ((narrow(s[at]) * 256 + narrow(s[at + 1])) * 256 + narrow(s[at + 2])) * 256 + narrow(s[at + 3])
+}
+
+// The same of any number of bytes.
+fn byte_by_byte(s: &[u8]) -> u64
     ensures { λ r. ⌜ BigEndian (now (s .entry)) r ⌝ }
 {
     let mut x: u64 = 0;
@@ -24,6 +49,13 @@ fn wide(b: u8) -> u64
     ensures { λ r. ⌜ (r ≡ b) × (r < 256) ⌝ }
 {
     b as u64
+}
+
+// A byte as a number of 32 bits.
+fn narrow(b: u8) -> u32
+    ensures { λ r. ⌜ (r ≡ b) × (r < 256) ⌝ }
+{
+    b as u32
 }
 
 // What digits read as.

@@ -2,49 +2,15 @@
 
 #![allow(unsafe_code)]
 
+use asdf_map::Map;
+pub use asdf_sys::{
+    block, count, edit, index, outline, read, record, records, rewrite, stored_count, stored_row,
+};
 use std::ffi::{c_int, c_void};
 use std::io;
 use std::ops::Deref;
-use std::ptr::null_mut;
-use std::slice;
 
 extern "C" {
-    fn asdf_read(file: *const u8, file_len: usize, out: *mut u8, out_len: usize) -> u64;
-    fn asdf_block(file: *const u8, file_len: usize, k: u64, out: *mut u8, out_len: usize) -> u64;
-    fn asdf_count(file: *const u8, file_len: usize) -> u64;
-    fn asdf_outline(file: *const u8, file_len: usize, out: *mut u8, out_len: usize) -> u64;
-    fn asdf_record(file: *const u8, file_len: usize, k: u64, out: *mut u8, out_len: usize) -> u64;
-    fn asdf_records(file: *const u8, file_len: usize, out: *mut u8, out_len: usize) -> u64;
-    fn asdf_index(file: *const u8, file_len: usize, out: *mut u8, out_len: usize) -> u64;
-    fn asdf_stored_count(stored: *const u8, stored_len: usize) -> u64;
-    fn asdf_stored_row(
-        stored: *const u8,
-        stored_len: usize,
-        k: u64,
-        out: *mut u8,
-        out_len: usize,
-    ) -> u64;
-    fn asdf_rewrite(stored: *const u8, stored_len: usize, out: *mut u8, out_len: usize) -> u64;
-}
-
-/// A proved function that only counts.
-type Counter = unsafe extern "C" fn(*const u8, usize) -> u64;
-/// A proved function that writes what it finds.
-type Writer = unsafe extern "C" fn(*const u8, usize, *mut u8, usize) -> u64;
-/// A proved function that writes the one thing with a number.
-type NumberedWriter = unsafe extern "C" fn(*const u8, usize, u64, *mut u8, usize) -> u64;
-
-extern "C" {
-    fn mmap(
-        address: *mut c_void,
-        length: usize,
-        protection: c_int,
-        flags: c_int,
-        file: c_int,
-        offset: i64,
-    ) -> *mut c_void;
-    fn mprotect(address: *mut c_void, length: usize, protection: c_int) -> c_int;
-    fn munmap(address: *mut c_void, length: usize) -> c_int;
     fn memchr(bytes: *const c_void, byte: c_int, length: usize) -> *mut c_void;
     fn memmem(
         bytes: *const c_void,
@@ -52,82 +18,6 @@ extern "C" {
         wanted: *const c_void,
         wanted_length: usize,
     ) -> *mut c_void;
-}
-
-const PROT_READ: c_int = 1;
-const PROT_WRITE: c_int = 2;
-const MAP_PRIVATE: c_int = 0x2;
-const MAP_ANONYMOUS: c_int = 0x20;
-const MAP_NORESERVE: c_int = 0x4000;
-const NO_FILE: c_int = -1;
-
-/// Asks for the layout of a file.
-pub fn read(file: &[u8], out: &mut [u8]) -> u64 {
-    written(asdf_read, file, out)
-}
-
-/// Asks for the block of an ordinal.
-pub fn block(file: &[u8], ordinal: u64, out: &mut [u8]) -> u64 {
-    written_at(asdf_block, file, ordinal, out)
-}
-
-/// Asks how many rows a file has.
-pub fn count(file: &[u8]) -> u64 {
-    counted(asdf_count, file)
-}
-
-/// Asks for the outline of a file.
-pub fn outline(file: &[u8], out: &mut [u8]) -> u64 {
-    written(asdf_outline, file, out)
-}
-
-/// Asks for the record of a number in walking order.
-pub fn record(file: &[u8], number: u64, out: &mut [u8]) -> u64 {
-    written_at(asdf_record, file, number, out)
-}
-
-/// Asks for all records.
-pub fn records(file: &[u8], out: &mut [u8]) -> u64 {
-    written(asdf_records, file, out)
-}
-
-/// Asks for the text of a file's index.
-pub fn index(file: &[u8], out: &mut [u8]) -> u64 {
-    written(asdf_index, file, out)
-}
-
-/// Asks how many rows a stored outline has.
-pub fn stored_count(stored: &[u8]) -> u64 {
-    counted(asdf_stored_count, stored)
-}
-
-/// Asks for the row of a number in a stored outline.
-pub fn stored_row(stored: &[u8], number: u64, out: &mut [u8]) -> u64 {
-    written_at(asdf_stored_row, stored, number, out)
-}
-
-/// Asks for a stored outline to be written again.
-pub fn rewrite(stored: &[u8], out: &mut [u8]) -> u64 {
-    written(asdf_rewrite, stored, out)
-}
-
-/// Asks a function that only counts.
-fn counted(counter: Counter, bytes: &[u8]) -> u64 {
-    // SAFETY: the pointer comes from a slice with this length, and lives through the call.
-    unsafe { counter(bytes.as_ptr(), bytes.len()) }
-}
-
-/// Asks a function that writes what it finds.
-fn written(writer: Writer, bytes: &[u8], out: &mut [u8]) -> u64 {
-    // SAFETY: both pointers come from slices with these lengths, and live through the call.
-    unsafe { writer(bytes.as_ptr(), bytes.len(), out.as_mut_ptr(), out.len()) }
-}
-
-/// Asks a function that writes the one thing with this number.
-fn written_at(writer: NumberedWriter, bytes: &[u8], number: u64, out: &mut [u8]) -> u64 {
-    let (start, length) = (bytes.as_ptr(), bytes.len());
-    // SAFETY: both pointers come from slices with these lengths, and live through the call.
-    unsafe { writer(start, length, number, out.as_mut_ptr(), out.len()) }
 }
 
 /// Where libc finds a byte first.
@@ -158,43 +48,24 @@ fn place_in(bytes: &[u8], found: *mut c_void) -> Option<usize> {
 
 /// A long stretch of zeros with other bytes at some places. Only what is not zero takes memory.
 pub struct SparseFile {
-    start: *mut c_void,
-    length: usize,
+    map: Map,
 }
 
 impl SparseFile {
-    /// A file of this length, which is not 0, with these bytes at these places in it.
+    /// A file of this length with these bytes at these places in it.
     pub fn new(length: usize, parts: &[(usize, &[u8])]) -> io::Result<SparseFile> {
-        let mut file = SparseFile::zeros(length)?;
+        let mut map = Map::of_zeros(length)?;
+        let file = map.lend()?;
         for (place, bytes) in parts {
-            file.bytes_mut()[*place..][..bytes.len()].copy_from_slice(bytes);
+            file[*place..][..bytes.len()].copy_from_slice(bytes);
         }
-        // SAFETY: the map is ours alone, and no one holds a writable slice of it any more.
-        let status = unsafe { mprotect(file.start, length, PROT_READ) };
-        if status == 0 {
-            Ok(file)
-        } else {
-            Err(io::Error::last_os_error())
-        }
+        map.protect()?;
+        Ok(SparseFile { map })
     }
 
-    /// So many zeros, still writable.
-    fn zeros(length: usize) -> io::Result<SparseFile> {
-        let protection = PROT_READ | PROT_WRITE;
-        let flags = MAP_PRIVATE | MAP_ANONYMOUS | MAP_NORESERVE;
-        // SAFETY: a new map at an address that the system chooses touches no memory in use.
-        let start = unsafe { mmap(null_mut(), length, protection, flags, NO_FILE, 0) };
-        // Failure is the address of all ones.
-        if start as isize == -1 {
-            return Err(io::Error::last_os_error());
-        }
-        Ok(SparseFile { start, length })
-    }
-
-    /// The bytes while they are still writable.
-    fn bytes_mut(&mut self) -> &mut [u8] {
-        // SAFETY: the map has this length, is writable until `new` ends, and is lent with `self`.
-        unsafe { slice::from_raw_parts_mut(self.start.cast(), self.length) }
+    /// The bytes to be changed.
+    pub fn lend(&mut self) -> io::Result<&mut [u8]> {
+        self.map.lend()
     }
 }
 
@@ -202,15 +73,7 @@ impl Deref for SparseFile {
     type Target = [u8];
 
     fn deref(&self) -> &[u8] {
-        // SAFETY: the map has this length and is readable until it is dropped.
-        unsafe { slice::from_raw_parts(self.start.cast(), self.length) }
-    }
-}
-
-impl Drop for SparseFile {
-    fn drop(&mut self) {
-        // SAFETY: the map was made by `zeros` with this length, and every slice of it is gone.
-        unsafe { munmap(self.start, self.length) };
+        &self.map
     }
 }
 

@@ -15,7 +15,6 @@ mod fields;
 mod generate;
 mod goals;
 mod limits;
-pub mod listing;
 mod loan;
 mod long_files;
 mod mutate;

@@ -7,8 +7,6 @@ use crate::same::same;
 use asdf_second::Refusal;
 use std::ops::Range;
 
-/// A refusal's place takes these low bits of a returned number.
-const PLACE_BITS: u32 = 56;
 /// At least so many bytes are watched before and behind a lent buffer.
 const AROUND: usize = 16;
 /// The exact buffer for a writer that refuses.
@@ -198,15 +196,7 @@ fn same_result(found: &[u8], expected: &[u8]) -> Result<(), String> {
 
 /// What a returned number says: a count, or a refusal.
 pub fn result_of(word: u64) -> Result<u64, Refusal> {
-    let number = (word >> PLACE_BITS) as u8;
-    let rest = word & ((1 << PLACE_BITS) - 1);
-    match number {
-        0 => Ok(rest),
-        _ => Err(Refusal {
-            number,
-            place: rest,
-        }),
-    }
+    asdf_sys::answer(word).map_err(|(number, place)| Refusal { number, place })
 }
 
 /// What a function writes into a buffer of so many bytes.
@@ -221,6 +211,7 @@ pub fn result_in(most: usize, ask: impl Fn(&mut [u8]) -> u64) -> Expected {
 mod tests {
     use super::*;
     use crate::numbers::bytes_of;
+    use asdf_sys::PLACE_BITS;
 
     const LOAN: Loan = Loan {
         length: 20,

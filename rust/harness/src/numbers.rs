@@ -1,17 +1,7 @@
 //! What the second program says, as the numbers that the proved functions put into a buffer.
 
 use asdf_second::{Block, Inner, InnerKind, Layout, Record, Refusal, Row, Tree, Verdict};
-
-/// How many numbers tell a layout.
-pub const LAYOUT_NUMBERS: usize = 11;
-/// How many numbers tell a block.
-pub const BLOCK_NUMBERS: usize = 10;
-/// How many numbers tell a record: five and those of its block.
-pub const RECORD_NUMBERS: usize = 15;
-/// How many numbers tell a row.
-pub const ROW_NUMBERS: usize = 10;
-/// The bytes of one number in a buffer.
-pub const NUMBER_BYTES: usize = 8;
+pub use asdf_sys::{BLOCK_NUMBERS, LAYOUT_NUMBERS, NUMBER_BYTES, RECORD_NUMBERS, ROW_NUMBERS};
 
 /// The numbers of a layout: version, header end, comments' end, tree, number of blocks, verdict.
 pub fn layout_numbers(layout: &Layout) -> [u64; LAYOUT_NUMBERS] {

@@ -1,4 +1,4 @@
--- The file's refusal, or what is found.
+-- The file's refusal, or the record.
 use borrow.Author.Needs.{needs}
 use Rattle.nest.proofs.EntryLaws.{accepted-as, record-refused}
 use Rattle.nest.proofs.record.Statement.{statement}
@@ -13,4 +13,5 @@ record-spec =
     (λ c. search needs)
     (λ c κs. search (accepted-as, needs))
     (λ c. search (record-refused, needs))
+    (λ c. search needs)
     (λ c. search needs))

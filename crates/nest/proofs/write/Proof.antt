@@ -1,7 +1,7 @@
 -- The buffer is too short, or the entries are put.
 use borrow.Author.Needs.{needs}
 use Rattle.nest.proofs.WalkLaws.{delivered-length}
-use Rattle.nest.proofs.EntryLaws.{entries-short, entries-fit, entries-put}
+use Rattle.nest.proofs.EntryLaws.{each-some, entries-short, entries-fit, entries-put}
 use Rattle.nest.proofs.write.Statement.{statement}
 use Rattle.nest.proofs.write.Tie as tie
 
@@ -11,7 +11,8 @@ write-spec =
     (tie.spec
     (λ c κs. search needs)
     (λ c κs. search needs)
-    (λ c. search needs)
+    (λ c. search (each-some, needs))
+    (λ c κs. search needs)
     (λ c. search (entries-short, needs))
     (λ c κs. search needs)
     (λ c. search (entries-fit, needs))

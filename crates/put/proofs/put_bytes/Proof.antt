@@ -1,33 +1,22 @@
--- The invariant: what is left to put is what was to be put.
-use Prim.Native.Nat.{_+_, _≤_}
-use mathlib.Core.Path.{_≡_}
-use lib.ListN.{length}
-use lib.Seq.{sets}
+-- Eight bytes by halves, four at once, or any number.
 use borrow.Author.Needs.{needs}
-use Rattle.format.specs.Bytes.{toBytes}
-use Rattle.put.proofs.PutLaws.{number-step, number-done}
+use lib.Seq.{length-sets}
+use Rattle.put.proofs.PutLaws.{eight-put, four-all}
 use Rattle.put.proofs.put_bytes.Statement.{statement}
 use Rattle.put.proofs.put_bytes.Tie as tie
-
-abbrev Inv-loop : tie.InvT-loop
-Inv-loop out₀ at width x left₀ rest₀ out left rest =
-    (at + left ≤ length out₀) × (length out ≡ length out₀) × (sets out at (toBytes left rest) ≡ sets out₀ at (toBytes width x))
-
-abbrev μ-loop : tie.MeasureT-loop
-μ-loop out₀ at width x left₀ rest₀ out left rest = left
 
 pub put-bytes-spec : {M : Type 1} → statement M
 put-bytes-spec =
     tie.close
     (tie.spec
-    Inv-loop
-    μ-loop
+    (λ c κs. search needs)
     (λ c. search needs)
+    (λ c κs. search needs)
     (λ c. search needs)
+    (λ c. search (eight-put, needs))
+    (λ c κs. search needs)
     (λ c. search needs)
+    (λ c. search (four-all, needs))
+    (λ c κs. search needs)
     (λ c. search needs)
-    (λ c. search needs)
-    (λ c. search needs)
-    (λ c. search (number-step, needs))
-    (λ c. search needs)
-    (λ c. search (number-done, needs)))
+    (λ c. search needs))

@@ -11,6 +11,5 @@ take-record-spec =
     (tie.spec
     (λ c κs. search needs)
     (λ c κs. search needs)
-    (λ c κs. search needs)
     (λ c. search (placed-length, needs))
     (λ c. search (delivered-one, needs)))

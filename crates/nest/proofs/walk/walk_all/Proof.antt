@@ -11,7 +11,6 @@ walk-all-spec =
     (tie.spec
     (λ c κs. search needs)
     (λ c κs. search needs)
-    (λ c κs. search needs)
     (λ c κs. search (walk-room, walk-first, walk-blocks-few, needs))
     (λ c. search (delivered-length, needs))
     (λ c. search (walk-whole, needs)))

@@ -1,30 +1,29 @@
--- The invariant: x is the number of the bytes so far.
-use Prim.Native.Nat.{_-_, _≤_}
-use lib.ListN.{length, take}
+-- Eight, four or two bytes, or any number of them.
 use borrow.Author.Needs.{needs}
-use Rattle.scan.specs.Number.{BigEndian}
-use Rattle.scan.proofs.NumberLaws.{big-endian-step, big-endian-done}
+use Rattle.scan.proofs.NumberLaws.{eight-read, all-four, two-read}
 use Rattle.scan.proofs.number.big_endian.Statement.{statement}
 use Rattle.scan.proofs.number.big_endian.Tie as tie
-
-abbrev Inv-loop : tie.InvT-loop
-Inv-loop s x₀ i₀ x i = (i ≤ length s) × BigEndian (take i s) x
-
-abbrev μ-loop : tie.MeasureT-loop
-μ-loop s x₀ i₀ x i = length s - i
 
 pub big-endian-spec : {M : Type 1} → statement M
 big-endian-spec =
     tie.close
     (tie.spec
-    Inv-loop
-    μ-loop
-    (λ c. search needs)
+    (λ c κs. search needs)
     (λ c. search needs)
     (λ c. search needs)
     (λ c κs. search needs)
     (λ c. search needs)
     (λ c. search needs)
+    (λ c. search (eight-read, needs))
+    (λ c κs. search needs)
     (λ c. search needs)
-    (λ c. search (big-endian-step, needs))
-    (λ c. search (big-endian-done, needs)))
+    (λ c. search (all-four, needs))
+    (λ c. search needs)
+    (λ c κs. search needs)
+    (λ c. search needs)
+    (λ c. search needs)
+    (λ c κs. search needs)
+    (λ c. search needs)
+    (λ c. search (two-read, needs))
+    (λ c κs. search needs)
+    (λ c. search needs))

@@ -1,0 +1,13 @@
+-- The count, or the refusal, is returned.
+use borrow.Author.Needs.{needs}
+use Rattle.asdf.proofs.WordLaws.{word-count}
+use Rattle.asdf.proofs.asdf_stored_count.Statement.{statement}
+use Rattle.asdf.proofs.asdf_stored_count.Tie as tie
+
+pub asdf-stored-count-spec : {M : Type 1} → statement M
+asdf-stored-count-spec =
+    tie.close
+    (tie.spec
+    (λ c κs. search needs)
+    (λ c κs. search needs)
+    (λ c. search (word-count, needs)))

@@ -1,0 +1,15 @@
+-- A count is returned as it is, and a refusal as its number.
+use borrow.Author.Needs.{needs}
+use Rattle.asdf.proofs.WordLaws.{word-counted, word-refused}
+use Rattle.asdf.proofs.word.counted.Statement.{statement}
+use Rattle.asdf.proofs.word.counted.Tie as tie
+
+pub counted-spec : {M : Type 1} → statement M
+counted-spec =
+    tie.close
+    (tie.spec
+    (λ c. search needs)
+    (λ c. search needs)
+    (λ c κs. search needs)
+    (λ c. search (word-counted, needs))
+    (λ c. search (word-refused, needs)))

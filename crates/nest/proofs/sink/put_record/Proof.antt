@@ -1,0 +1,16 @@
+-- A record is put as its numbers.
+use borrow.Author.Needs.{needs}
+use Rattle.put.proofs.PutLaws.{placed-length}
+use Rattle.nest.proofs.SinkLaws.{record-put}
+use Rattle.nest.proofs.sink.put_record.Statement.{statement}
+use Rattle.nest.proofs.sink.put_record.Tie as tie
+
+pub put-record-spec : {M : Type 1} → statement M
+put-record-spec =
+    tie.close
+    (tie.spec
+    (λ c κs. search needs)
+    (λ c. search needs)
+    (λ c κs. search needs)
+    (λ c. search (placed-length, needs))
+    (λ c. search (record-put, needs)))

@@ -1,0 +1,19 @@
+-- The offset and the flags stand among the row's numbers.
+use borrow.Author.Needs.{needs}
+use Rattle.put.proofs.FieldLaws.{row-numbers}
+use Rattle.put.proofs.fields.row_fields.Statement.{statement}
+use Rattle.put.proofs.fields.row_fields.Tie as tie
+
+pub row-fields-spec : {M : Type 1} → statement M
+row-fields-spec =
+    tie.close
+    (tie.spec
+    (λ c. search needs)
+    (λ c. search needs)
+    (λ c κs. search needs)
+    (λ c. search needs)
+    (λ c κs. search needs)
+    (λ c κs. search needs)
+    (λ c κs. search needs)
+    (λ c. search needs)
+    (λ c. search (row-numbers, needs)))

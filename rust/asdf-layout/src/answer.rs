@@ -1,0 +1,49 @@
+//! What the proved functions return, and the numbers that they put into a buffer.
+
+use crate::Refusal;
+use asdf_sys::NUMBER_BYTES;
+
+/// A file's rows are written at the first try if there are no more.
+const USUAL_ROWS: usize = 64;
+
+/// A count, or the refusal.
+pub(crate) fn answer(word: u64) -> Result<u64, Refusal> {
+    asdf_sys::answer(word).map_err(|(number, place)| Refusal { number, place })
+}
+
+/// What a function writes into a buffer of at most so many bytes.
+pub(crate) fn written(most: usize, ask: impl FnOnce(&mut [u8]) -> u64) -> Result<Vec<u8>, Refusal> {
+    let mut out = vec![0; most];
+    let length = answer(ask(&mut out))?;
+    out.truncate(length as usize);
+    Ok(out)
+}
+
+/// All rows of a file, of so many bytes each, by one call for usual files; the rows of others are counted first.
+pub(crate) fn written_rows(
+    file: &[u8],
+    row_bytes: usize,
+    write: fn(&[u8], &mut [u8]) -> u64,
+) -> Result<Vec<u8>, Refusal> {
+    let rows_in = |rows| written(rows * row_bytes, |out| write(file, out));
+    match rows_in(USUAL_ROWS) {
+        Err(refusal) if refusal.number == Refusal::BUFFER_TOO_SHORT => {
+            rows_in(crate::row_count(file)? as usize)
+        }
+        rows => rows,
+    }
+}
+
+/// The N numbers that a function writes, or that it writes none.
+pub(crate) fn numbers<const N: usize>(
+    ask: impl FnOnce(&mut [u8]) -> u64,
+) -> Result<Option<[u64; N]>, Refusal> {
+    let bytes = written(N * NUMBER_BYTES, ask)?;
+    Ok((!bytes.is_empty()).then(|| numbers_of(&bytes)))
+}
+
+/// The numbers in so many bytes of a buffer.
+pub(crate) fn numbers_of<const N: usize>(bytes: &[u8]) -> [u64; N] {
+    let (numbers, _) = bytes.as_chunks();
+    std::array::from_fn(|k| u64::from_be_bytes(numbers[k]))
+}

@@ -1,0 +1,146 @@
+//! The layout of one file by itself.
+
+use crate::answer::numbers;
+use crate::Refusal;
+use std::fmt;
+use std::ops::Range;
+
+/// What is reported of a file by itself. Every end is exclusive, and every offset counts from the file's first byte.
+#[derive(Debug, Clone, PartialEq, Eq)]
+pub struct Layout {
+    /// The version of the file format, from the header line.
+    pub version: Version,
+    /// Where the header line ends.
+    pub header_end: usize,
+    /// Where the comments end, which begin at the header's end.
+    pub comments_end: usize,
+    /// The tree, if there is one.
+    pub tree: Option<Tree>,
+    /// How many blocks the file itself has.
+    pub blocks: u8,
+    /// What is to be thought of the block index.
+    pub index: Verdict,
+}
+
+/// Three numbers.
+#[derive(Debug, Clone, Copy, PartialEq, Eq)]
+#[allow(missing_docs)]
+pub struct Version {
+    pub major: u16,
+    pub minor: u16,
+    pub patch: u16,
+}
+
+/// Where the tree is.
+#[derive(Debug, Clone, Copy, PartialEq, Eq)]
+pub struct Tree {
+    /// The `%` of its first line.
+    pub start: usize,
+    /// Behind the line end of its `...`.
+    pub end: usize,
+    /// The first block, or the end of the file: an [`edit`](crate::edit) may fill the room up to here.
+    pub room_end: usize,
+}
+
+/// What is to be thought of the block index.
+#[derive(Debug, Clone, Copy, PartialEq, Eq)]
+pub enum Verdict {
+    /// There is none.
+    Absent,
+    /// It lists the offsets of the blocks.
+    Good,
+    /// Its text is no index.
+    IgnoredForm,
+    /// It lists other offsets.
+    IgnoredList,
+}
+
+impl Layout {
+    /// Reads a file's layout.
+    ///
+    /// ```
+    /// use asdf_layout::Layout;
+    ///
+    /// let file = b"#ASDF 1.0.0\n%YAML 1.1\n---\n...\n   ";
+    /// let tree = Layout::read(file)?.tree.expect("this file has a tree");
+    /// assert_eq!(file[tree.text()], *b"%YAML 1.1\n---\n...\n");
+    /// assert_eq!(tree.room(), 12..33);
+    /// # Ok::<(), asdf_layout::Refusal>(())
+    /// ```
+    pub fn read(file: &[u8]) -> Result<Layout, Refusal> {
+        let numbers = numbers(|out| asdf_sys::read(file, out))?;
+        Ok(Layout::from_numbers(
+            numbers.expect("an accepted file has a layout"),
+        ))
+    }
+
+    /// The layout that these numbers tell; each is promised to fit its field.
+    fn from_numbers(numbers: [u64; asdf_sys::LAYOUT_NUMBERS]) -> Layout {
+        let [major, minor, patch, header_end, comments_end, present, start, end, room_end, blocks, verdict] =
+            numbers;
+        let tree = Tree {
+            start: start as usize,
+            end: end as usize,
+            room_end: room_end as usize,
+        };
+        Layout {
+            version: Version {
+                major: major as u16,
+                minor: minor as u16,
+                patch: patch as u16,
+            },
+            header_end: header_end as usize,
+            comments_end: comments_end as usize,
+            tree: (present == 1).then_some(tree),
+            blocks: blocks as u8,
+            index: Verdict::from_number(verdict),
+        }
+    }
+
+    /// Where the comments are; empty where there are none.
+    pub fn comments(&self) -> Range<usize> {
+        self.header_end..self.comments_end
+    }
+}
+
+impl Tree {
+    /// Where the tree's own text is.
+    pub fn text(&self) -> Range<usize> {
+        self.start..self.end
+    }
+
+    /// Where the room for another tree is.
+    pub fn room(&self) -> Range<usize> {
+        self.start..self.room_end
+    }
+}
+
+impl Verdict {
+    /// The verdict of a number.
+    fn from_number(number: u64) -> Verdict {
+        match number {
+            0 => Verdict::Absent,
+            1 => Verdict::Good,
+            2 => Verdict::IgnoredForm,
+            _ => Verdict::IgnoredList,
+        }
+    }
+}
+
+impl fmt::Display for Verdict {
+    /// The word of the listing.
+    fn fmt(&self, f: &mut fmt::Formatter<'_>) -> fmt::Result {
+        f.write_str(match self {
+            Verdict::Absent => "absent",
+            Verdict::Good => "good",
+            Verdict::IgnoredForm => "ignored-form",
+            Verdict::IgnoredList => "ignored-list",
+        })
+    }
+}
+
+impl fmt::Display for Version {
+    fn fmt(&self, f: &mut fmt::Formatter<'_>) -> fmt::Result {
+        write!(f, "{}.{}.{}", self.major, self.minor, self.patch)
+    }
+}

@@ -1,0 +1,59 @@
+//! Where everything lies in an ASDF file, also in the files inside its blocks.
+//!
+//! Every answer comes from a function that is proved to give it; this crate lends them bytes and gives their numbers
+//! names. What is turned away comes as a [`Refusal`], which prints as a sentence.
+//!
+//! ```
+//! use asdf_layout::{Layout, Records, Verdict};
+//!
+//! // A header line, and a block with three bytes of content.
+//! let mut file = b"#ASDF 1.0.0\n".to_vec();
+//! file.extend(b"\xD3BLK\0\x30\0\0\0\0\0\0\0\0");
+//! file.extend([3u64, 3, 3].map(u64::to_be_bytes).concat());
+//! file.extend([0; 16]);
+//! file.extend(b"abc");
+//!
+//! let layout = Layout::read(&file)?;
+//! assert_eq!(layout.version.to_string(), "1.0.0");
+//! assert_eq!(layout.tree, None);
+//! assert_eq!(layout.index, Verdict::Absent);
+//!
+//! for record in &Records::read(&file)? {
+//!     assert_eq!((record.depth, record.offset), (0, 12));
+//!     assert_eq!(file[record.content()], *b"abc");
+//! }
+//!
+//! // The block says that it uses more than it has.
+//! file[12 + 29] = 4;
+//! let refusal = Layout::read(&file).unwrap_err();
+//! assert_eq!(refusal.to_string(), "used size is above allocated size, in the block at 12 (refusal 13)");
+//! # Ok::<(), asdf_layout::Refusal>(())
+//! ```
+//!
+//! | Wanted | Ask |
+//! |---|---|
+//! | header, comments, tree, index verdict | [`Layout::read`] |
+//! | one block of the file itself | [`Block::read`] |
+//! | every block, those of inner files too, with all that is known of it | [`Records::read`] |
+//! | sixteen bytes for each block, to be stored | [`Outline::of_file`] |
+//! | the rows of a stored outline | [`Outline::read`] |
+//! | the text of a block index | [`index_text`] |
+//! | another tree in the place of the old one | [`edit`] |
+
+#![forbid(unsafe_code)]
+#![warn(missing_docs)]
+
+mod answer;
+mod block;
+mod layout;
+mod outline;
+mod records;
+mod refusal;
+mod writers;
+
+pub use block::Block;
+pub use layout::{Layout, Tree, Verdict, Version};
+pub use outline::{InnerState, Outline, Row};
+pub use records::{row_count, Inner, Record, Records};
+pub use refusal::{Refusal, REASONS};
+pub use writers::{edit, index_text};

@@ -1,0 +1,168 @@
+//! Outlines: sixteen bytes for each block, to be stored beside a file and read without it.
+
+use crate::answer::{answer, numbers, written, written_rows};
+use crate::Refusal;
+use asdf_sys::{ROW_BYTES, ROW_NUMBERS};
+use std::borrow::Cow;
+use std::fmt;
+
+/// An outline that is accepted.
+///
+/// ```
+/// use asdf_layout::Outline;
+///
+/// let stored = Outline::of_file(b"#ASDF 1.0.0\n")?.as_bytes().to_vec();
+/// assert_eq!(Outline::read(&stored)?.rows().count(), 0);
+///
+/// let row = [0, 0, 0, 0x30, 0, 0, 0, 0x0C, 0, 0, 0, 9, 0, 0, 0, 7];
+/// let rows: Vec<String> = Outline::read(&row)?.rows().map(|row| row.to_string()).collect();
+/// assert_eq!(rows, ["0 0 12 48 9 7 0 0 0 0"]);
+/// # Ok::<(), asdf_layout::Refusal>(())
+/// ```
+#[derive(Debug, Clone, PartialEq, Eq)]
+pub struct Outline<'a> {
+    bytes: Cow<'a, [u8]>,
+}
+
+/// A row of an outline.
+#[derive(Debug, Clone, Copy, PartialEq, Eq)]
+pub struct Row {
+    /// How many files lie around the block's own.
+    pub depth: u8,
+    /// The block's number in its own file.
+    pub ordinal: u8,
+    /// The block's first byte, in the outermost file.
+    pub offset: usize,
+    /// The header's size, counted from the block's sixth byte.
+    pub header_size: u16,
+    /// The bytes that are kept for content.
+    pub allocated: usize,
+    /// The bytes of content.
+    pub used: usize,
+    /// Whether the content reaches to the end of the file.
+    pub streamed: bool,
+    /// Whether the content is compressed.
+    pub compressed: bool,
+    /// Whether there is a checksum.
+    pub checksum: bool,
+    /// What the content is as a file of its own.
+    pub inner: InnerState,
+}
+
+/// What a block's content is as a file of its own, without the reason of a refusal.
+#[derive(Debug, Clone, Copy, PartialEq, Eq)]
+pub enum InnerState {
+    /// It is none.
+    Plain = 0,
+    /// It is one, and its rows follow.
+    Opened = 1,
+    /// It begins like one and is refused.
+    Refused = 2,
+    /// It begins like one, deeper than files are read.
+    TooDeep = 3,
+}
+
+impl Outline<'static> {
+    /// The outline of a file.
+    pub fn of_file(file: &[u8]) -> Result<Outline<'static>, Refusal> {
+        let bytes = Cow::Owned(written_rows(file, ROW_BYTES, asdf_sys::outline)?);
+        Ok(Outline { bytes })
+    }
+}
+
+impl<'a> Outline<'a> {
+    /// A stored outline.
+    pub fn read(stored: &'a [u8]) -> Result<Outline<'a>, Refusal> {
+        answer(asdf_sys::stored_count(stored))?;
+        let bytes = Cow::Borrowed(stored);
+        Ok(Outline { bytes })
+    }
+
+    /// The same outline with bytes of its own, written by the rows that were read: they are the same.
+    pub fn rewritten(&self) -> Result<Outline<'static>, Refusal> {
+        let rewrite = |out: &mut [u8]| asdf_sys::rewrite(&self.bytes, out);
+        let bytes = Cow::Owned(written(self.bytes.len(), rewrite)?);
+        Ok(Outline { bytes })
+    }
+
+    /// The bytes to be stored.
+    pub fn as_bytes(&self) -> &[u8] {
+        &self.bytes
+    }
+
+    /// The rows, in walking order.
+    pub fn rows(&self) -> impl Iterator<Item = Row> + '_ {
+        let (rows, _) = self.bytes.as_chunks();
+        rows.iter().map(Row::read)
+    }
+}
+
+/// A row deeper than 7 cannot be written, so below this many rows, each one deeper, every row may stand.
+const LADDER: usize = 7;
+
+impl Row {
+    /// A row of an accepted outline.
+    ///
+    /// To read it in the whole outline, all rows would be judged anew for each. So it is lent at the foot of a ladder
+    /// of rows, where it may have any depth.
+    fn read(row: &[u8; ROW_BYTES]) -> Row {
+        let mut lent: [[u8; ROW_BYTES]; LADDER + 1] = std::array::from_fn(|depth| {
+            let depth = depth as u8;
+            [depth << 5, 0, 0, 48, 0, 0, 0, 0, 0, 0, 0, 0, 0, 0, 0, 0]
+        });
+        lent[LADDER] = *row;
+        let ask = |out: &mut [u8]| asdf_sys::stored_row(lent.as_flattened(), LADDER as u64, out);
+        let numbers = numbers(ask).ok().flatten();
+        Row::from_numbers(numbers.expect("every row of an accepted outline can be read"))
+    }
+
+    /// The row that these numbers tell; each is promised to fit its field.
+    fn from_numbers(numbers: [u64; ROW_NUMBERS]) -> Row {
+        let [depth, ordinal, offset, header_size, allocated, used, streamed, compressed, checksum, inner] =
+            numbers;
+        Row {
+            depth: depth as u8,
+            ordinal: ordinal as u8,
+            offset: offset as usize,
+            header_size: header_size as u16,
+            allocated: allocated as usize,
+            used: used as usize,
+            streamed: streamed == 1,
+            compressed: compressed == 1,
+            checksum: checksum == 1,
+            inner: InnerState::from_number(inner),
+        }
+    }
+}
+
+impl fmt::Display for Row {
+    /// The row's ten numbers, as the listing has them.
+    fn fmt(&self, f: &mut fmt::Formatter<'_>) -> fmt::Result {
+        write!(
+            f,
+            "{} {} {} {} {} {} {} {} {} {}",
+            self.depth,
+            self.ordinal,
+            self.offset,
+            self.header_size,
+            self.allocated,
+            self.used,
+            u8::from(self.streamed),
+            u8::from(self.compressed),
+            u8::from(self.checksum),
+            self.inner as u8,
+        )
+    }
+}
+
+impl InnerState {
+    /// The inner state of a number.
+    fn from_number(number: u64) -> InnerState {
+        match number {
+            0 => InnerState::Plain,
+            1 => InnerState::Opened,
+            2 => InnerState::Refused,
+            _ => InnerState::TooDeep,
+        }
+    }
+}

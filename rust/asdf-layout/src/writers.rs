@@ -1,0 +1,40 @@
+//! The text of a block index, and another tree.
+
+use crate::answer::{answer, written};
+use crate::Refusal;
+use asdf_sys::LONGEST_INDEX;
+
+/// The text of a file's block index, to be set directly behind its last block.
+///
+/// ```
+/// use asdf_layout::{index_text, Layout, Verdict};
+///
+/// let mut file = b"#ASDF 1.0.0\n\xD3BLK\0\x30".to_vec();
+/// file.extend([0; 48]);
+/// let text = index_text(&file)?;
+/// assert_eq!(text, b"#ASDF BLOCK INDEX\n%YAML 1.1\n--- [12]\n...\n");
+/// file.extend(text);
+/// assert_eq!(Layout::read(&file)?.index, Verdict::Good);
+/// # Ok::<(), asdf_layout::Refusal>(())
+/// ```
+pub fn index_text(file: &[u8]) -> Result<Vec<u8>, Refusal> {
+    written(LONGEST_INDEX, |out| asdf_sys::index(file, out))
+}
+
+/// Replaces a file's tree by a text that is exactly one tree, and the rest of its room by spaces. A refusal changes
+/// no byte.
+///
+/// ```
+/// use asdf_layout::{edit, Refusal};
+///
+/// let mut file = b"#ASDF 1.0.0\n%YAML 1.1\n---\n...\n     ".to_vec();
+/// edit(&mut file, b"%YAML 1.1\n---\na: 1\n...\n")?;
+/// assert_eq!(file, b"#ASDF 1.0.0\n%YAML 1.1\n---\na: 1\n...\n");
+///
+/// let refusal = edit(&mut file, b"%YAML 1.1\n---\na: 12\n...\n").unwrap_err();
+/// assert_eq!(refusal.number, Refusal::TEXT_LONGER_THAN_ROOM);
+/// # Ok::<(), Refusal>(())
+/// ```
+pub fn edit(file: &mut [u8], text: &[u8]) -> Result<(), Refusal> {
+    answer(asdf_sys::edit(file, text)).map(|_| ())
+}

@@ -1,0 +1,196 @@
+//! What this crate makes of the proved functions' numbers is what the second program says, on every real file.
+
+use asdf_layout::{
+    edit, index_text, row_count, Block, Inner, InnerState, Layout, Outline, Record, Records,
+    Refusal, Row, Tree, Verdict, Version,
+};
+use asdf_second as second;
+use std::fs;
+
+/// The real files.
+const DATA: &str = concat!(env!("CARGO_MANIFEST_DIR"), "/../../tests/data");
+/// The files that are there; more may come, none may get lost.
+const AT_LEAST: usize = 18;
+
+/// Does the same with the bytes of every real file.
+fn each_real_file(check: impl Fn(&[u8])) {
+    let mut checked = 0;
+    for entry in fs::read_dir(DATA).unwrap() {
+        let path = entry.unwrap().path();
+        if path.extension().is_some_and(|found| found == "asdf") {
+            println!("{}", path.display());
+            check(&fs::read(path).unwrap());
+            checked += 1;
+        }
+    }
+    assert!(checked >= AT_LEAST, "only {checked} files");
+}
+
+/// The second program's refusal.
+fn refusal(refusal: second::Refusal) -> Refusal {
+    let second::Refusal { number, place } = refusal;
+    Refusal { number, place }
+}
+
+fn layout(layout: &second::Layout) -> Layout {
+    let version = layout.version;
+    Layout {
+        version: Version {
+            major: version.major,
+            minor: version.minor,
+            patch: version.patch,
+        },
+        header_end: layout.header_end.0 as usize,
+        comments_end: layout.comments.end.0 as usize,
+        tree: layout.tree.map(|tree| Tree {
+            start: tree.start.0 as usize,
+            end: tree.end.0 as usize,
+            room_end: tree.room_end.0 as usize,
+        }),
+        blocks: layout.blocks.len() as u8,
+        index: match layout.index {
+            second::Verdict::Absent => Verdict::Absent,
+            second::Verdict::Good => Verdict::Good,
+            second::Verdict::IgnoredForm => Verdict::IgnoredForm,
+            second::Verdict::IgnoredList => Verdict::IgnoredList,
+        },
+    }
+}
+
+fn block(block: &second::Block) -> Block {
+    Block {
+        ordinal: block.ordinal,
+        at: block.offset.0 as usize,
+        header_size: block.header_size,
+        flags: block.flags,
+        compression: block.compression,
+        allocated: block.allocated as usize,
+        used: block.used as usize,
+        data_size: block.data_size,
+        checksum: block.checksum,
+    }
+}
+
+fn record(record: &second::Record) -> Record {
+    Record {
+        depth: record.depth,
+        offset: record.offset.0 as usize,
+        inner: match record.inner {
+            second::Inner::Plain => Inner::Plain,
+            second::Inner::Opened => Inner::Opened,
+            second::Inner::Refused(inner) => Inner::Refused(refusal(inner)),
+            second::Inner::TooDeep => Inner::TooDeep,
+        },
+        block: block(&record.block),
+    }
+}
+
+fn row(row: &second::Row) -> Row {
+    Row {
+        depth: row.depth,
+        ordinal: row.ordinal,
+        offset: row.offset.0 as usize,
+        header_size: row.header_size,
+        allocated: row.allocated as usize,
+        used: row.used as usize,
+        streamed: row.streamed,
+        compressed: row.compressed,
+        checksum: row.checksum,
+        inner: match row.inner {
+            second::InnerKind::Plain => InnerState::Plain,
+            second::InnerKind::Opened => InnerState::Opened,
+            second::InnerKind::Refused => InnerState::Refused,
+            second::InnerKind::TooDeep => InnerState::TooDeep,
+        },
+    }
+}
+
+#[test]
+fn layouts_and_blocks_are_the_same() {
+    each_real_file(|file| {
+        let expected = second::read(file);
+        let told = expected
+            .as_ref()
+            .map(layout)
+            .map_err(|&found| refusal(found));
+        assert_eq!(Layout::read(file), told);
+        let Ok(expected) = expected else { return };
+        for ordinal in 0..=expected.blocks.len() {
+            let told = expected.blocks.get(ordinal).map(block);
+            assert_eq!(Block::read(file, ordinal as u64), Ok(told));
+        }
+        let blocks: Vec<Block> = Records::read(file).unwrap().blocks().collect();
+        assert_eq!(
+            blocks,
+            expected.blocks.iter().map(block).collect::<Vec<_>>()
+        );
+    });
+}
+
+#[test]
+fn records_are_the_same() {
+    each_real_file(|file| {
+        let expected = second::records(file).map_err(refusal);
+        let told = expected.map(|records| records.iter().map(record).collect::<Vec<_>>());
+        let found = Records::read(file).map(|records| records.iter().collect::<Vec<_>>());
+        assert_eq!(found, told);
+        assert_eq!(
+            row_count(file),
+            told.clone().map(|records| records.len() as u64)
+        );
+        let Ok(told) = told else { return };
+        for number in 0..=told.len() {
+            let record = told.get(number).copied();
+            assert_eq!(Record::read(file, number as u64), Ok(record));
+        }
+    });
+}
+
+#[test]
+fn outlines_and_their_rows_are_the_same() {
+    each_real_file(|file| {
+        let expected = second::rows(file).map_err(refusal);
+        let told = expected.map(|rows| rows.iter().map(row).collect::<Vec<_>>());
+        let outline = Outline::of_file(file);
+        let found = outline
+            .clone()
+            .map(|outline| outline.rows().collect::<Vec<_>>());
+        assert_eq!(found, told);
+        let Ok(outline) = outline else { return };
+        let stored = Outline::read(outline.as_bytes());
+        assert_eq!(stored, Ok(outline.clone()));
+        assert_eq!(
+            stored.and_then(|stored| stored.rewritten()),
+            Ok(outline.clone())
+        );
+    });
+}
+
+#[test]
+fn indexes_and_edits_are_the_same() {
+    let text = b"%YAML 1.1\n---\n{}\n...\n";
+    each_real_file(|file| {
+        let mut index = [0; second::LONGEST_INDEX];
+        let length = second::write_index(file, &mut index).map_err(refusal);
+        assert_eq!(
+            index_text(file),
+            length.map(|length| index[..length].to_vec())
+        );
+
+        let (mut found, mut expected) = (file.to_vec(), file.to_vec());
+        let told = second::edit(&mut expected, text).map_err(refusal);
+        assert_eq!(edit(&mut found, text), told);
+        assert!(found == expected);
+    });
+}
+
+#[test]
+fn content_of_an_opened_block_is_a_file() {
+    each_real_file(|file| {
+        for record in Records::read(file).iter().flatten() {
+            let content = &file[record.content()];
+            let is_file = matches!(record.inner, Inner::Opened | Inner::TooDeep);
+            assert_eq!(Layout::read(content).is_ok(), is_file);
+        }
+    });
+}

@@ -1,0 +1,177 @@
+//! What is asked for on the command line.
+
+use crate::failure::Failure;
+use crate::help;
+use crate::source::is_standard;
+use std::ffi::OsString;
+use std::path::PathBuf;
+
+/// What is to be done.
+#[derive(Debug, PartialEq)]
+pub enum Command {
+    Help(&'static str),
+    List { file: PathBuf, form: Form },
+    Tree { file: PathBuf },
+    Verdict { file: PathBuf },
+    Index { file: PathBuf },
+    Outline { file: PathBuf, out: PathBuf },
+    ReadOutline { stored: PathBuf },
+    Edit { file: PathBuf, tree: PathBuf },
+    Restore { file: PathBuf },
+}
+
+/// The forms of a listing.
+#[derive(Debug, Clone, Copy, PartialEq)]
+pub enum Form {
+    Table,
+    Plain,
+    Json,
+}
+
+/// The words behind a command's name.
+#[derive(Default)]
+struct Words {
+    options: Vec<String>,
+    files: Vec<PathBuf>,
+    out: Option<PathBuf>,
+}
+
+/// Understands the words of the command line.
+pub fn parse(words: Vec<OsString>) -> Result<Command, Failure> {
+    let mut words = words.into_iter();
+    let name = words.next().unwrap_or_default();
+    let name = name.to_string_lossy();
+    let Some(help) = help_of(&name) else {
+        let sentence = "the first word is not one of the commands: see `asdf-layout --help`";
+        return Err(Failure::usage(sentence));
+    };
+    let words = Words::sorted(words);
+    if words.options.iter().any(|option| option == "--help") {
+        return Ok(Command::Help(help));
+    }
+    let wrong = || format!("wrong words for `{name}`: see `asdf-layout {name} --help`");
+    words.command(&name).ok_or_else(|| Failure::usage(wrong()))
+}
+
+/// What `--help` prints for a command.
+fn help_of(name: &str) -> Option<&'static str> {
+    match name {
+        "--help" | "help" => Some(help::ALL),
+        "list" => Some(help::LIST),
+        "tree" => Some(help::TREE),
+        "index" => Some(help::INDEX),
+        "outline" => Some(help::OUTLINE),
+        "edit" => Some(help::EDIT),
+        "restore" => Some(help::RESTORE),
+        _ => None,
+    }
+}
+
+impl Words {
+    /// Tells options and files apart.
+    fn sorted(mut words: impl Iterator<Item = OsString>) -> Words {
+        let mut sorted = Words::default();
+        while let Some(word) = words.next() {
+            let text = word.to_string_lossy();
+            if text == "-o" && sorted.out.is_none() {
+                sorted.out = words.next().map(PathBuf::from);
+            } else if text.starts_with('-') && text != "-" {
+                sorted.options.push(text.into_owned());
+            } else {
+                sorted.files.push(word.into());
+            }
+        }
+        sorted
+    }
+
+    /// The command of this name with these words, if they are the right ones.
+    fn command(self, name: &str) -> Option<Command> {
+        let options: Vec<&str> = self.options.iter().map(String::as_str).collect();
+        let mut files = self.files.into_iter();
+        let mut next = || files.next();
+        let command = match (name, &options[..], self.out) {
+            ("--help" | "help", [], None) => Command::Help(help::ALL),
+            ("list", options, None) => Command::List {
+                form: form(options)?,
+                file: next()?,
+            },
+            ("tree", [], None) => Command::Tree { file: next()? },
+            ("index", [], None) => Command::Verdict { file: next()? },
+            ("index", ["--write"], None) => Command::Index { file: next()? },
+            ("outline", [], Some(out)) => Command::Outline { file: next()?, out },
+            ("outline", ["--read"], None) => Command::ReadOutline { stored: next()? },
+            ("edit", [], None) => Command::Edit {
+                file: next().filter(|file| !is_standard(file))?,
+                tree: next()?,
+            },
+            ("restore", [], None) => Command::Restore {
+                file: next().filter(|file| !is_standard(file))?,
+            },
+            _ => return None,
+        };
+        next().is_none().then_some(command)
+    }
+}
+
+/// The form that the options of a listing name.
+fn form(options: &[&str]) -> Option<Form> {
+    match options {
+        [] => Some(Form::Table),
+        ["--plain"] => Some(Form::Plain),
+        ["--json"] => Some(Form::Json),
+        _ => None,
+    }
+}
+
+#[cfg(test)]
+mod tests {
+    use super::*;
+
+    /// The command of a line.
+    fn parsed(line: &str) -> Option<Command> {
+        parse(line.split_whitespace().map(OsString::from).collect()).ok()
+    }
+
+    #[test]
+    fn options_stand_anywhere_behind_the_name() {
+        let outline = |file: &str, out: &str| Command::Outline {
+            file: file.into(),
+            out: out.into(),
+        };
+        assert_eq!(parsed("outline a -o b"), Some(outline("a", "b")));
+        assert_eq!(parsed("outline -o b a"), Some(outline("a", "b")));
+        let file = PathBuf::from("-");
+        let form = Form::Json;
+        assert_eq!(parsed("list --json -"), Some(Command::List { file, form }));
+    }
+
+    #[test]
+    fn help_is_there_for_the_tool_and_for_each_command() {
+        assert_eq!(parsed("--help"), Some(Command::Help(help::ALL)));
+        assert_eq!(parsed("edit --help"), Some(Command::Help(help::EDIT)));
+        assert_eq!(parsed("edit a b --help"), Some(Command::Help(help::EDIT)));
+    }
+
+    #[test]
+    fn wrong_calls_are_none() {
+        for line in [
+            "",
+            "lists a",
+            "list",
+            "list a b",
+            "list a --plain --json",
+            "list a -o b",
+            "tree a --x",
+            "index a --read",
+            "outline a",
+            "outline a -o",
+            "outline --read a -o b",
+            "edit a",
+            "edit - a",
+            "edit a b c",
+            "restore -",
+        ] {
+            assert_eq!(parsed(line), None, "{line}");
+        }
+    }
+}

@@ -1,0 +1,62 @@
+//! The edit of a file in place, which never leaves it half edited: what is there before is kept until the new is whole.
+
+use crate::failure::Failure;
+use crate::kept::{self, Kept};
+use crate::source::Source;
+use crate::steps::Steps;
+use crate::target::Target;
+use asdf_layout::{Layout, Refusal};
+use std::ops::Range;
+use std::path::Path;
+
+/// Replaces the tree of the file by a text.
+pub fn edit(path: &Path, text: &Source) -> Result<(), Failure> {
+    let target = Target::open(path)?;
+    if kept::is_beside(&target.path) {
+        return Err(Failure::usage(kept::unfinished(path)));
+    }
+    let mut map = target.map()?;
+    let bytes = target.changeable(&mut map)?;
+    let refused = |refusal| Failure::refused(path.display(), refusal);
+    asdf_layout::edit(bytes, text).map_err(refused)?;
+    // An edit leaves the room where it was.
+    let room = room_of(bytes).map_err(refused)?;
+    let room = room.expect("an edited file has a tree");
+    let mut steps = Steps::new();
+    kept::keep(&target, room.clone(), &mut steps)?;
+    finish(&target, bytes, room, &mut steps)
+}
+
+/// Brings back the tree that the file had before an edit that was not finished.
+pub fn restore(path: &Path) -> Result<(), Failure> {
+    let target = Target::open(path)?;
+    let Some(kept) = Kept::read(&target)? else {
+        let path = path.display();
+        return Err(Failure::usage(format!("no edit of {path} was interrupted")));
+    };
+    let mut map = target.map()?;
+    let bytes = target.changeable(&mut map)?;
+    // The proved reader has to find the old room again, else it is of another file.
+    if !kept.put_into(bytes) || room_of(bytes).ok().flatten() != Some(kept.room()) {
+        return Err(kept.of_another_file(&target));
+    }
+    finish(&target, bytes, kept.room(), &mut Steps::new())
+}
+
+/// The room of a file's tree, if it has one.
+fn room_of(bytes: &[u8]) -> Result<Option<Range<usize>>, Refusal> {
+    let tree = Layout::read(bytes)?.tree;
+    Ok(tree.map(|tree| tree.room()))
+}
+
+/// Writes the room to the file, and removes what was kept of it.
+fn finish(
+    target: &Target,
+    bytes: &[u8],
+    room: Range<usize>,
+    steps: &mut Steps,
+) -> Result<(), Failure> {
+    let written = target.write_room(bytes, room, steps);
+    written.map_err(|failure| failure.with_advice(kept::unfinished(&target.path)))?;
+    kept::remove(target, steps)
+}

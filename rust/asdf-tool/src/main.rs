@@ -1,0 +1,118 @@
+//! The tool `asdf-layout`: what the proved functions say of a file, for people and for other programs.
+
+#![forbid(unsafe_code)]
+
+mod command;
+mod edit;
+mod failure;
+mod help;
+mod json;
+mod kept;
+mod plain;
+mod source;
+mod steps;
+mod table;
+mod target;
+mod words;
+
+use asdf_layout::{index_text, Layout, Outline, Refusal};
+use command::{Command, Form};
+use failure::Failure;
+use source::Source;
+use std::env;
+use std::fs;
+use std::io::{self, Write};
+use std::path::Path;
+use std::process::ExitCode;
+
+fn main() -> ExitCode {
+    let words = env::args_os().skip(1).collect();
+    match command::parse(words).and_then(run) {
+        Ok(()) => ExitCode::SUCCESS,
+        Err(failure) => {
+            eprintln!("asdf-layout: {failure}");
+            failure.status()
+        }
+    }
+}
+
+/// Does what is asked for.
+fn run(command: Command) -> Result<(), Failure> {
+    match command {
+        Command::Help(text) => print(text.as_bytes()),
+        Command::List { file, form } => list(&Source::file(&file)?, form),
+        Command::Tree { file } => print_tree(&Source::file(&file)?),
+        Command::Verdict { file } => print_verdict(&Source::file(&file)?),
+        Command::Index { file } => print_index(&Source::file(&file)?),
+        Command::Outline { file, out } => write_outline(&Source::file(&file)?, &out),
+        Command::ReadOutline { stored } => print_outline(&Source::whole(&stored)?),
+        Command::Edit { file, tree } => edit::edit(&file, &Source::whole(&tree)?),
+        Command::Restore { file } => edit::restore(&file),
+    }
+}
+
+/// Writes to standard output.
+fn print(bytes: &[u8]) -> Result<(), Failure> {
+    let mut output = io::stdout();
+    let written = output.write_all(bytes).and_then(|()| output.flush());
+    written.map_err(|error| Failure::system("cannot write standard output", error))
+}
+
+/// Prints a listing. The forms for programs tell a refusal too, before it is told in a sentence.
+fn list(source: &Source, form: Form) -> Result<(), Failure> {
+    let listing = match form {
+        Form::Table => table::listing(source),
+        Form::Plain => plain::listing(source),
+        Form::Json => json::listing(source),
+    };
+    let refused: fn(&Refusal) -> String = match form {
+        Form::Table => |_| String::new(),
+        Form::Plain => plain::refused,
+        Form::Json => json::refused,
+    };
+    match listing {
+        Ok(listing) => print(listing.as_bytes()),
+        Err(refusal) => {
+            print(refused(&refusal).as_bytes())?;
+            source.accepted(Err(refusal))
+        }
+    }
+}
+
+/// Prints the text of the tree; nothing where there is none.
+fn print_tree(source: &Source) -> Result<(), Failure> {
+    let layout = source.accepted(Layout::read(source))?;
+    let text = layout.tree.map_or(0..0, |tree| tree.text());
+    print(&source[text])
+}
+
+/// Prints what is to be thought of the index.
+fn print_verdict(source: &Source) -> Result<(), Failure> {
+    let layout = source.accepted(Layout::read(source))?;
+    print(format!("{}\n", words::verdict(layout.index)).as_bytes())
+}
+
+/// Prints the text of an index for the file.
+fn print_index(source: &Source) -> Result<(), Failure> {
+    print(&source.accepted(index_text(source))?)
+}
+
+/// Stores the outline of a file.
+fn write_outline(source: &Source, out: &Path) -> Result<(), Failure> {
+    let outline = source.accepted(Outline::of_file(source))?;
+    if source::is_standard(out) {
+        return print(outline.as_bytes());
+    }
+    if source.is_at(out) {
+        return Err(Failure::usage(
+            "the outline would take the place of its file",
+        ));
+    }
+    fs::write(out, outline.as_bytes()).map_err(|error| Failure::at("cannot write", out, error))
+}
+
+/// Prints the rows of a stored outline.
+fn print_outline(stored: &Source) -> Result<(), Failure> {
+    let outline = stored.accepted(Outline::read(stored))?;
+    print(plain::rows(&outline).as_bytes())
+}

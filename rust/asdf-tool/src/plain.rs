@@ -1,0 +1,29 @@
+//! The listing for programs: a line for the tree, one for each row, one for the verdict; or one for the refusal.
+
+use asdf_layout::{Layout, Outline, Refusal, Tree};
+
+/// The listing of a file that is accepted.
+pub fn listing(file: &[u8]) -> Result<String, Refusal> {
+    let layout = Layout::read(file)?;
+    let rows = rows(&Outline::of_file(file)?);
+    let tree = tree(layout.tree);
+    Ok(format!("tree {tree}\n{rows}index {}\n", layout.index))
+}
+
+/// The listing of a file that is refused.
+pub fn refused(refusal: &Refusal) -> String {
+    format!("refused {} {}\n", refusal.number, refusal.place)
+}
+
+/// The lines of an outline's rows.
+pub fn rows(outline: &Outline) -> String {
+    outline.rows().map(|row| format!("{row}\n")).collect()
+}
+
+/// Where the tree is.
+fn tree(tree: Option<Tree>) -> String {
+    match tree {
+        None => "none".to_string(),
+        Some(tree) => format!("{} {}", tree.start, tree.end),
+    }
+}

@@ -1,0 +1,120 @@
+//! The bytes of a file or of standard input.
+
+use crate::failure::Failure;
+use crate::kept;
+use asdf_layout::Refusal;
+use asdf_map::Map;
+use std::fs::{self, File};
+use std::io::{self, Read};
+use std::ops::Deref;
+use std::os::unix::fs::MetadataExt;
+use std::path::{Path, PathBuf};
+
+/// The word for standard input and output.
+const STANDARD: &str = "-";
+/// A file that is so long is refused, whatever else it holds.
+const TOO_LONG: u64 = 1 << 32;
+
+/// Whether a path means standard input or output.
+pub fn is_standard(path: &Path) -> bool {
+    path == Path::new(STANDARD)
+}
+
+/// What the input at a path is called.
+fn name(path: &Path) -> String {
+    match is_standard(path) {
+        true => "standard input".to_string(),
+        false => path.display().to_string(),
+    }
+}
+
+/// Bytes, and where they are from.
+pub struct Source {
+    path: PathBuf,
+    bytes: Bytes,
+}
+
+/// Where the bytes are now.
+enum Bytes {
+    /// In a file, which stays locked against edits while it is open.
+    Mapped(Map, File),
+    Read(Vec<u8>),
+}
+
+impl Source {
+    /// The bytes of an ASDF file. Waits until no edit of it runs, and says so where one was not finished.
+    pub fn file(path: &Path) -> Result<Source, Failure> {
+        let source = Source::open(path, TOO_LONG)?;
+        if let Bytes::Mapped(_, file) = &source.bytes {
+            // Where there are no locks, the file is taken as it is.
+            let _ = file.lock_shared();
+        }
+        if kept::is_beside(path) {
+            eprintln!("asdf-layout: {}", kept::unfinished(path));
+        }
+        Ok(source)
+    }
+
+    /// The bytes of anything else, which has no limit of its own.
+    pub fn whole(path: &Path) -> Result<Source, Failure> {
+        Source::open(path, u64::MAX)
+    }
+
+    /// Opens; of what cannot be mapped no more than `enough` bytes are read.
+    fn open(path: &Path, enough: u64) -> Result<Source, Failure> {
+        let bytes = match is_standard(path) {
+            true => read(io::stdin(), enough),
+            false => File::open(path).and_then(|file| bytes_of(file, enough)),
+        };
+        let failed = |error| Failure::system(format_args!("cannot read {}", name(path)), error);
+        Ok(Source {
+            bytes: bytes.map_err(failed)?,
+            path: path.to_path_buf(),
+        })
+    }
+
+    /// What a proved function says of these bytes, or the failure that tells its refusal.
+    pub fn accepted<T>(&self, result: Result<T, Refusal>) -> Result<T, Failure> {
+        result.map_err(|refusal| Failure::refused(self.name(), refusal))
+    }
+
+    /// What the bytes are called.
+    pub fn name(&self) -> String {
+        name(&self.path)
+    }
+
+    /// Whether these bytes are those of the file at a path.
+    pub fn is_at(&self, path: &Path) -> bool {
+        let identity = |path: &Path| fs::metadata(path).map(|file| (file.dev(), file.ino()));
+        match (identity(&self.path), identity(path)) {
+            (Ok(here), Ok(there)) => here == there,
+            _ => false,
+        }
+    }
+}
+
+impl Deref for Source {
+    type Target = [u8];
+
+    fn deref(&self) -> &[u8] {
+        match &self.bytes {
+            Bytes::Mapped(map, _) => map,
+            Bytes::Read(bytes) => bytes,
+        }
+    }
+}
+
+/// The bytes of an opened file: mapped, or read where it is a pipe.
+fn bytes_of(file: File, enough: u64) -> io::Result<Bytes> {
+    if !file.metadata()?.is_file() {
+        return read(file, enough);
+    }
+    Ok(Bytes::Mapped(Map::of_file(&file)?, file))
+}
+
+/// Reads to the end, or as much as is enough.
+fn read(input: impl Read, enough: u64) -> io::Result<Bytes> {
+    let mut bytes = Vec::new();
+    input.take(enough).read_to_end(&mut bytes)?;
+    Ok(Bytes::Read(bytes))
+}

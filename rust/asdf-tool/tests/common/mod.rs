@@ -1,0 +1,114 @@
+//! Runs the tool, and makes files for it.
+
+// Each test program uses only a part of this.
+#![allow(dead_code)]
+
+use std::fs::{self, File};
+use std::io::Write;
+use std::os::unix::fs::FileExt;
+use std::path::{Path, PathBuf};
+use std::process::{Command, Output, Stdio};
+
+/// The real files.
+pub const DATA: &str = concat!(env!("CARGO_MANIFEST_DIR"), "/../../tests/data");
+/// A header line.
+pub const HEADER: &[u8] = b"#ASDF 1.0.0\n";
+/// The smallest tree.
+pub const TREE: &[u8] = b"%YAML 1.1\n---\n...\n";
+
+/// What came of a run.
+#[derive(Debug, PartialEq)]
+pub struct Ran {
+    /// None where it was stopped.
+    pub status: Option<i32>,
+    pub output: String,
+    pub errors: String,
+}
+
+impl From<Output> for Ran {
+    fn from(output: Output) -> Ran {
+        let text = |bytes| String::from_utf8(bytes).unwrap();
+        Ran {
+            status: output.status.code(),
+            output: text(output.stdout),
+            errors: text(output.stderr),
+        }
+    }
+}
+
+/// The tool with these words.
+pub fn command(words: &[&str]) -> Command {
+    let mut command = Command::new(env!("CARGO_BIN_EXE_asdf-layout"));
+    command.args(words);
+    command
+}
+
+/// Runs the tool.
+pub fn run(words: &[&str]) -> Ran {
+    command(words).output().unwrap().into()
+}
+
+/// Runs the tool with standard input.
+pub fn run_with_input(words: &[&str], input: &[u8]) -> Ran {
+    let mut command = command(words);
+    let piped = command
+        .stdin(Stdio::piped())
+        .stdout(Stdio::piped())
+        .stderr(Stdio::piped());
+    let mut child = piped.spawn().unwrap();
+    child.stdin.take().unwrap().write_all(input).unwrap();
+    child.wait_with_output().unwrap().into()
+}
+
+/// Runs the tool, which has to succeed silently on standard error, and gives what it prints.
+pub fn printed(words: &[&str]) -> String {
+    let ran = run(words);
+    assert_eq!(
+        (ran.status, ran.errors.as_str()),
+        (Some(0), ""),
+        "{words:?}"
+    );
+    ran.output
+}
+
+/// An empty folder for a test.
+pub fn folder(test: &str) -> PathBuf {
+    let folder = Path::new(env!("CARGO_TARGET_TMPDIR")).join(test);
+    let _ = fs::remove_dir_all(&folder);
+    fs::create_dir_all(&folder).unwrap();
+    folder
+}
+
+/// A path as a word for the tool.
+pub fn word(path: &Path) -> &str {
+    path.to_str().unwrap()
+}
+
+/// The header of a block with one number for all three sizes.
+pub fn block_header(size: u64) -> Vec<u8> {
+    let mut header = b"\xD3BLK\0\x30\0\0\0\0\0\0\0\0".to_vec();
+    header.extend([size; 3].map(u64::to_be_bytes).concat());
+    header.extend([0; 16]);
+    header
+}
+
+/// A tree, so many spaces behind it, and a block with some content.
+pub fn file_with_room(spaces: usize) -> Vec<u8> {
+    let spaces = vec![b' '; spaces];
+    [HEADER, TREE, &spaces, &block_header(3), b"abc"].concat()
+}
+
+/// A file of zeros with other bytes at some places; the zeros take no room on the disk.
+pub fn sparse_file(path: &Path, length: u64, parts: &[(u64, &[u8])]) -> File {
+    let file = File::options()
+        .read(true)
+        .write(true)
+        .create_new(true)
+        .open(path)
+        .unwrap();
+    file.set_len(length).unwrap();
+    for (place, bytes) in parts {
+        file.write_all_at(bytes, *place).unwrap();
+    }
+    file
+}

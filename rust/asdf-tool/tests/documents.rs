@@ -1,0 +1,23 @@
+//! What the documents show is what the tool prints.
+
+mod common;
+
+use common::*;
+use std::fs;
+use std::path::Path;
+
+#[test]
+fn listing_in_the_documents_is_what_is_printed() {
+    let root = Path::new(DATA).join("../..");
+    let document = fs::read_to_string(root.join("docs/USING.md")).unwrap();
+    let (_, behind) = document.split_once("    $ asdf-layout list ").unwrap();
+    let (name, behind) = behind.split_once('\n').unwrap();
+    let shown = behind
+        .lines()
+        .take_while(|line| line.is_empty() || line.starts_with("    "))
+        .map(|line| line.strip_prefix("    ").unwrap_or(""));
+    let shown = shown.collect::<Vec<&str>>().join("\n");
+
+    let ran = command(&["list", name]).current_dir(root).output().unwrap();
+    assert_eq!(Ran::from(ran).output.trim_end(), shown.trim_end());
+}

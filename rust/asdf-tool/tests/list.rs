@@ -1,0 +1,173 @@
+//! Listings.
+
+mod common;
+
+use common::*;
+use std::fs;
+use std::path::Path;
+
+/// The real files that are there; more may come, none may get lost.
+const AT_LEAST: usize = 18;
+
+/// The path of a real file.
+fn real(name: &str) -> String {
+    format!("{DATA}/{name}.asdf")
+}
+
+#[test]
+fn plain_listing_of_every_real_file_is_the_stored_one() {
+    let mut compared = 0;
+    for entry in fs::read_dir(DATA).unwrap() {
+        let path = entry.unwrap().path();
+        if path.extension().is_some_and(|found| found == "listing") {
+            let stored = fs::read_to_string(&path).unwrap();
+            let ran = run(&["list", "--plain", word(&path.with_extension("asdf"))]);
+            assert_eq!(ran.output, stored, "{}", path.display());
+            let refused = stored.starts_with("refused ");
+            assert_eq!(ran.status, Some(i32::from(refused)));
+            assert_eq!(ran.errors.is_empty(), !refused);
+            compared += 1;
+        }
+    }
+    assert!(compared >= AT_LEAST, "only {compared} files");
+}
+
+#[test]
+fn table_shows_depth_sizes_and_words() {
+    let file = real("nested-8");
+    let table = printed(&["list", &file]);
+    let lines: Vec<&str> = table.lines().collect();
+    assert_eq!(
+        lines[0],
+        format!("{file}: ASDF 1.0.0, length 5429 (5.3 KiB)")
+    );
+    assert_eq!(lines[3], "tree      33 to 504, in a room of 471");
+    assert!(lines[5].starts_with("block "));
+    assert!(lines[6].starts_with("0 "));
+    assert!(lines[6].ends_with("a file, opened"));
+    assert!(lines[13].starts_with("              0  "));
+    assert!(lines[13].ends_with("a file, too deep to be read"));
+    assert_eq!(
+        lines[15],
+        "index     ignored: its text has not the form of an index"
+    );
+    assert_eq!(lines.len(), 16);
+}
+
+#[test]
+fn table_names_compression_and_streamed_blocks() {
+    assert!(printed(&["list", &real("bzp2")]).contains(" bzp2  "));
+    assert!(printed(&["list", &real("streamed")]).contains(" streamed  "));
+    assert!(printed(&["list", &real("tree-only")]).contains("\nblocks    none\n"));
+}
+
+#[test]
+fn table_tells_why_an_inner_file_is_refused() {
+    let inner = b"#ASDF 2.0.0\n";
+    let file = [HEADER, &block_header(inner.len() as u64), inner].concat();
+    let ran = run_with_input(&["list", "-"], &file);
+    let refused = "refused as a file: first version number is not 1, at 6 (refusal 4)\n";
+    assert!(ran.output.contains(refused), "{}", ran.output);
+    assert!(ran.output.starts_with("standard input: ASDF 1.0.0, "));
+}
+
+#[test]
+fn json_is_one_object() {
+    let mut file = [HEADER, b"#c\n", TREE, b" ", &block_header(3), b"abc"].concat();
+    // Its name would break a careless string.
+    file[34 + 10..34 + 14].copy_from_slice(b"\"\\\x01\0");
+    let expected = concat!(
+        r#"{"bytes":91,"version":"1.0.0","header_end":12,"comments":{"start":12,"end":15},"#,
+        r#""tree":{"start":15,"end":33,"room_end":34},"#,
+        r#""blocks":[{"depth":0,"ordinal":0,"offset":34,"header_size":48,"flags":0,"streamed":false,"#,
+        r#""compression":"\\\"\\\\\\x01","allocated":3,"used":3,"data_size":3,"checksum":null,"inner":"plain"}],"#,
+        r#""index":"absent"}"#,
+        "\n"
+    );
+    assert_eq!(
+        run_with_input(&["list", "-", "--json"], &file).output,
+        expected
+    );
+    let ran = run_with_input(&["list", "-", "--json"], b"");
+    let expected =
+        r#"{"refused":{"number":2,"place":0,"reason":"file does not begin with `#ASDF `"}}"#;
+    assert_eq!(ran.output, format!("{expected}\n"));
+    assert_eq!(ran.status, Some(1));
+}
+
+#[test]
+fn refusal_is_a_sentence() {
+    let mut file = [HEADER, &block_header(3)[..], b"abc"].concat();
+    file[12 + 29] = 4;
+    let ran = run_with_input(&["list", "-"], &file);
+    let sentence = "used size is above allocated size, in the block at 12 (refusal 13)";
+    assert_eq!(
+        ran.errors,
+        format!("asdf-layout: standard input: {sentence}\n")
+    );
+    assert_eq!((ran.status, ran.output.as_str()), (Some(1), ""));
+}
+
+#[test]
+fn file_above_the_limit_is_refused_and_the_longest_is_listed() {
+    let folder = folder("list-long");
+    let (long, longest) = (folder.join("long"), folder.join("longest"));
+    sparse_file(&long, 5 << 30, &[(0, HEADER)]);
+    let ran = run(&["list", word(&long)]);
+    let sentence = "file is longer than 4,294,967,295 bytes (refusal 1)";
+    assert_eq!(
+        ran.errors,
+        format!("asdf-layout: {}: {sentence}\n", word(&long))
+    );
+    assert_eq!(ran.status, Some(1));
+
+    let length = (1 << 32) - 1;
+    let block = block_header(length - 66);
+    sparse_file(&longest, length, &[(0, HEADER), (12, &block)]);
+    let listing = printed(&["list", "--plain", word(&longest)]);
+    assert_eq!(
+        listing,
+        "tree none\n0 0 12 48 4294967229 4294967229 0 0 0 0\nindex absent\n"
+    );
+}
+
+#[test]
+fn wrong_calls_and_missing_files_have_status_2() {
+    for words in [
+        &[][..],
+        &["lists"],
+        &["list"],
+        &["list", "/no/such/file"],
+        &["list", DATA],
+        &["edit", "-", "-"],
+        &["edit", "/no/such/file", "/no/such/file"],
+        &["outline", "--read", "/no/such/file"],
+    ] {
+        let ran = run(words);
+        assert_eq!(
+            (ran.status, ran.output.as_str()),
+            (Some(2), ""),
+            "{words:?}"
+        );
+        assert!(ran.errors.starts_with("asdf-layout: "), "{words:?}");
+        assert_eq!(ran.errors.lines().count(), 1, "{words:?}");
+    }
+}
+
+#[test]
+fn every_command_has_help() {
+    for name in ["list", "tree", "index", "outline", "edit", "restore"] {
+        assert!(printed(&[name, "--help"]).contains(&format!("asdf-layout {name}")));
+        assert!(printed(&["--help"]).contains(&format!("asdf-layout {name}")));
+    }
+}
+
+#[test]
+fn pipe_in_the_place_of_a_file_is_read() {
+    let bytes = fs::read(real("one-block")).unwrap();
+    let stored = fs::read_to_string(Path::new(DATA).join("one-block.listing")).unwrap();
+    assert_eq!(
+        run_with_input(&["list", "--plain", "/dev/stdin"], &bytes).output,
+        stored
+    );
+}

@@ -1,0 +1,83 @@
+//! The tree's text, the index and stored outlines.
+
+mod common;
+
+use common::*;
+use std::fs;
+
+#[test]
+fn tree_is_its_text_alone() {
+    let file = [HEADER, TREE, b"   "].concat();
+    assert_eq!(
+        run_with_input(&["tree", "-"], &file).output.as_bytes(),
+        TREE
+    );
+    let none = run_with_input(&["tree", "-"], HEADER);
+    assert_eq!((none.status, none.output.as_str()), (Some(0), ""));
+}
+
+#[test]
+fn index_is_judged_and_written() {
+    let file = [HEADER, &block_header(0)].concat();
+    let verdict = |file: &[u8]| run_with_input(&["index", "-"], file).output;
+    assert_eq!(verdict(&file), "absent\n");
+    let text = run_with_input(&["index", "--write", "-"], &file).output;
+    assert_eq!(text, "#ASDF BLOCK INDEX\n%YAML 1.1\n--- [12]\n...\n");
+    let indexed = [&file, text.as_bytes()].concat();
+    assert_eq!(
+        verdict(&indexed),
+        "good: it lists the offsets of the blocks\n"
+    );
+
+    let refused = run_with_input(&["index", "--write", "-"], HEADER);
+    assert_eq!(refused.status, Some(1));
+    assert!(refused.errors.ends_with("(refusal 22)\n"));
+}
+
+#[test]
+fn stored_outline_has_the_rows_of_the_listing() {
+    let folder = folder("parts-outline");
+    for name in ["nested-8", "sixty-blocks", "tree-only"] {
+        let stored = folder.join(name);
+        let file = format!("{DATA}/{name}.asdf");
+        assert_eq!(printed(&["outline", &file, "-o", word(&stored)]), "");
+        let listing = printed(&["list", "--plain", &file]);
+        let (_, rows) = listing.split_once('\n').unwrap();
+        let (rows, _) = rows.split_once("index").unwrap();
+        assert_eq!(printed(&["outline", "--read", word(&stored)]), rows);
+        assert_eq!(fs::read(stored).unwrap().len(), 16 * rows.lines().count());
+    }
+}
+
+#[test]
+fn outline_of_many_rows_is_written_and_read() {
+    let inner = [HEADER, &block_header(0).repeat(64)].concat();
+    let block = [block_header(inner.len() as u64), inner].concat();
+    let file = [HEADER, &block.repeat(64)].concat();
+    let folder = folder("parts-many");
+    let (path, stored) = (folder.join("file"), folder.join("outline"));
+    fs::write(&path, file).unwrap();
+    printed(&["outline", word(&path), "-o", word(&stored)]);
+    assert_eq!(
+        printed(&["outline", "--read", word(&stored)])
+            .lines()
+            .count(),
+        64 * 65
+    );
+    assert_eq!(printed(&["list", word(&path)]).lines().count(), 64 * 65 + 8);
+}
+
+#[test]
+fn wrong_outlines_are_refused_and_the_file_is_not_overwritten() {
+    let read = |stored: &[u8]| run_with_input(&["outline", "--read", "-"], stored);
+    assert!(read(&[0; 15]).errors.ends_with("(refusal 23)\n"));
+    let sentence = "row of the outline breaks a rule, in the row at 0 (refusal 24)\n";
+    assert!(read(&[0; 16]).errors.ends_with(sentence));
+    assert_eq!(read(&[0; 16]).status, Some(1));
+
+    let path = folder("parts-same").join("file");
+    fs::write(&path, HEADER).unwrap();
+    let ran = run(&["outline", word(&path), "-o", word(&path)]);
+    assert_eq!(ran.status, Some(2));
+    assert_eq!(fs::read(&path).unwrap(), HEADER);
+}
