@@ -11,13 +11,16 @@ use lib.Pow.{pow-add}
 use lib.Dec.{eqb}
 use mir.Syntax.{w8}
 use mir.Val.{Fits}
-use borrow.Author.Tests.{ne-eqb}
+use borrow.Author.Tests.{ne-eqb, le-leb, lt-leb}
+use Rattle.format.specs.declared.answer.RowAnswer.the-variants.{Found, NoSuchRow}
 use Rattle.format.specs.declared.block.Block.{Block}
 use Rattle.format.specs.declared.block.Record.{Record}
 use Rattle.format.specs.declared.offset.OutermostOffset.{OutermostOffset}
 use Rattle.format.specs.declared.row.Row.{Row}
+use Rattle.format.specs.Answer.{rowAnswer}
 use Rattle.format.specs.Bytes.{Bytes, IsBytes, bigEndian, toBytes, wrapped, bit}
 use Rattle.format.specs.Lent.{placed}
+use Rattle.format.specs.Outcome.{accepted}
 use Rattle.format.specs.Outline.{innerNumber, rowOf, fieldsOf, sum, packed, unpacked, encodeRow, decodeRow}
 use Rattle.format.proofs.PackLaws.{is-bytes-append, is-bytes-take, is-bytes-drop, big-endian-append, big-endian-to-bytes}
 use Rattle.format.proofs.PackLaws.{to-bytes-length, to-bytes-are-bytes, to-bytes-big-endian, packed-lt, packed-unpacked}
@@ -25,7 +28,7 @@ use Rattle.format.proofs.RowLaws.{RowFits, encoded-length, bit-lt, bit-of-flag,
 use Rattle.scan.specs.Number.{BigEndian}
 use Rattle.scan.proofs.NumberLaws.{big-endian-number, big-endian-below}
 use Rattle.put.proofs.PutLaws.{placed-behind, placed-long}
-use Rattle.outline.specs.Row.{hasChecksum, frontOf, Field}
+use Rattle.outline.specs.Row.{hasChecksum, frontOf, Field, rowAt}
 
 -- a checksum whose first half is not zero
 pub checksum-high : (b : Block) → (b .«checksum_high» ≡ 0 → ⊥) → true ≡ hasChecksum b
@@ -183,3 +186,20 @@ row-read s at front p a u start place known room hf hp is-start is-place ha hu =
     let four = field-front s known at 4 (at + 4) 12 front _ hf (omega arith) (omega arith) three in
     let same : encodeRow r ≡ take 16 (drop at s) = encode-parts r ∙ rw (front-same front place a u (hf .small), same-place) four in
     sym (decode-encode r fits) ∙ ap decodeRow same
+
+module _ (s : Bytes) (at : ℕ) where
+  -- so many bytes are not there
+  none-there : length s < at + 16 → rowAnswer NoSuchRow ≡ accepted (rowAt s at)
+  unfolding rowAnswer rowAt
+  none-there h = rw (rowAt, lt-leb (at + 16) (length s) h)
+
+  pub row-outside : length s < at → rowAnswer NoSuchRow ≡ accepted (rowAt s at)
+  row-outside h = none-there (omega arith)
+
+  pub row-cut : length s - at < 16 → rowAnswer NoSuchRow ≡ accepted (rowAt s at)
+  row-cut h = none-there (omega arith)
+
+  -- they are
+  pub row-there : at ≤ length s → 16 ≤ length s - at → (r : Row) → r ≡ decodeRow (take 16 (drop at s)) → rowAnswer (Found r) ≡ accepted (rowAt s at)
+  unfolding rowAnswer rowAt
+  row-there h g r e = rw (rowAt, le-leb (at + 16) (length s) (omega arith), e)

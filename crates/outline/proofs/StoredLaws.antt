@@ -20,17 +20,13 @@ use Rattle.format.specs.Answer.{countAnswer, rowAnswer}
 use Rattle.format.specs.Bytes.{Bytes}
 use Rattle.format.specs.Outcome.{Outcome, accepted, refused, _>>=_}
 use Rattle.format.specs.Outline.{decodeRow, storedFrom, stored, storedCount, storedAt}
+use Rattle.outline.specs.Row.{rowsIn}
 use Rattle.format.proofs.OutcomeLaws.{Accepts, accepted-holds, accepts-bind, accepts-need}
 
--- the n rows in the first bytes
-abbrev pub rowsIn : ℕ → Bytes → List Row
-rowsIn zero b = []
-rowsIn (suc n) b = decodeRow (take 16 b) ∷ rowsIn n (drop 16 b)
-
 -- rs are all the rows in b
-record Read (b : Bytes) (rs : List Row) : Type 0 where
-  size : length b ≡ length rs * 16
-  rows : rs ≡ rowsIn (length rs) b
+pub record Read (b : Bytes) (rs : List Row) : Type 0 where
+  pub size : length b ≡ length rs * 16
+  pub rows : rs ≡ rowsIn (length rs) b
 
 -- a row and the rows behind it
 read-next : (b : Bytes) (o : Outcome (List Row)) (rs : List Row) → 16 ≤ length b → Accepts (Read (drop 16 b)) o → o ≡ accepted rs
@@ -52,7 +48,7 @@ read-from (suc k) n most b h =
     search (accepts-need, accepts-bind, read-next)
 
 -- also of a whole outline
-read-stored : (b : Bytes) → Accepts (Read b) (stored b)
+pub read-stored : (b : Bytes) → Accepts (Read b) (stored b)
 unfolding stored
 read-stored b =
     accepts-need _ _ 23 0 _

@@ -1,11 +1,15 @@
--- Parts of a row.
-use Prim.Native.Nat.{ℕ, _+_, _*_, _%_, _^_, _<_}
+-- Parts of a row, and the rows in bytes.
+use Prim.Native.Nat.{ℕ, zero, suc, _+_, _*_, _%_, _^_, _<_}
 use mathlib.Core.Path.{_≡_}
-use mathlib.Core.Bool.{Bool, _&&_, not}
-use lib.Dec.{eqb}
+use mathlib.Core.Bool.{Bool, true, false, _&&_, not}
+use mathlib.Core.List.{List, [], _∷_}
+use mathlib.Core.Option.{Option, none, some}
+use lib.Dec.{eqb, leb}
+use lib.ListN.{length, take, drop}
 use Rattle.format.specs.declared.block.Block.{Block}
 use Rattle.format.specs.declared.row.Row.{Row}
 use Rattle.format.specs.Bytes.{Bytes, bit, number}
+use Rattle.format.specs.Outline.{rowBytes, decodeRow}
 
 -- whether a block's checksum is not all zeros
 abbrev pub hasChecksum : Block → Bool
@@ -23,3 +27,12 @@ frontOf r = (stateOf r * 256 + r .ordinal % 256) * 65536 + r .«header_size» % 
 pub record Field (s : Bytes) (n w r : ℕ) : Type 0 where
   pub is : r ≡ number n w s
   pub small : r < 256 ^ w
+
+-- the row in the sixteen bytes at offset n, if so many are there
+unfoldable pub rowAt : Bytes → ℕ → Option Row
+rowAt b n = elim (leb (n + rowBytes) (length b)) [ true ↦ some (decodeRow (take rowBytes (drop n b))) | false ↦ none ]
+
+-- the n rows in the first bytes
+abbrev pub rowsIn : ℕ → Bytes → List Row
+rowsIn zero b = []
+rowsIn (suc n) b = decodeRow (take rowBytes b) ∷ rowsIn n (drop rowBytes b)

@@ -2,9 +2,12 @@
 ghost use Prim.Native.Nat.{_+_, _≤_, _<_};
 ghost use mathlib.Core.Path.{_≡_};
 ghost use lib.ListN.{length, take, drop};
+ghost use Rattle.format.specs.Answer.{rowAnswer};
 ghost use Rattle.format.specs.Lent.{placed};
+ghost use Rattle.format.specs.Outcome.{accepted};
 ghost use Rattle.format.specs.Outline.{encodeRow, decodeRow, innerNumber, rowOf};
-ghost use Rattle.outline.specs.Row.{hasChecksum, stateOf, frontOf, Field};
+ghost use Rattle.outline.specs.Row.{hasChecksum, stateOf, frontOf, Field, rowAt};
+use format::answer::RowAnswer;
 use format::block::Block;
 use format::block::Inner;
 use format::block::Record;
@@ -91,7 +94,20 @@ fn state(r: Row) -> u64
         + (r.inner % 4) as u64
 }
 
-// The row in the sixteen bytes at an offset.
+// The row in the sixteen bytes at an offset, or that so many are not there. The rows around it are not looked at.
+pub fn read_row(s: &[u8], at: usize) -> RowAnswer
+    ensures { λ r. ⌜ rowAnswer r ≡ accepted (rowAt (now (s .entry)) at) ⌝ }
+{
+    if s.len() < at {
+        return RowAnswer::NoSuchRow;
+    }
+    if s.len() - at < 16 {
+        return RowAnswer::NoSuchRow;
+    }
+    RowAnswer::Found(row_at(s, at))
+}
+
+// The same where they are there.
 pub(crate) fn row_at(s: &[u8], at: usize) -> Row
     requires { ⌜ at + 16 ≤ length (now s) ⌝ }
     ensures { λ r. ⌜ r ≡ decodeRow (take 16 (drop at (now (s .entry)))) ⌝ }

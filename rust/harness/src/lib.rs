@@ -7,7 +7,7 @@ mod calls;
 mod compare;
 mod compare_nest;
 mod compare_stored;
-mod corpus;
+pub mod corpus;
 mod coverage;
 pub mod dump;
 pub mod exports;

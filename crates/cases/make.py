@@ -1,0 +1,86 @@
+#!/usr/bin/python3
+"""Writes the cases of this folder: data/, the order of their names in args, and in stdout what the second program prints.
+
+    cargo build --release --offline --package asdf-second
+    python3 crates/cases/make.py
+
+The tests never run this: they read the committed files. The listings come from the second program and never from ours.
+"""
+
+import os
+import subprocess
+
+HERE = os.path.dirname(os.path.abspath(__file__))
+SECOND = os.path.join(HERE, "../../build/cargo/release/asdf-second")
+
+A = b"#ASDF 1.0.0\n"
+TREE = b"%YAML 1.1\n---\n...\n"
+LONGER_TREE = b"%YAML 1.1\n---\nxxxxxxxxx\n...\n"
+ALL_FF = 2**64 - 1
+
+
+def block(content=b"", header_size=48, flags=0, allocated=None, used=None, data_size=None):
+    """A block; a size that is not given is the content's length."""
+    sizes = [len(content) if size is None else size for size in (allocated, used, data_size)]
+    header = b"\xd3BLK" + header_size.to_bytes(2, "big") + flags.to_bytes(4, "big") + bytes(4)
+    return header + b"".join(size.to_bytes(8, "big") for size in sizes) + bytes(16) + content
+
+
+def index(numbers):
+    return b"#ASDF BLOCK INDEX\n%YAML 1.1\n--- [" + numbers + b"]\n...\n"
+
+
+def inside(file, times):
+    """A file in a block of a file, in a block of a file: so many around it."""
+    for _ in range(times):
+        file = A + block(file)
+    return file
+
+
+B = A + block()
+T = A + TREE + b" " * 10 + block()
+
+CASES = {
+    # P1 to P12; P13 is a refused edit, which prints nothing
+    "p01-empty": b"",
+    "p02-header": A,
+    "p03-unended-header": A[:-1],
+    "p04-one-block": B,
+    "p05-good-index": B + index(b"12"),
+    "p06-leading-zero": B + index(b"012"),
+    "p07-other-number": B + index(b"13"),
+    "p08-header-of-47": A + block(header_size=47),
+    "p09-cut-header": B[:-1],
+    "p10-file-inside": inside(B, 1),
+    "p11-tree": T,
+    "p12-edited-tree": A + LONGER_TREE + block(),
+    # both sides of each limit
+    "blocks-64": A + block() * 64,
+    "blocks-65": A + block() * 65,
+    "depth-7": inside(B, 7),
+    "depth-8": inside(B, 8),
+    "used-as-allocated": A + block(b"abcd"),
+    "used-above-allocated": A + block(b"abcd", used=5),
+    "streamed-empty": A + block(flags=1),
+    "sizes-of-all-ff": A + block(allocated=ALL_FF, used=ALL_FF, data_size=ALL_FF),
+    "streamed-sizes-of-all-ff": A + block(b"ab", flags=1, allocated=ALL_FF, used=ALL_FF, data_size=ALL_FF),
+}
+
+
+def main():
+    data = os.path.join(HERE, "data")
+    os.makedirs(data, exist_ok=True)
+    names = [f"{name}.asdf" for name in CASES]
+    printed = b""
+    for name, file in zip(names, CASES.values()):
+        with open(os.path.join(data, name), "wb") as out:
+            out.write(file)
+        listing = subprocess.run([SECOND], input=file, stdout=subprocess.PIPE, check=True).stdout
+        printed += name.encode() + b":\n" + listing
+    with open(os.path.join(HERE, "args"), "w") as out:
+        out.write("".join(f"{name}\n" for name in names))
+    with open(os.path.join(HERE, "stdout"), "wb") as out:
+        out.write(printed)
+
+
+main()

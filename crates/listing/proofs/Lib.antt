@@ -1,0 +1,6 @@
+-- Laws that the proofs of the listing cite.
+pub mod PutLaws
+pub mod ShortLaws
+pub mod TextLaws
+pub mod FewLaws
+pub mod ListLaws

@@ -1,0 +1,15 @@
+-- Buffers of this length are never refused.
+use borrow.Author.Needs.{needs}
+use Rattle.listing.proofs.ListLaws.{never-refused, shown-listed, shown-count, shown-fits}
+use Rattle.listing.proofs.list_lent.Statement.{statement}
+use Rattle.listing.proofs.list_lent.Tie as tie
+
+pub list-lent-spec : {M : Type 1} → statement M
+list-lent-spec =
+    tie.close
+    (tie.spec
+    (λ c κs. search needs)
+    (λ c. search needs)
+    (λ c. search needs)
+    (λ c. search (never-refused, needs))
+    (λ c. search (shown-listed, shown-count, shown-fits, needs)))

@@ -1,0 +1,25 @@
+-- The other numbers are put behind the depth.
+use borrow.Author.Needs.{needs}
+use Rattle.listing.proofs.TextLaws.{row-put}
+use Rattle.listing.proofs.text.put_row.Statement.{statement}
+use Rattle.listing.proofs.text.put_row.Tie as tie
+
+pub put-row-spec : {M : Type 1} → statement M
+put-row-spec =
+    tie.close
+    (tie.spec
+    (λ c. search needs)
+    (λ c. search needs)
+    (λ c κs. search needs)
+    (λ c. search needs)
+    (λ c κs. search needs)
+    (λ c κs. search needs)
+    (λ c κs. search needs)
+    (λ c. search needs)
+    (λ c κs. search needs)
+    (λ c κs. search needs)
+    (λ c. search needs)
+    (λ c. search needs)
+    (λ c κs. search needs)
+    (λ c. search needs)
+    (λ c. search (row-put, needs)))
