@@ -25,6 +25,7 @@ extern "C" {
         out_len: usize,
     ) -> u64;
     fn asdf_rewrite(stored: *const u8, stored_len: usize, out: *mut u8, out_len: usize) -> u64;
+    fn asdf_edit(file: *mut u8, file_len: usize, text: *const u8, text_len: usize) -> u64;
 }
 
 /// A proved function that only counts.
@@ -111,6 +112,12 @@ pub fn rewrite(stored: &[u8], out: &mut [u8]) -> u64 {
     written(asdf_rewrite, stored, out)
 }
 
+/// Asks for a file's tree to be replaced by a text.
+pub fn edit(file: &mut [u8], text: &[u8]) -> u64 {
+    // SAFETY: both pointers come from slices with these lengths, and live through the call.
+    unsafe { asdf_edit(file.as_mut_ptr(), file.len(), text.as_ptr(), text.len()) }
+}
+
 /// Asks a function that only counts.
 fn counted(counter: Counter, bytes: &[u8]) -> u64 {
     // SAFETY: the pointer comes from a slice with this length, and lives through the call.
@@ -166,24 +173,19 @@ impl SparseFile {
     /// A file of this length, which is not 0, with these bytes at these places in it.
     pub fn new(length: usize, parts: &[(usize, &[u8])]) -> io::Result<SparseFile> {
         let mut file = SparseFile::zeros(length)?;
-        for (place, bytes) in parts {
-            file.bytes_mut()[*place..][..bytes.len()].copy_from_slice(bytes);
+        let bytes = file.lend()?;
+        for (place, part) in parts {
+            bytes[*place..][..part.len()].copy_from_slice(part);
         }
-        // SAFETY: the map is ours alone, and no one holds a writable slice of it any more.
-        let status = unsafe { mprotect(file.start, length, PROT_READ) };
-        if status == 0 {
-            Ok(file)
-        } else {
-            Err(io::Error::last_os_error())
-        }
+        file.protect(PROT_READ)?;
+        Ok(file)
     }
 
-    /// So many zeros, still writable.
+    /// So many zeros.
     fn zeros(length: usize) -> io::Result<SparseFile> {
-        let protection = PROT_READ | PROT_WRITE;
         let flags = MAP_PRIVATE | MAP_ANONYMOUS | MAP_NORESERVE;
         // SAFETY: a new map at an address that the system chooses touches no memory in use.
-        let start = unsafe { mmap(null_mut(), length, protection, flags, NO_FILE, 0) };
+        let start = unsafe { mmap(null_mut(), length, PROT_READ, flags, NO_FILE, 0) };
         // Failure is the address of all ones.
         if start as isize == -1 {
             return Err(io::Error::last_os_error());
@@ -191,10 +193,20 @@ impl SparseFile {
         Ok(SparseFile { start, length })
     }
 
-    /// The bytes while they are still writable.
-    fn bytes_mut(&mut self) -> &mut [u8] {
-        // SAFETY: the map has this length, is writable until `new` ends, and is lent with `self`.
-        unsafe { slice::from_raw_parts_mut(self.start.cast(), self.length) }
+    /// Says what may be done with the bytes; they are always readable.
+    fn protect(&mut self, protection: c_int) -> io::Result<()> {
+        // SAFETY: the map has this length, is ours alone, and no slice of it is lent now.
+        match unsafe { mprotect(self.start, self.length, protection) } {
+            0 => Ok(()),
+            _ => Err(io::Error::last_os_error()),
+        }
+    }
+
+    /// The bytes to be changed.
+    pub fn lend(&mut self) -> io::Result<&mut [u8]> {
+        self.protect(PROT_READ | PROT_WRITE)?;
+        // SAFETY: the map has this length, is writable now, and is lent with `self`.
+        Ok(unsafe { slice::from_raw_parts_mut(self.start.cast(), self.length) })
     }
 }
 
@@ -223,6 +235,14 @@ mod tests {
         let file = SparseFile::new(10_000, &[(0, b"ab"), (9_998, b"yz")])?;
         let expected = [b"ab", &[0; 9_996][..], b"yz"].concat();
         assert_eq!(file[..], expected);
+        Ok(())
+    }
+
+    #[test]
+    fn lent_sparse_file_is_changed() -> io::Result<()> {
+        let mut file = SparseFile::new(3, &[(0, b"abc")])?;
+        file.lend()?[1] = b'x';
+        assert_eq!(file[..], *b"axc");
         Ok(())
     }
 

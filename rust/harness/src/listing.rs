@@ -1,8 +1,9 @@
 //! The listing of a file, from the proved functions' own answers.
 
+use crate::afresh;
 use crate::exports;
-use crate::loan::{result_in, result_of};
-use crate::numbers::{numbers_of, LAYOUT_NUMBERS, NUMBER_BYTES, ROW_NUMBERS};
+use crate::loan::result_in;
+use crate::numbers::{numbers_of, NUMBER_BYTES, ROW_NUMBERS};
 use asdf_second::{Refusal, ROW_LENGTH};
 
 /// The verdicts by their numbers.
@@ -15,14 +16,10 @@ pub fn listing(file: &[u8]) -> String {
 
 /// The listing of a file that is accepted.
 fn accepted_listing(file: &[u8]) -> Result<String, Refusal> {
-    let layout = result_in(LAYOUT_NUMBERS * NUMBER_BYTES, |out| {
-        exports::read(file, out)
-    })?;
-    let layout = numbers_of(&layout);
-    let rows = result_of(exports::count(file))?;
-    let length = rows as usize * ROW_LENGTH;
-    let outline = result_in(length, |out| exports::outline(file, out))?;
-    let lines = (0..rows).map(|number| row_line(&outline, number));
+    let layout = afresh::layout(file)?;
+    let outline = afresh::outline(file)?;
+    let rows = outline.len() / ROW_LENGTH;
+    let lines = (0..rows as u64).map(|number| row_line(&outline, number));
     let lines: String = lines.collect::<Result<_, Refusal>>()?;
     let [.., present, start, end, _, _, verdict] = layout[..] else {
         return Ok("no layout\n".to_string());
