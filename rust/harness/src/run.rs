@@ -23,7 +23,6 @@ use asdf_second::{Inner, Record};
 use std::fs;
 use std::io;
 use std::panic::{catch_unwind, AssertUnwindSafe};
-use std::path::Path;
 
 /// The seed of a run for which none is said.
 pub const DEFAULT_SEED: u64 = 1;
@@ -175,14 +174,7 @@ impl Outcome {
         if self.failures > MOST_TOLD {
             return Ok(());
         }
-        for (end, bytes) in generated.parts() {
-            report(
-                &Path::new(FAILING).join(format!("{name}{end}")),
-                bytes,
-                &reason,
-            )?;
-        }
-        Ok(())
+        report(name, &generated.parts(), &reason)
     }
 
     /// Puts a generated file through all checks.
@@ -247,11 +239,17 @@ fn without_panic<T>(work: impl FnOnce() -> T) -> Result<T, String> {
     catch_unwind(AssertUnwindSafe(work)).map_err(|_| "a panic".to_string())
 }
 
-/// Writes a failing file and tells of it.
-fn report(path: &Path, file: &[u8], reason: &str) -> io::Result<()> {
+/// Writes the parts of a failing one and tells of it.
+fn report(name: &str, parts: &[(&'static str, &[u8])], reason: &str) -> io::Result<()> {
     fs::create_dir_all(FAILING)?;
-    fs::write(path, file)?;
-    println!("{}: {reason:.LONGEST_REASON$}", path.display());
+    for (end, bytes) in parts {
+        fs::write(format!("{FAILING}/{name}{end}"), bytes)?;
+    }
+    let ends: Vec<&str> = parts.iter().map(|(end, _)| *end).collect();
+    println!(
+        "{FAILING}/{name}{}: {reason:.LONGEST_REASON$}",
+        ends.join(", ")
+    );
     Ok(())
 }
 

@@ -2,8 +2,8 @@
 
 use asdf_harness::stack::walk_with_stack;
 
-/// The least power of two with which the deepest files are walked; `asdf-harness --stack BYTES`
-/// tries others.
+/// 512 KiB, the least power of two with which the deepest files are walked; `asdf-harness --stack
+/// BYTES` tries others.
 const STACK_BYTES: usize = 1 << 19;
 
 #[test]
