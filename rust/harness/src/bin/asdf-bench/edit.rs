@@ -30,7 +30,7 @@ pub fn print_table() -> io::Result<()> {
 }
 
 /// All edits that are measured.
-fn cases() -> [Case; 2] {
+fn cases() -> [Case; 3] {
     let long_text = tree_text(&LINE_OF_41.repeat(MIB / LINE_OF_41.len()));
     [
         Case {
@@ -38,6 +38,12 @@ fn cases() -> [Case; 2] {
             length: long_text.len() + LEAST_BLOCK,
             room: long_text.len(),
             text: long_text,
+        },
+        Case {
+            name: "small tree in a room of 1 MiB",
+            length: MIB + LEAST_BLOCK,
+            room: MIB,
+            text: tree_text(LINE_OF_41),
         },
         Case {
             name: "small tree before a sparse gigabyte",
