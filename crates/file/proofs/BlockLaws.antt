@@ -203,14 +203,17 @@ module _ (t : Bytes) (f : ℕ) (bits : FieldRead t 6 10 f) where
 -- the bytes t, from offset n on, begin with the block b
 pub record Starts (n : ℕ) (t : Bytes) (b : Block) : Type 0 where
   pub at : b .at .0 ≡ n
+  pub header-least : leastHeader ≤ b .«header_size»
   pub inside : extent b ≤ length t
   pub used : b .used ≤ b .allocated
 
 module _ (i n : ℕ) (t : Bytes) where
   -- a block starts where its tests hold
-  with-starts : (a u d : ℕ) → leb (contentStart t) (length t) ≡ true → a ≤ bytesLeft t → u ≤ a → Starts n t (blockWith i n t a u d)
+  with-starts : (a u d : ℕ) → leb leastHeader (headerSize t) ≡ true → leb (contentStart t) (length t) ≡ true → a ≤ bytesLeft t → u ≤ a
+      → Starts n t (blockWith i n t a u d)
   unfolding blockWith
-  with-starts a u d h k used = record { at = refl; inside = omega (arith, leb-true (contentStart t) (length t) h); used = used }
+  with-starts a u d least h k used =
+      record { at = refl; header-least = leb-true _ _ least; inside = omega (arith, leb-true (contentStart t) (length t) h); used = used }
 
   -- and so does an accepted block
   pub block-starts : Accepts (Starts n t) (block i n t)

@@ -6,6 +6,7 @@ pub mod CommentsLaws
 pub mod TreeLaws
 pub mod BlockLaws
 pub mod ChainLaws
+pub mod FewLaws
 pub mod TrimLaws
 pub mod ListLaws
 pub mod BracketLaws

@@ -2,5 +2,4 @@
 pub mod PutLaws
 pub mod ShortLaws
 pub mod TextLaws
-pub mod FewLaws
 pub mod ListLaws

@@ -34,7 +34,7 @@ use Rattle.nest.specs.Promise.{OutlineWritten}
 use Rattle.outline.proofs.StoredLaws.{Read, read-stored}
 use Rattle.listing.specs.Listing.{outlineBytes, outlineFor, bothFit, putIf, BothPut, mostOutline, lentBytes, Listed, BothShort, Short}
 use Rattle.listing.specs.Text.{fileText, verdictText, PutAt}
-use Rattle.listing.proofs.FewLaws.{rows-few}
+use Rattle.file.proofs.FewLaws.{rows-few}
 
 -- a text alone
 module _ (t out : Bytes) where
@@ -204,7 +204,7 @@ module _ (s : Bytes) (short : length s ≤ mostInput) where
       rows-read = accepted-holds (Read b) (stored b) (of .file-rows) (read-stored b) (read-back s b bytes is ∙ of .rows-are)
 
       outline-few : length b ≤ mostOutline
-      outline-few = omega (arith, rows-read .size, accepted-holds _ (rows s) (of .file-rows) (rows-few s bytes) (of .rows-are))
+      outline-few = omega (arith, rows-read .size, accepted-holds _ (rows s) (of .file-rows) (rows-few s) (of .rows-are))
 
       same-rows : rowsIn (length b / 16) b ≡ of .file-rows
       same-rows =

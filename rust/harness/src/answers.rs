@@ -6,6 +6,12 @@ use asdf_second::{
     LONGEST_INDEX, ROW_LENGTH,
 };
 
+/// The number that refuses the edit of a file without a tree.
+pub const EDIT_WITHOUT_TREE: u8 = 18;
+/// The number that refuses a text that is not exactly one tree.
+pub const TEXT_NOT_ONE_TREE: u8 = 19;
+/// The number that refuses a text that is longer than the room.
+pub const TEXT_LONGER_THAN_ROOM: u8 = 20;
 /// The number that refuses a lent buffer.
 pub const BUFFER_TOO_SHORT: u8 = 21;
 /// The number that refuses an index without a block, or with a streamed last one.
@@ -16,7 +22,7 @@ pub const OUTLINE_LENGTH: u8 = 23;
 pub const OUTLINE_ROW: u8 = 24;
 
 /// A refusal that concerns the whole.
-pub fn of_whole(number: u8) -> Refusal {
+pub const fn of_whole(number: u8) -> Refusal {
     Refusal { number, place: 0 }
 }
 

@@ -17,6 +17,7 @@ pub enum Function {
     StoredCount,
     StoredRow,
     Rewrite,
+    Edit,
 }
 
 /// The length of a lent buffer, beside that of the result.
@@ -41,6 +42,10 @@ pub enum Answer {
     NoIndex,
     WrongLength,
     WrongRow,
+    Edited,
+    NoTree,
+    NotOneTree,
+    TooLong,
 }
 
 /// A kind of call.
@@ -52,7 +57,7 @@ pub struct Call {
 }
 
 impl Function {
-    const ALL: [Function; 10] = [
+    const ALL: [Function; 11] = [
         Function::Read,
         Function::Block,
         Function::Count,
@@ -63,6 +68,7 @@ impl Function {
         Function::StoredCount,
         Function::StoredRow,
         Function::Rewrite,
+        Function::Edit,
     ];
 
     /// Whether it is lent a stored outline and not a file.
@@ -73,9 +79,14 @@ impl Function {
         )
     }
 
-    /// Whether it is lent no buffer.
+    /// Whether it only counts.
     fn is_count(self) -> bool {
         matches!(self, Function::Count | Function::StoredCount)
+    }
+
+    /// Whether it is lent a buffer for its result.
+    fn is_lent_buffer(self) -> bool {
+        !self.is_count() && self != Function::Edit
     }
 
     /// The bytes of its result, if that has always so many or none.
@@ -122,7 +133,7 @@ impl Buffer {
 }
 
 impl Answer {
-    const ALL: [Answer; 8] = [
+    const ALL: [Answer; 12] = [
         Answer::Counted,
         Answer::Written,
         Answer::Nothing,
@@ -131,6 +142,10 @@ impl Answer {
         Answer::NoIndex,
         Answer::WrongLength,
         Answer::WrongRow,
+        Answer::Edited,
+        Answer::NoTree,
+        Answer::NotOneTree,
+        Answer::TooLong,
     ];
 }
 
@@ -140,15 +155,18 @@ impl Call {
         let lends = self.buffer != Buffer::No;
         let fits = matches!(self.buffer, Buffer::Exact | Buffer::Long);
         let answers = match self.answer {
-            Answer::Counted => !lends,
+            Answer::Counted => self.function.is_count(),
             Answer::Written => fits,
             Answer::Nothing => lends && !self.function.finds_something(),
             Answer::TooShort => lends && !fits,
             Answer::FileRefused => !self.function.is_of_stored(),
             Answer::NoIndex => self.function == Function::Index,
             Answer::WrongLength | Answer::WrongRow => self.function.is_of_stored(),
+            Answer::Edited | Answer::NoTree | Answer::NotOneTree | Answer::TooLong => {
+                self.function == Function::Edit
+            }
         };
-        answers && lends != self.function.is_count()
+        answers && lends == self.function.is_lent_buffer()
     }
 
     /// Every kind of call.
@@ -178,6 +196,7 @@ impl fmt::Display for Function {
             Function::StoredCount => "asdf_stored_count",
             Function::StoredRow => "asdf_stored_row",
             Function::Rewrite => "asdf_rewrite",
+            Function::Edit => "asdf_edit",
         })
     }
 }
@@ -200,6 +219,10 @@ impl fmt::Display for Call {
             Answer::NoIndex => "refused 22",
             Answer::WrongLength => "refused 23",
             Answer::WrongRow => "refused 24",
+            Answer::Edited => "edited",
+            Answer::NoTree => "refused 18",
+            Answer::NotOneTree => "refused 19",
+            Answer::TooLong => "refused 20",
         };
         write!(f, "{}, {buffer} buffer: {answer}", self.function)
     }
@@ -270,5 +293,6 @@ mod tests {
         assert_eq!(of("asdf_index,"), 12);
         assert_eq!(of("asdf_stored_count,"), 3);
         assert_eq!(of("asdf_rewrite,"), 16);
+        assert_eq!(of("asdf_edit,"), 5);
     }
 }

@@ -69,6 +69,7 @@ impl<A> fmt::Display for Coverage<A> {
 #[cfg(test)]
 mod tests {
     use super::*;
+    use crate::edit_goals::edit_goals;
     use crate::goals::goals;
     use crate::stored_goals::stored_goals;
 
@@ -85,7 +86,8 @@ mod tests {
     #[test]
     fn no_two_goals_have_the_same_name() {
         let files = Coverage::new(goals()).missing();
-        let names = [files, Coverage::new(stored_goals()).missing()].concat();
+        let stored = Coverage::new(stored_goals()).missing();
+        let names = [files, stored, Coverage::new(edit_goals()).missing()].concat();
         let different: HashSet<&String> = names.iter().collect();
         assert_eq!(different.len(), names.len());
     }

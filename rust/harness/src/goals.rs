@@ -6,6 +6,14 @@ use crate::limits::limits;
 use crate::nest_goals::nest_goals;
 use asdf_second::{Block, Record, Verdict};
 
+/// All verdicts.
+pub const VERDICTS: [Verdict; 4] = [
+    Verdict::Absent,
+    Verdict::Good,
+    Verdict::IgnoredForm,
+    Verdict::IgnoredList,
+];
+
 /// The places at which a file, of which this is said, reaches something.
 type Places<A> = dyn Fn(&[u8], &A) -> Vec<usize>;
 
@@ -109,18 +117,13 @@ fn refusals() -> Vec<Goal> {
 
 /// Each verdict.
 fn verdicts() -> Vec<Goal> {
-    [
-        Verdict::Absent,
-        Verdict::Good,
-        Verdict::IgnoredForm,
-        Verdict::IgnoredList,
-    ]
-    .map(|verdict| {
-        Goal::of_file(format!("index {verdict}"), move |_, answers| {
-            answers.verdict() == Some(verdict)
+    VERDICTS
+        .map(|verdict| {
+            Goal::of_file(format!("index {verdict}"), move |_, answers| {
+                answers.verdict() == Some(verdict)
+            })
         })
-    })
-    .into()
+        .into()
 }
 
 /// The parts that a file may have or not.

@@ -2,20 +2,25 @@
 
 #![deny(unsafe_code)]
 
+mod afresh;
 mod answers;
 mod calls;
 mod compare;
+mod compare_edit;
 mod compare_nest;
 mod compare_stored;
 pub mod corpus;
 mod coverage;
 pub mod dump;
+mod edit_answers;
+mod edit_goals;
 pub mod exports;
 mod fields;
 mod generate;
 mod goals;
 mod limits;
 mod loan;
+pub mod long_edits;
 mod long_files;
 mod mutate;
 mod nest_goals;

@@ -1,6 +1,9 @@
 //! Lent buffers: what a function has to answer with each of them, and every byte after its call.
 
-use crate::answers::{of_whole, BUFFER_TOO_SHORT, NO_INDEX_POSSIBLE, OUTLINE_LENGTH, OUTLINE_ROW};
+use crate::answers::{
+    of_whole, BUFFER_TOO_SHORT, EDIT_WITHOUT_TREE, NO_INDEX_POSSIBLE, OUTLINE_LENGTH, OUTLINE_ROW,
+    TEXT_LONGER_THAN_ROOM, TEXT_NOT_ONE_TREE,
+};
 use crate::calls::{Answer, Buffer, Call, Calls, Function};
 use crate::numbers::{numbers_of, NUMBER_BYTES};
 use crate::same::same;
@@ -101,6 +104,26 @@ pub fn compare_count(
     same("returned", result_of(word), expected).map_err(|reason| format!("{call}: {reason}"))
 }
 
+/// Compares the word of an edit and every byte of the file and around it, and returns the file
+/// as it was left.
+pub fn compare_edited(
+    file: &[u8],
+    expected: &Expected,
+    edit: impl Fn(&mut [u8]) -> u64,
+    calls: &mut Calls,
+) -> Result<Vec<u8>, String> {
+    let answer = expected.as_ref().map(|_| Answer::Edited);
+    let call = Call {
+        function: Function::Edit,
+        buffer: Buffer::No,
+        answer: answer.unwrap_or_else(|refusal| kind_of_refusal(*refusal)),
+    };
+    calls.count(call);
+    Loan::of(file)
+        .check_edit(file, expected, edit)
+        .map_err(|reason| format!("{call}: {reason}"))
+}
+
 /// The kind of an answer with a buffer.
 fn kind_of(answer: Result<&[u8], Refusal>) -> Answer {
     match answer {
@@ -117,6 +140,9 @@ fn kind_of_refusal(refusal: Refusal) -> Answer {
         NO_INDEX_POSSIBLE => Answer::NoIndex,
         OUTLINE_LENGTH => Answer::WrongLength,
         OUTLINE_ROW => Answer::WrongRow,
+        EDIT_WITHOUT_TREE => Answer::NoTree,
+        TEXT_NOT_ONE_TREE => Answer::NotOneTree,
+        TEXT_LONGER_THAN_ROOM => Answer::TooLong,
         _ => Answer::FileRefused,
     }
 }
@@ -129,6 +155,14 @@ struct Loan {
 }
 
 impl Loan {
+    /// A buffer that these bytes fill.
+    fn of(bytes: &[u8]) -> Loan {
+        Loan {
+            length: bytes.len(),
+            filling: bytes.len(),
+        }
+    }
+
     /// The part that is lent; it begins at any remainder by eight.
     fn stretch(self) -> Range<usize> {
         let start = AROUND + self.filling % NUMBER_BYTES;
@@ -140,6 +174,13 @@ impl Loan {
         let watched = self.stretch().end + AROUND;
         let byte = |place| (self.filling + 37 * place) as u8;
         (0..watched).map(byte).collect()
+    }
+
+    /// All bytes, with these at the start of the part that is lent.
+    fn holding(self, bytes: &[u8]) -> Vec<u8> {
+        let mut all = self.filled();
+        all[self.stretch()][..bytes.len()].copy_from_slice(bytes);
+        all
     }
 
     /// The answer with a buffer of this length.
@@ -157,17 +198,35 @@ impl Loan {
         expected: Result<&[u8], Refusal>,
         ask: impl Fn(&mut [u8]) -> u64,
     ) -> Result<(), String> {
-        let mut left = self.filled();
-        let mut bytes = left.clone();
+        let mut bytes = self.filled();
         let word = ask(&mut bytes[self.stretch()]);
         let returned = expected.map(|written| written.len() as u64);
         same("returned", result_of(word), returned)?;
-        let written = expected.unwrap_or(&[]);
-        left[self.stretch()][..written.len()].copy_from_slice(written);
+        self.check_bytes(&bytes, expected.unwrap_or(&[]))
+    }
+
+    /// Lets a file be edited, and compares what is returned and every byte of it and around it.
+    fn check_edit(
+        self,
+        file: &[u8],
+        expected: &Expected,
+        edit: impl Fn(&mut [u8]) -> u64,
+    ) -> Result<Vec<u8>, String> {
+        let mut bytes = self.holding(file);
+        let word = edit(&mut bytes[self.stretch()]);
+        let returned = expected.as_ref().map(|_| 0).map_err(|&refusal| refusal);
+        same("returned", result_of(word), returned)?;
+        self.check_bytes(&bytes, expected.as_deref().unwrap_or(file))?;
+        Ok(bytes[self.stretch()].to_vec())
+    }
+
+    /// Compares all bytes after a call that had to leave these at the start of the lent part.
+    fn check_bytes(self, bytes: &[u8], written: &[u8]) -> Result<(), String> {
+        let left = self.holding(written);
         if bytes == left {
             return Ok(());
         }
-        self.difference(&bytes, &left, written.len())
+        self.difference(bytes, &left, written.len())
     }
 
     /// Tells where bytes are not as they were to be left, of which so many are the result.
@@ -257,6 +316,25 @@ mod tests {
         assert_eq!(LOAN.answer(&Ok(too_long)), Err(of_whole(21)));
         assert_eq!(LOAN.answer(&Err(of_whole(2))), Err(of_whole(2)));
         assert_eq!(LOAN.answer(&Ok(fits.clone())), Ok(&fits[..]));
+    }
+
+    #[test]
+    fn edit_with_another_answer_or_another_byte_is_found_out() {
+        let said = |expected: &Expected, word, byte| {
+            let edit = |file: &mut [u8]| {
+                file[1] = byte;
+                word
+            };
+            compare_edited(b"abc", expected, edit, &mut Calls::new())
+        };
+        let edited = Ok(b"axc".to_vec());
+        assert_eq!(said(&edited, 0, b'x'), Ok(b"axc".to_vec()));
+        assert!(said(&edited, 0, b'y').is_err());
+        assert!(said(&edited, 1, b'x').is_err());
+        let refused = Err(of_whole(20));
+        assert_eq!(said(&refused, 20 << PLACE_BITS, b'b'), Ok(b"abc".to_vec()));
+        assert!(said(&refused, 20 << PLACE_BITS, b'x').is_err());
+        assert!(said(&refused, 19 << PLACE_BITS, b'b').is_err());
     }
 
     #[test]

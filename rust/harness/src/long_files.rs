@@ -10,8 +10,9 @@ use asdf_second::Refusal;
 use std::io;
 
 /// The longest file.
-const LONGEST: usize = 4_294_967_295;
-const TOO_LONG: u8 = 1;
+pub const LONGEST: usize = 4_294_967_295;
+/// The number that refuses a longer one.
+pub const TOO_LONG: u8 = 1;
 const STREAMED: u32 = 1;
 const ABSENT: u64 = 0;
 const GOOD: u64 = 1;

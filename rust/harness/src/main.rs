@@ -15,11 +15,12 @@ usage: asdf-harness [SEED] [COUNT]
        asdf-harness --stack BYTES
 
 The first form generates COUNT files (100,000 if it is not said), as many files with files
-inside and as many stored outlines, compares what the proved functions and the second
-program say of each, and prints what they reached. A few sparse files at the limit of 4 GiB
-and a few with many rows are compared too. The status is 1 if something differs or was never
-reached; the first 20 failing ones are written as build/failing/SEED-NUMBER.asdf,
-SEED-NUMBER-nest.asdf or SEED-NUMBER.outline.
+inside, as many stored outlines and as many edits, each a file and a text for its tree. It
+compares what the proved functions and the second program say of each and what they leave, and
+prints what was reached. A few sparse files at the limit of 4 GiB and a few with many rows are
+compared too. The status is 1 if something differs or was never reached; the first 20 failing
+ones are written as build/failing/SEED-NUMBER.asdf, SEED-NUMBER-nest.asdf,
+SEED-NUMBER.outline, or SEED-NUMBER-edit.asdf with SEED-NUMBER-edit.text.
 
 The second form writes the files to DIR/in, each behind its length in 8 bytes, and what the
 second program says of each as a line of DIR/out; files above 65,536 bytes are left out.

@@ -3,11 +3,16 @@
 use crate::answers::Answers;
 use crate::calls::Calls;
 use crate::compare::compare;
+use crate::compare_edit::{compare_edit, edited_by_second};
 use crate::compare_nest::read_back;
 use crate::compare_stored::compare_stored;
-use crate::corpus::{numbered_file, numbered_nest, numbered_outline};
+use crate::corpus::{numbered_edit, numbered_file, numbered_nest, numbered_outline, Edit};
 use crate::coverage::Coverage;
+use crate::edit_answers::EditAnswers;
+use crate::edit_goals::edit_goals;
+use crate::exports;
 use crate::goals::goals;
+use crate::long_edits::{LongEdit, LONG_EDITS};
 use crate::long_files::{long_files, LongFile};
 use crate::nests;
 use crate::same::same;
@@ -18,7 +23,6 @@ use asdf_second::{Inner, Record};
 use std::fs;
 use std::io;
 use std::panic::{catch_unwind, AssertUnwindSafe};
-use std::path::{Path, PathBuf};
 
 /// The seed of a run for which none is said.
 pub const DEFAULT_SEED: u64 = 1;
@@ -33,33 +37,34 @@ const MOST_TOLD: u64 = 20;
 const LONGEST_REASON: usize = 600;
 
 /// What is generated.
-#[derive(Clone, Copy)]
-enum Kind {
-    File,
-    Nest,
-    Outline,
+enum Generated {
+    File(Vec<u8>),
+    Nest(Vec<u8>),
+    Outline(Vec<u8>),
+    Edit(Edit),
 }
 
-impl Kind {
-    const ALL: [Kind; 3] = [Kind::File, Kind::Nest, Kind::Outline];
-
-    /// The one of this kind with this number.
-    fn numbered(self, seed: u64, number: u64) -> Vec<u8> {
-        match self {
-            Kind::File => numbered_file(seed, number),
-            Kind::Nest => numbered_nest(seed, number),
-            Kind::Outline => numbered_outline(seed, number),
-        }
+impl Generated {
+    /// The one of each kind with this number.
+    fn numbered(seed: u64, number: u64) -> [Generated; 4] {
+        [
+            Generated::File(numbered_file(seed, number)),
+            Generated::Nest(numbered_nest(seed, number)),
+            Generated::Outline(numbered_outline(seed, number)),
+            Generated::Edit(numbered_edit(seed, number)),
+        ]
     }
 
-    /// Where a failing one is written.
-    fn path(self, seed: u64, number: u64) -> PathBuf {
-        let end = match self {
-            Kind::File => ".asdf",
-            Kind::Nest => "-nest.asdf",
-            Kind::Outline => ".outline",
-        };
-        Path::new(FAILING).join(format!("{seed}-{number}{end}"))
+    /// What is written of a failing one, with the ends of the names.
+    fn parts(&self) -> Vec<(&'static str, &[u8])> {
+        match self {
+            Generated::File(bytes) => vec![(".asdf", bytes)],
+            Generated::Nest(bytes) => vec![("-nest.asdf", bytes)],
+            Generated::Outline(bytes) => vec![(".outline", bytes)],
+            Generated::Edit(edit) => {
+                vec![("-edit.asdf", &edit.file), ("-edit.text", &edit.text)]
+            }
+        }
     }
 }
 
@@ -67,6 +72,7 @@ impl Kind {
 struct Outcome {
     coverage: Coverage,
     stored_coverage: Coverage<StoredAnswers>,
+    edit_coverage: Coverage<EditAnswers>,
     calls: Calls,
     bytes: u64,
     longest: usize,
@@ -77,10 +83,11 @@ struct Outcome {
 
 /// Generates and checks files, prints what came of it, and says whether all is well.
 pub fn run(seed: u64, count: u64) -> io::Result<bool> {
-    println!("seed {seed}, {count} files, {count} with files inside, {count} stored outlines");
+    println!("seed {seed}; files, files with files inside, stored outlines, edits: {count} each");
     let outcome = check_files(seed, count)?;
     let missing = outcome.missing(count);
     print!("{}{}", outcome.coverage, outcome.stored_coverage);
+    print!("{}", outcome.edit_coverage);
     print!("{}", outcome.calls);
     println!("{} bytes, longest file {}", outcome.bytes, outcome.longest);
     println!("{} files with files inside", outcome.nests);
@@ -106,9 +113,13 @@ fn check_files(seed: u64, count: u64) -> io::Result<Outcome> {
         let compared = outcome.compare_file(&nest);
         outcome.tell("file made for its many rows", compared.map(|_| ()));
     }
+    for long in LONG_EDITS {
+        let checked = outcome.check_long_edit(&long)?;
+        outcome.tell(long.name, checked);
+    }
     for number in 0..count {
-        for kind in Kind::ALL {
-            outcome.check_numbered(kind, seed, number)?;
+        for generated in Generated::numbered(seed, number) {
+            outcome.check_generated(&generated, &format!("{seed}-{number}"))?;
         }
     }
     Ok(outcome)
@@ -120,6 +131,7 @@ impl Outcome {
         Outcome {
             coverage: Coverage::new(goals()),
             stored_coverage: Coverage::new(stored_goals()),
+            edit_coverage: Coverage::new(edit_goals()),
             calls: Calls::new(),
             bytes: 0,
             longest: 0,
@@ -132,6 +144,7 @@ impl Outcome {
     fn missing(&self, least_nests: u64) -> Vec<String> {
         let mut missing = self.coverage.missing();
         missing.extend(self.stored_coverage.missing());
+        missing.extend(self.edit_coverage.missing());
         missing.extend(self.calls.missing());
         if self.nests < least_nests {
             missing.push(format!("{least_nests} files with files inside"));
@@ -147,12 +160,12 @@ impl Outcome {
         }
     }
 
-    /// Generates and checks one; a failing one is kept and told of.
-    fn check_numbered(&mut self, kind: Kind, seed: u64, number: u64) -> io::Result<()> {
-        let bytes = kind.numbered(seed, number);
-        let checked = match kind {
-            Kind::File | Kind::Nest => self.check_file(&bytes),
-            Kind::Outline => self.check_outline(&bytes),
+    /// Checks one that is generated; a failing one is kept under its name and told of.
+    fn check_generated(&mut self, generated: &Generated, name: &str) -> io::Result<()> {
+        let checked = match generated {
+            Generated::File(bytes) | Generated::Nest(bytes) => self.check_file(bytes),
+            Generated::Outline(bytes) => self.check_outline(bytes),
+            Generated::Edit(edit) => self.check_edit(edit),
         };
         let Err(reason) = checked else {
             return Ok(());
@@ -161,7 +174,7 @@ impl Outcome {
         if self.failures > MOST_TOLD {
             return Ok(());
         }
-        report(&kind.path(seed, number), &bytes, &reason)
+        report(name, &generated.parts(), &reason)
     }
 
     /// Puts a generated file through all checks.
@@ -198,6 +211,22 @@ impl Outcome {
         without_panic(|| compare_stored(&lent, &answers, &mut self.calls))??;
         same("the outline after all calls", &lent[..], stored)
     }
+
+    /// Counts what an edit reaches, and compares what comes of it.
+    fn check_edit(&mut self, edit: &Edit) -> Result<(), String> {
+        let expected = without_panic(|| edited_by_second(edit))??;
+        let outcome = expected.as_ref().map(|_| ()).map_err(|&refusal| refusal);
+        let answers = without_panic(|| EditAnswers::to(&edit.file, &edit.text, outcome))?;
+        self.edit_coverage.count(&edit.file, &answers);
+        without_panic(|| compare_edit(edit, &expected, exports::edit, &mut self.calls))?
+    }
+
+    /// Counts what a long edit reaches, and compares what comes of it.
+    fn check_long_edit(&mut self, long: &LongEdit) -> io::Result<Result<(), String>> {
+        let file = long.file()?;
+        self.edit_coverage.count(&file, &long.answers(&file));
+        long.check(&file)
+    }
 }
 
 /// Whether a block holds what begins like a file.
@@ -210,11 +239,17 @@ fn without_panic<T>(work: impl FnOnce() -> T) -> Result<T, String> {
     catch_unwind(AssertUnwindSafe(work)).map_err(|_| "a panic".to_string())
 }
 
-/// Writes a failing file and tells of it.
-fn report(path: &Path, file: &[u8], reason: &str) -> io::Result<()> {
+/// Writes the parts of a failing one and tells of it.
+fn report(name: &str, parts: &[(&'static str, &[u8])], reason: &str) -> io::Result<()> {
     fs::create_dir_all(FAILING)?;
-    fs::write(path, file)?;
-    println!("{}: {reason:.LONGEST_REASON$}", path.display());
+    for (end, bytes) in parts {
+        fs::write(format!("{FAILING}/{name}{end}"), bytes)?;
+    }
+    let ends: Vec<&str> = parts.iter().map(|(end, _)| *end).collect();
+    println!(
+        "{FAILING}/{name}{}: {reason:.LONGEST_REASON$}",
+        ends.join(", ")
+    );
     Ok(())
 }
 

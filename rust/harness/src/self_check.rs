@@ -3,13 +3,9 @@
 use crate::answers::{of_whole, Answers, BUFFER_TOO_SHORT, NO_INDEX_POSSIBLE};
 use crate::same::same;
 use asdf_second::{
-    edit, listing, most_rows, outline, read, read_outline, records, rewrite_outline, row_count,
-    rows, write_index, Block, Layout, Record, Refusal, Row, Tree, Verdict, LONGEST_INDEX,
-    PROGRAM_LIMIT, ROW_LENGTH,
+    listing, most_rows, outline, read, read_outline, rewrite_outline, row_count, rows, write_index,
+    Block, Layout, Record, Refusal, Row, Verdict, LONGEST_INDEX, PROGRAM_LIMIT, ROW_LENGTH,
 };
-
-const EDIT_WITHOUT_TREE: u8 = 18;
-const TEXT_LONGER_THAN_ROOM: u8 = 20;
 
 /// What a lent buffer holds before it is written to.
 const UNTOUCHED: u8 = 0xA5;
@@ -18,19 +14,13 @@ const SPARE: usize = 3;
 /// The bytes of a written index without its numbers.
 const INDEX_FRAME: usize = 39;
 
-/// The smallest tree.
-const LEAST_TREE: &[u8] = b"%YAML 1.1\n---\n...\n";
-/// The bytes of it before its content.
-const LEAST_TREE_BEGIN: usize = 14;
-
 /// Says what does not fit together, if anything.
 pub fn check(file: &[u8], answers: &Answers) -> Result<(), String> {
     check_records(answers)?;
     check_rows(file, answers)?;
     check_outline(file, answers)?;
     check_index(file, answers)?;
-    check_listing(file, answers)?;
-    check_edits(file, answers)
+    check_listing(file, answers)
 }
 
 /// Layout and records refuse the same files and report the same blocks.
@@ -144,64 +134,10 @@ fn listing_text(layout: &Layout, records: &[Record]) -> String {
     format!("tree {tree}\n{rows}index {}\n", layout.index)
 }
 
-/// Edits with the tree's own text, with one that fills the room, and with one that is too long.
-fn check_edits(file: &[u8], answers: &Answers) -> Result<(), String> {
-    let Some(tree) = answers.tree() else {
-        let refusal = match answers.layout {
-            Err(refusal) => refusal,
-            Ok(_) => of_whole(EDIT_WITHOUT_TREE),
-        };
-        return check_refused_edit(file, &tree_of_length(LEAST_TREE.len()), refusal);
-    };
-    let (start, end) = (tree.start.0 as usize, tree.end.0 as usize);
-    let room = tree.room_end.0 as usize - start;
-    check_edit(file, answers, tree, &file[start..end])?;
-    check_edit(file, answers, tree, &tree_of_length(room))?;
-    let refusal = of_whole(TEXT_LONGER_THAN_ROOM);
-    check_refused_edit(file, &tree_of_length(room + 1), refusal)
-}
-
-/// A tree of this length, which is at least that of the smallest one.
-fn tree_of_length(length: usize) -> Vec<u8> {
-    let mut content = vec![b'x'; length - LEAST_TREE.len()];
-    if let Some(last) = content.last_mut() {
-        *last = b'\n';
-    }
-    let (begin, end) = LEAST_TREE.split_at(LEAST_TREE_BEGIN);
-    [begin, &content, end].concat()
-}
-
-/// A refused edit changes nothing.
-fn check_refused_edit(file: &[u8], text: &[u8], refusal: Refusal) -> Result<(), String> {
-    let mut edited = file.to_vec();
-    same("refused edit", edit(&mut edited, text), Err(refusal))?;
-    same("file after a refused edit", &edited[..], file)
-}
-
-/// An edit puts text and spaces into the room and changes nothing else that is reported.
-fn check_edit(file: &[u8], answers: &Answers, tree: Tree, text: &[u8]) -> Result<(), String> {
-    let (start, room_end) = (tree.start.0 as usize, tree.room_end.0 as usize);
-    let text_end = start + text.len();
-    let mut edited = file.to_vec();
-    same("edit", edit(&mut edited, text), Ok(()))?;
-    let spaces = vec![b' '; room_end - text_end];
-    let expected = [&file[..start], text, &spaces, &file[room_end..]].concat();
-    same("file after an edit", &edited, &expected)?;
-    let mut layout = answers.layout.clone();
-    if let Ok(Some(tree)) = layout.as_mut().map(|layout| layout.tree.as_mut()) {
-        tree.end.0 = text_end as u32;
-    }
-    same("layout after an edit", read(&edited), layout)?;
-    same(
-        "records after an edit",
-        records(&edited),
-        answers.records.clone(),
-    )
-}
-
 #[cfg(test)]
 mod tests {
     use super::*;
+    use crate::generate::LEAST_TREE;
 
     const A: &[u8] = b"#ASDF 1.0.0\n";
 
@@ -219,14 +155,5 @@ mod tests {
         assert!(check(A, &Answers::to(b"")).is_err());
         assert!(check(b"", &Answers::to(A)).is_err());
         assert!(check(&tree, &Answers::to(A)).is_err());
-    }
-
-    #[test]
-    fn trees_have_the_length_that_is_asked_for() {
-        for length in LEAST_TREE.len()..40 {
-            let file = [A, &tree_of_length(length)].concat();
-            let end = Answers::to(&file).tree().map(|tree| tree.end.0 as usize);
-            assert_eq!(end, Some(A.len() + length));
-        }
     }
 }

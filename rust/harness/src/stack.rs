@@ -1,11 +1,11 @@
 //! How much stack the proved functions take on the files that make them go deepest.
 
+use crate::afresh;
 use crate::exports;
-use crate::loan::result_in;
+use crate::loan::{result_in, Expected};
 use crate::nests::deepest;
 use crate::numbers::{NUMBER_BYTES, RECORD_NUMBERS};
 use crate::same::same;
-use asdf_second::ROW_LENGTH;
 use std::io;
 use std::thread;
 
@@ -13,9 +13,9 @@ use std::thread;
 #[derive(Debug, PartialEq)]
 struct Walked {
     count: u64,
-    outline: Vec<u8>,
-    records: Vec<u8>,
-    last: Vec<u8>,
+    outline: Expected,
+    records: Expected,
+    last: Expected,
 }
 
 /// Walks the deepest files in a thread with a stack of so many bytes, and compares what comes of
@@ -32,13 +32,12 @@ pub fn walk_with_stack(bytes: usize) -> io::Result<Result<(), String>> {
 /// What count, outline, records and record say of a file.
 fn walked(file: &[u8]) -> Walked {
     let count = exports::count(file);
-    let rows = count as usize;
-    let written = |bytes, ask: &dyn Fn(&mut [u8]) -> u64| result_in(bytes, ask).unwrap_or_default();
-    let record_bytes = RECORD_NUMBERS * NUMBER_BYTES;
+    let length = RECORD_NUMBERS * NUMBER_BYTES;
+    let last = result_in(length, |out| exports::record(file, count - 1, out));
     Walked {
         count,
-        outline: written(rows * ROW_LENGTH, &|out| exports::outline(file, out)),
-        records: written(rows * record_bytes, &|out| exports::records(file, out)),
-        last: written(record_bytes, &|out| exports::record(file, count - 1, out)),
+        outline: afresh::outline(file),
+        records: afresh::records(file),
+        last,
     }
 }

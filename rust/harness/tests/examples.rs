@@ -1,7 +1,8 @@
-//! The worked examples of outlines and indexes, as run: exact bytes.
+//! The worked examples of outlines, indexes and edits, as run: exact bytes.
 
 use asdf_harness::exports;
 use asdf_harness::nests::file_of;
+use asdf_harness::sparse::{block_header, HEADER_LINE};
 
 /// What every lent buffer holds before a call.
 const UNTOUCHED: u8 = 0xA5;
@@ -32,6 +33,16 @@ fn verdict(file: &[u8]) -> u8 {
     let mut layout = [0; 88];
     assert_eq!(exports::read(file, &mut layout), 88);
     layout[87]
+}
+
+/// A header line, this in the room of a tree, and an empty block.
+fn file_with(room: &[u8]) -> Vec<u8> {
+    [HEADER_LINE, room, &block_header(0, 0)].concat()
+}
+
+/// The file with a tree of 18 bytes, 10 spaces and an empty block: 94 bytes.
+fn one_tree() -> Vec<u8> {
+    file_with(b"%YAML 1.1\n---\n...\n          ")
 }
 
 #[test]
@@ -65,4 +76,33 @@ fn p10_outline_of_a_file_in_a_block() {
     ];
     assert_eq!(exports::count(&file), 2);
     assert_writes(|out| exports::outline(&file, out), &rows.concat());
+}
+
+#[test]
+fn p11_layout_of_one_tree_and_one_block() {
+    let file = one_tree();
+    assert_eq!(file.len(), 94);
+    let layout: [u64; 11] = [1, 0, 0, 12, 12, 1, 12, 30, 40, 1, 0];
+    let bytes = layout.map(u64::to_be_bytes).concat();
+    assert_writes(|out| exports::read(&file, out), &bytes);
+    let block: [u64; 10] = [0, 40, 48, 0, 0, 0, 0, 0, 0, 0];
+    let bytes = block.map(u64::to_be_bytes).concat();
+    assert_writes(|out| exports::block(&file, 0, out), &bytes);
+}
+
+#[test]
+fn p12_edit_that_leaves_no_spaces() {
+    let text = b"%YAML 1.1\n---\nxxxxxxxxx\n...\n";
+    assert_eq!(text.len(), 28);
+    let mut file = one_tree();
+    assert_eq!(exports::edit(&mut file, text), 0);
+    assert_eq!(file, file_with(text));
+}
+
+#[test]
+fn p13_edit_with_one_byte_too_many_is_refused_with_20() {
+    let text = b"%YAML 1.1\n---\nxxxxxxxxxx\n...\n";
+    let mut file = one_tree();
+    assert_eq!(exports::edit(&mut file, text), 20 << 56);
+    assert_eq!(file, one_tree());
 }

@@ -2,9 +2,9 @@
 
 use asdf_harness::stack::walk_with_stack;
 
-/// The least power of two with which the deepest files are walked; `asdf-harness --stack BYTES`
-/// tries others.
-const STACK_BYTES: usize = 1 << 20;
+/// 512 KiB, the least power of two with which the deepest files are walked; `asdf-harness --stack
+/// BYTES` tries others.
+const STACK_BYTES: usize = 1 << 19;
 
 #[test]
 fn deepest_files_are_walked_with_a_small_stack() {

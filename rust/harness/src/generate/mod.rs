@@ -8,6 +8,7 @@ mod cut;
 mod free_space;
 mod header;
 mod index;
+mod replacement;
 mod shape;
 mod tail;
 mod text;
@@ -15,6 +16,7 @@ mod tree;
 mod wrong_block;
 
 pub use cut::places_of;
+pub use replacement::{behind_first_line, replacement, LEAST_TREE};
 pub use shape::{Part, Shape};
 pub use text::{FILE_BEGIN, INDEX_LINE, MARK, YAML_LINE};
 

@@ -98,6 +98,18 @@ impl Shape {
         }
     }
 
+    /// The shape of an outermost file that is to be edited: mostly with a tree and nothing wrong.
+    pub fn edited(rng: &mut Rng) -> Shape {
+        Shape {
+            wrong: wrong_parts(rng, 8),
+            tree: !rng.chance(12),
+            blocks: block_count(rng, 100),
+            nesting: nesting(rng),
+            branches: rng.chance(4),
+            least_length: least_length(rng),
+        }
+    }
+
     /// The shape of a file in a block.
     pub fn inner(rng: &mut Rng, nesting: usize, branches: bool) -> Shape {
         let one_in = if nesting > 0 { 16 } else { 2 };

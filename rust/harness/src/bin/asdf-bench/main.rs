@@ -2,6 +2,7 @@
 
 #![deny(unsafe_code)]
 
+mod edit;
 mod measure;
 mod outline;
 mod read;
@@ -14,5 +15,8 @@ fn main() -> io::Result<()> {
     read::print_table()?;
     println!();
     println!("outlines; plain: the same for a tree in lines of 41 bytes, as long as the file");
-    outline::print_table()
+    outline::print_table()?;
+    println!();
+    println!("edits in place");
+    edit::print_table()
 }

@@ -9,8 +9,8 @@ use std::io;
 /// The bytes of an answer.
 const LAYOUT_BYTES: usize = 88;
 
-const MIB: usize = 1 << 20;
-const GIB: usize = 1 << 30;
+pub const MIB: usize = 1 << 20;
+pub const GIB: usize = 1 << 30;
 const BLOCKS: usize = 64;
 
 /// The lines around a tree's content.
@@ -73,17 +73,14 @@ fn tree_case(name: &'static str, line: &[u8]) -> io::Result<Case> {
 
 /// A file with this content of its tree, this free space, and an empty block.
 pub fn tree_file(content: &[u8], free_space: &[u8]) -> io::Result<SparseFile> {
-    let block = block_header(0, 0);
-    let parts = [
-        HEADER_LINE,
-        TREE_BEGIN,
-        content,
-        TREE_END,
-        free_space,
-        &block,
-    ];
-    let file = parts.concat();
+    let (tree, block) = (tree_text(content), block_header(0, 0));
+    let file = [HEADER_LINE, &tree, free_space, &block].concat();
     SparseFile::new(file.len(), &[(0, &file)])
+}
+
+/// A tree with this content.
+pub fn tree_text(content: &[u8]) -> Vec<u8> {
+    [TREE_BEGIN, content, TREE_END].concat()
 }
 
 /// Finds each line's end with memchr, and counts them.

@@ -1,0 +1,30 @@
+//! What the proved functions say of a file, in buffers that fit.
+
+use crate::exports;
+use crate::loan::{result_in, result_of, Expected};
+use crate::numbers::{numbers_of, LAYOUT_NUMBERS, NUMBER_BYTES, RECORD_NUMBERS};
+use asdf_second::{Refusal, ROW_LENGTH};
+
+/// The numbers of the layout.
+pub fn layout(file: &[u8]) -> Result<Vec<u64>, Refusal> {
+    let length = LAYOUT_NUMBERS * NUMBER_BYTES;
+    let bytes = result_in(length, |out| exports::read(file, out))?;
+    Ok(numbers_of(&bytes))
+}
+
+/// How many rows there are.
+pub fn count(file: &[u8]) -> Result<usize, Refusal> {
+    result_of(exports::count(file)).map(|count| count as usize)
+}
+
+/// The bytes of the outline.
+pub fn outline(file: &[u8]) -> Expected {
+    let length = count(file)? * ROW_LENGTH;
+    result_in(length, |out| exports::outline(file, out))
+}
+
+/// The bytes of all records.
+pub fn records(file: &[u8]) -> Expected {
+    let length = count(file)? * RECORD_NUMBERS * NUMBER_BYTES;
+    result_in(length, |out| exports::records(file, out))
+}
