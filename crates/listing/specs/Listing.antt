@@ -36,7 +36,7 @@ pub record BothPut (b t rows out rowsAfter outAfter : Bytes) (r : CountAnswer) :
   pub outline-put : rowsAfter ≡ putIf (bothFit b t rows out) rows b
   pub text-put : outAfter ≡ putIf (bothFit b t rows out) out t
 
--- the longest outline of 65,536 bytes: a block takes 54 of them or more, and its row 16
+-- no outline of 65,536 bytes is longer: a block takes 54 of them or more, and its row 16
 abbrev pub mostOutline : ℕ
 mostOutline = 19408
 
