@@ -11,7 +11,7 @@ use mir.Val.{Fits}
 use Rattle.format.specs.declared.block.Block.{Block}
 use Rattle.format.specs.declared.refusal.Refusal.{Refusal}
 use Rattle.format.specs.Bytes.{Bytes, begins}
-use Rattle.format.specs.Outcome.{Outcome, accepted, refused}
+use Rattle.format.specs.Outcome.{Outcome, accepted, refused, _>>=_}
 use Rattle.format.specs.Tree.{mark}
 use Rattle.format.specs.Block.{isStreamed, block}
 use Rattle.format.specs.Chain.{Chain, mostBlocks, extent, ended, linked, isTail, tail, chain}

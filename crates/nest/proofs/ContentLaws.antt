@@ -16,7 +16,7 @@ use Rattle.format.specs.declared.refusal.Refusal.{Refusal}
 use Rattle.format.specs.Answer.{layoutAnswer}
 use Rattle.format.specs.Bytes.{Bytes, begins}
 use Rattle.format.specs.Header.{token}
-use Rattle.format.specs.Outcome.{Outcome, accepted, refused}
+use Rattle.format.specs.Outcome.{Outcome, accepted, refused, _>>=_}
 use Rattle.format.specs.File.{mostBytes, File, file, layout, layoutOf, firstBlock}
 use Rattle.format.specs.Nest.{deepest, closed, opened, isFile, walkFile, recordsFrom, records}
 use Rattle.format.proofs.FileLaws.{blocksStart, file-parts}
