@@ -1,22 +1,21 @@
--- The blocks of an accepted file are read one after another, and there are no more records than bytes.
+-- The blocks of an accepted file are read one after another.
 use Prim.Native.Nat.{ℕ, zero, suc, _+_, _-_, _^_, _≤_, _<_}
 use native.Mathlib.Omega.{arith}
 use mathlib.Core.Path.{_≡_, refl, sym, ap, _∙_}
 use mathlib.Core.Bool.{Bool, true, false}
-use mathlib.Core.List.{List, [], _∷_, _++_}
-use lib.ListN.{length, take, drop, length-append, length-take, length-drop}
+use mathlib.Core.List.{List, [], _∷_}
+use lib.ListN.{length, take, drop, length-drop}
 use lib.Seq.{drop-drop}
 use mir.Syntax.{w64}
 use mir.Val.{Fits}
 use Rattle.format.specs.declared.block.Block.{Block}
-use Rattle.format.specs.declared.block.Record.{Record}
 use Rattle.format.specs.declared.refusal.Refusal.{Refusal}
-use Rattle.format.specs.Bytes.{Bytes, IsBytes, begins}
+use Rattle.format.specs.Bytes.{Bytes, begins}
 use Rattle.format.specs.Outcome.{Outcome, accepted, refused, _>>=_}
 use Rattle.format.specs.Tree.{mark}
 use Rattle.format.specs.Block.{isStreamed, block}
 use Rattle.format.specs.Chain.{Chain, mostBlocks, extent, ended, linked, isTail, tail, chain}
-use Rattle.format.specs.Nest.{contentAt, contentOf, isFile, Inside, inside, opened, walked, walk, walkFile, recordsFrom}
+use Rattle.format.specs.Nest.{inside}
 use Rattle.format.specs.File.{File, file}
 use Rattle.format.proofs.FileLaws.{blocksStart, file-parts, in-order}
 use Rattle.format.proofs.OutcomeLaws.{Accepts, accepted-holds, accepts-bind, accepts-need, choice}
@@ -95,59 +94,6 @@ pub blocks-refused : (left i n : ℕ) (s : Bytes) (r : Refusal) → block i n (d
 unfolding blocksFrom
 blocks-refused zero i n s r h = refl
 blocks-refused (suc left) i n s r h = rw (blocksFrom, h)
-
-module _ (reads : ℕ → Bytes → Inside) (inner : (m : ℕ) (t : Bytes) → length (reads m t .records) ≤ length t) where
-  -- no more records are inside a block than its content has bytes
-  inside-few : (start : ℕ) (s : Bytes) (b : Block) → length (inside reads start s b .records) ≤ b .used
-  unfolding inside
-  inside-few start s b =
-      choice (λ (i : Inside). length (i .records) ≤ b .used) (isFile b (contentOf b s)) _ _
-      (omega (arith, inner (start + contentAt b) (contentOf b s), length-take (b .used) (drop (contentAt b) s)))
-      (omega arith)
-
-  -- a block's records are no more than its bytes
-  walked-few : (depth start : ℕ) (s : Bytes) (i n : ℕ) (b : Block) (bs : List Block) → Begins s i n b
-      → n + extent b + length (walk reads depth start s bs) ≤ length s → n + length (walk reads depth start s (b ∷ bs)) ≤ length s
-  unfolding walk walked
-  walked-few depth start s i n b bs h k =
-      rw (length-append) (omega (arith, inside-few start s b, h .used))
-
-  -- no more records come from blocks than there are bytes
-  walk-few : (left i n depth start : ℕ) (s : Bytes) → n ≤ length s
-      → n + length (walk reads depth start s (blocksFrom left i n (drop n s))) ≤ length s
-  unfolding walk blocksFrom
-  walk-few zero i n depth start s h = omega arith
-  walk-few (suc left) i n depth start s h =
-      by-block (block i n (drop n s)) refl (λ b g. walk-few left (i + 1) (n + extent b) depth start s g)
-    where
-      by-block : (o : Outcome Block) → block i n (drop n s) ≡ o
-          → ((b : Block) → n + extent b ≤ length s
-          → n + extent b + length (walk reads depth start s (blocksFrom left (i + 1) (n + extent b) (drop (n + extent b) s))) ≤ length s)
-          → n + length (walk reads depth start s (blocksFrom (suc left) i n (drop n s))) ≤ length s
-      by-block (refused r) e rest = rw (blocks-refused (suc left) i n s r e) (omega arith)
-      by-block (accepted b) e rest =
-          let at = block-begins s i n b h e in
-          rw (blocks-next left i n s b e) (walked-few depth start s i n b (blocksFrom left (i + 1) (n + extent b) (drop (n + extent b) s)) at (rest b (at .inside)))
-
-  -- an accepted file has no more records than bytes
-  file-few : (depth start : ℕ) (s : Bytes) → Accepts (λ rs. length rs ≤ length s) (walkFile reads depth start s)
-  unfolding walkFile
-  file-few depth start s =
-      accepts-bind (λ rs. length rs ≤ length s) (file s) _ λ f e.
-      let own = own-blocks s f e in
-      rw (own .same) (omega (arith, walk-few (length (f .blocks)) 0 (blocksStart f) depth start s (own .inside)))
-
--- what is inside an opened block has no more records than bytes
-opened-few : (t : Bytes) (o : Outcome (List Record)) → Accepts (λ rs. length rs ≤ length t) o → length (opened o .records) ≤ length t
-unfolding opened
-opened-few t (accepted rs) h = h
-opened-few t (refused r) h = omega arith
-
--- an accepted file at any depth has no more records than bytes
-pub records-few : (levels depth start : ℕ) (s : Bytes) → Accepts (λ rs. length rs ≤ length s) (recordsFrom levels depth start s)
-unfolding recordsFrom
-records-few zero depth start s = file-few _ (λ n t. omega arith) depth start s
-records-few (suc levels) depth start s = file-few _ (λ n t. opened-few t _ (records-few levels (depth + 1) n t)) depth start s
 
 module _ (s : Bytes) (i n : ℕ) (h : n ≤ length s) (x : BlockStep) (read : blockOf x ≡ block i n (take (length s - n) (drop n s))) where
   -- no block is read

@@ -3,17 +3,13 @@ use Prim.Native.Nat.{ℕ, zero, suc, _+_, _-_, _≤_, _<_}
 use native.Mathlib.Omega.{arith}
 use mathlib.Core.Path.{_≡_, refl, sym, ap, _∙_}
 use mathlib.Core.Bool.{Bool, true, false, not}
-use mathlib.Core.List.{List}
 use lib.ListN.{length, drop}
-use lib.Dec.{eqb}
 use borrow.Author.Tests.{leb-true, eq-eqb, ne-eqb, not-true, not-false}
 use Rattle.format.specs.declared.answer.LayoutAnswer.{LayoutAnswer}
 use Rattle.format.specs.declared.answer.LayoutAnswer.the-variants as LayoutAnswer·is
 use Rattle.format.specs.declared.block.Block.{Block}
-use Rattle.format.specs.declared.block.Record.{Record}
-use Rattle.format.specs.declared.block.Inner.the-variants.{Plain, Opened, Refused, TooDeep}
+use Rattle.format.specs.declared.block.Inner.the-variants.{Plain, Refused, TooDeep}
 use Rattle.format.specs.declared.layout.Layout.{Layout}
-use Rattle.format.specs.declared.layout.Tree.{Tree}
 use Rattle.format.specs.declared.layout.Tree.the-variants.{NoTree, Found}
 use Rattle.format.specs.declared.offset.Offset.{Offset}
 use Rattle.format.specs.declared.refusal.Refusal.{Refusal}
@@ -21,13 +17,11 @@ use Rattle.format.specs.Answer.{layoutAnswer}
 use Rattle.format.specs.Bytes.{Bytes, begins}
 use Rattle.format.specs.Header.{token}
 use Rattle.format.specs.Outcome.{Outcome, accepted, refused, _>>=_}
-use Rattle.format.specs.Chain.{mostBlocks}
 use Rattle.format.specs.File.{mostBytes, File, file, layout, layoutOf, firstBlock}
-use Rattle.format.specs.Nest.{deepest, Inside, closed, opened, isFile, walk, walkFile, recordsFrom, records}
+use Rattle.format.specs.Nest.{deepest, closed, opened, isFile, walkFile, recordsFrom, records}
 use Rattle.format.proofs.FileLaws.{blocksStart, file-parts}
 use Rattle.format.proofs.OutcomeLaws.{accepted-holds, accepts-bind}
-use Rattle.nest.specs.declared.walk.ContentStep.the-variants.{Closed, Open}
-use Rattle.nest.specs.Walk.{blocksFrom, readsFor, reads, insideOf, recordsOf, allRecords, IsOpen, ContentIs}
+use Rattle.nest.specs.Walk.{readsFor, reads, insideOf, recordsOf, IsOpen}
 use Rattle.nest.proofs.BlocksLaws.{Own, own-blocks}
 
 -- where the first block begins

@@ -1,14 +1,14 @@
 -- What a whole walk leaves: a count, a record, entries in a buffer.
-use Prim.Native.Nat.{ℕ, zero, suc, _+_, _*_, _-_, _/_, _%_, _^_, _≤_, _<_}
+use Prim.Native.Nat.{ℕ, zero, suc, _+_, _*_, _-_, _/_, _^_, _≤_, _<_}
 use native.Mathlib.Omega.{arith}
 use native.Mathlib.Nat.{zero-add, sub-zero, mul-zero, add-mul, suc-mul, one-mul, zero-mul, mul-comm, div-lt-iff-lt-mul, le-div-iff-mul-le}
 use mathlib.Core.Path.{_≡_, refl, sym, ap, _∙_}
 use mathlib.Core.Bool.{Bool, true, false}
 use mathlib.Core.List.{List, [], _∷_, _++_, map, flatMap}
-use mathlib.Core.Option.{Option, none, some}
+use mathlib.Core.Option.{Option, none}
 use lib.ListN.{length, take, getD, getElem?, length-append}
 use lib.Dec.{eqb}
-use borrow.Author.Tests.{leb-true, eqb-true, eqb-false, eq-eqb, ne-eqb}
+use borrow.Author.Tests.{eqb-true, eqb-false, ne-eqb}
 use mir.Syntax.{w8, w64}
 use mir.Val.{Fits}
 use Rattle.format.specs.declared.answer.CountAnswer.{CountAnswer}
@@ -21,15 +21,16 @@ use Rattle.format.specs.declared.offset.OutermostOffset.{OutermostOffset}
 use Rattle.format.specs.declared.refusal.Refusal.{Refusal}
 use Rattle.format.specs.Answer.{countAnswer, layoutAnswer}
 use Rattle.format.specs.Bytes.{Bytes, wrapped}
-use Rattle.format.specs.Outcome.{Outcome, accepted, refused, refusal}
+use Rattle.format.specs.Outcome.{accepted, refused, refusal}
 use Rattle.format.specs.File.{mostBytes, layout, firstBlock}
-use Rattle.format.specs.Nest.{deepest, recordsFrom, records, recordCount, recordAt}
+use Rattle.format.specs.Nest.{deepest, records, recordCount, recordAt}
 use Rattle.format.specs.Fields.{recordFields, encodeRecord, recordTable, foundNumbers, foundBytes}
 use Rattle.format.specs.Lent.{placed}
 use Rattle.format.specs.Outline.{rowOf, encodeRow, outlineOf, rows, outline}
 use Rattle.format.proofs.OutcomeLaws.{accepted-holds}
 use Rattle.format.proofs.OutlineLaws.{read-back}
 use Rattle.format.proofs.RowLaws.{encoded-length}
+use Rattle.file.proofs.FewLaws.{Few, records-few}
 use Rattle.put.specs.Written.{Written}
 use Rattle.put.proofs.PutLaws.{placed-nothing, placed-none, placed-length, placed-append}
 use Rattle.put.proofs.WrittenLaws.{written-refused, written-short, written-placed, written-taken}
@@ -39,7 +40,6 @@ use Rattle.nest.specs.Sink.{encoded, width, entries, entry, numberBehind
 use Rattle.nest.specs.Promise.{OutlineWritten}
 use Rattle.nest.specs.Walk.{recordsOf, allRecords}
 use Rattle.nest.proofs.SinkLaws.{record-length}
-use Rattle.nest.proofs.BlocksLaws.{records-few}
 use Rattle.nest.proofs.ContentLaws.{OfFile, of-file, accepted-records, layout-refused}
 
 -- a refused file has no records
@@ -64,7 +64,7 @@ module _ (s : Bytes) (l : Layout) (read : layout s ≡ accepted l) where
   all-few : length (allRecords s) ≤ mostBytes
   unfolding records
   all-few =
-      omega (arith, of .short, accepted-holds (λ rs. length rs ≤ length s) (records s) (allRecords s) (records-few deepest 0 0 s) accepted-all)
+      omega (arith, of .short, accepted-holds (Few s) (records s) (allRecords s) (records-few deepest 0 0 s) accepted-all)
 
   -- the walk of a whole file may begin
   pub walk-room : (o : OutermostOffset) → o .0 ≡ 0 → o .0 + length s ≤ mostBytes

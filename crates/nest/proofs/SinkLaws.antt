@@ -1,12 +1,10 @@
 -- What is put for a record, what is found, and what several records leave.
-use Prim.Native.Nat.{ℕ, suc, _+_, _*_, _/_, _^_, _≤_, _<_}
+use Prim.Native.Nat.{ℕ, suc, _*_, _/_, _≤_}
 use native.Mathlib.Omega.{arith}
 use native.Mathlib.Nat.{mul-zero}
-use mathlib.Core.Path.{_≡_, refl, sym, ap, _∙_}
-use mathlib.Core.Bool.{true, false}
-use mathlib.Core.List.{List, [], _∷_, _++_, flatMap}
-use lib.ListN.{length, length-append}
-use lib.Dec.{eqb}
+use mathlib.Core.Path.{_≡_, refl, _∙_}
+use mathlib.Core.List.{List, [], _∷_, _++_}
+use lib.ListN.{length}
 use borrow.Author.Tests.{eq-eqb, ne-eqb}
 use Rattle.format.specs.declared.block.Record.{Record}
 use Rattle.format.specs.declared.row.Row.{Row}
@@ -18,10 +16,10 @@ use Rattle.format.specs.Lent.{placed}
 use Rattle.format.specs.Outline.{rowOf, encodeRow}
 use Rattle.format.proofs.RowLaws.{encoded-length}
 use Rattle.put.proofs.NumberLaws.{numbers-length}
-use Rattle.put.proofs.PutLaws.{placed-nothing, placed-none, placed-append, placed-length}
+use Rattle.put.proofs.PutLaws.{placed-nothing, placed-none}
 use Rattle.nest.specs.declared.sink.Form.{Form}
 use Rattle.nest.specs.declared.sink.Form.the-variants.{Count, Rows, Table, One}
-use Rattle.nest.specs.Sink.{encoded, width, entry, numberBehind, putAll, Delivered}
+use Rattle.nest.specs.Sink.{width, entry, numberBehind, putAll, Delivered}
 
 -- fifteen numbers for each record
 pub record-length : (r : Record) → length (encodeRecord r) ≡ 120

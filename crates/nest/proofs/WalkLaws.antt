@@ -1,22 +1,22 @@
 -- The walk: one law for each call and each way out.
-use Prim.Native.Nat.{ℕ, zero, suc, _+_, _*_, _-_, _%_, _^_, _≤_, _<_}
+use Prim.Native.Nat.{ℕ, zero, suc, _+_, _*_, _-_, _≤_, _<_}
 use native.Mathlib.Omega.{arith}
 use mathlib.Core.Path.{_≡_, refl, sym, ap, _∙_}
-use mathlib.Core.List.{List, [], _∷_, _++_}
+use mathlib.Core.List.{List, [], _∷_}
 use lib.ListN.{length, take, drop, length-take, length-drop}
 use mir.Syntax.{w8}
 use mir.Val.{Fits}
 use Rattle.format.specs.declared.block.Block.{Block}
 use Rattle.format.specs.declared.block.Record.{Record}
 use Rattle.format.specs.declared.block.Inner.{Inner}
-use Rattle.format.specs.declared.block.Inner.the-variants.{Plain, Opened, Refused, TooDeep}
+use Rattle.format.specs.declared.block.Inner.the-variants.{Opened}
 use Rattle.format.specs.declared.offset.OutermostOffset.{OutermostOffset}
 use Rattle.format.specs.Bytes.{Bytes, wrapped}
 use Rattle.format.specs.Outcome.{Outcome, accepted, refused}
 use Rattle.format.specs.Block.{block}
-use Rattle.format.specs.Chain.{extent, mostBlocks}
+use Rattle.format.specs.Chain.{mostBlocks}
 use Rattle.format.specs.File.{mostBytes}
-use Rattle.format.specs.Nest.{deepest, contentAt, contentOf, Inside, closed, inside, walked, walk}
+use Rattle.format.specs.Nest.{deepest, inside, walked, walk}
 use Rattle.put.proofs.PutLaws.{placed-length}
 use Rattle.nest.specs.declared.sink.Form.{Form}
 use Rattle.nest.specs.declared.walk.NextStep.{NextStep}
