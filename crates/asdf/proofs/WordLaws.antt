@@ -15,9 +15,8 @@ use Rattle.format.specs.Lent.{writes}
 use Rattle.format.specs.IndexWriter.{indexFor}
 use Rattle.format.specs.Edit.{edit}
 use Rattle.format.proofs.NumberedLaws.{Numbered, numbered-writes, numbered-index, numbered-edit, numbered-done}
-use Rattle.put.specs.Written.{Written}
-use Rattle.index.specs.Index.{IndexWritten}
-use Rattle.edit.specs.Done.{Done}
+use Rattle.format.specs.Written.{Written, IndexWritten}
+use Rattle.format.specs.Edited.{Done}
 use Rattle.asdf.specs.Export.{Exported, IndexExported, EditExported, leastRefusal, word, doneWord}
 
 -- a count, or a refusal

@@ -22,10 +22,11 @@ use Rattle.format.specs.Bytes.{Bytes}
 use Rattle.format.specs.Outcome.{Outcome, accepted, refused, refusal, _>>=_}
 use Rattle.format.specs.File.{File, file, layoutOf, layout}
 use Rattle.format.specs.Edit.{isOneTree, filled, editTree, edit, editLeaves}
+use Rattle.format.specs.Edited.{Done}
 use Rattle.format.proofs.OutcomeLaws.{accepted-holds, accepts-bind}
 use Rattle.format.proofs.EditTreeLaws.{FileRoom, file-room}
 use Rattle.format.proofs.EditLaws.{accepted-editable, editable-accepted, accepted-edited}
-use Rattle.edit.specs.Done.{Done, HasTree}
+use Rattle.edit.specs.Tree.{HasTree}
 
 -- a refusal is all that is promised where the edit is refused
 refused-done : (s t : Bytes) (x : Refusal) → edit s t ≡ refused x → Done s t s (EditAnswer·is.Refused x)

@@ -1,2 +1,2 @@
 -- What the contracts of the tree edit cite.
-pub mod Done
+pub mod Tree

@@ -4,14 +4,17 @@ use mathlib.Core.Path.{_≡_}
 use mathlib.Core.Bool.{true}
 use lib.ListN.{length, take, drop, replicate}
 use lib.Seq.{slice}
+use Rattle.format.specs.declared.answer.EditAnswer.{EditAnswer}
+use Rattle.format.specs.declared.answer.EditAnswer.the-variants as EditAnswer·is
 use Rattle.format.specs.declared.layout.Tree.{Tree}
 use Rattle.format.specs.declared.layout.Tree.the-variants.{Found}
 use Rattle.format.specs.Bytes.{Bytes}
-use Rattle.format.specs.Outcome.{accepted}
+use Rattle.format.specs.Outcome.{accepted, _>>_}
+use Rattle.format.specs.Answer.{editAnswer}
 use Rattle.format.specs.File.{File, file}
 use Rattle.format.specs.Nest as Nest
 use Rattle.format.specs.Outline as Outline
-use Rattle.format.specs.Edit.{isOneTree}
+use Rattle.format.specs.Edit.{isOneTree, edit, editLeaves}
 
 -- a tree from offset n to e, with its room up to m
 abbrev pub treeAt : ℕ → ℕ → ℕ → Tree
@@ -58,3 +61,15 @@ pub record Edited (s t u : Bytes) : Type 0 where
   -- of all blocks in walking order, those of opened inner files too; and the bytes of the outline
   pub records : Nest.records u ≡ Nest.records s
   pub outline : Outline.outline u ≡ Outline.outline s
+
+-- r is the answer of the edit of the file s to the text t, and after is what the file holds then
+pub record Done (s t after : Bytes) (r : EditAnswer) : Type 0 where
+  -- the answer is the defined one, with its number and place where it is a refusal
+  pub answer : editAnswer r ≡ _>>_ (edit s t) (accepted tt)
+  -- the bytes are the defined ones: where it is a refusal, those of s
+  pub bytes : after ≡ editLeaves s (edit s t)
+  -- it is accepted exactly if the file can be edited to the text
+  pub accepts : Editable s t → r ≡ EditAnswer·is.Edited
+  pub only : r ≡ EditAnswer·is.Edited → Editable s t
+  -- and where it is accepted, the tree is the text and all else is the same
+  pub edited : r ≡ EditAnswer·is.Edited → Edited s t after

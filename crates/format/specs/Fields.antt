@@ -1,4 +1,4 @@
--- What is reported of a block as numbers of eight bytes each: the fixed width in which records are put into a lent buffer.
+-- What is reported as lists of numbers, of eight bytes each where they are put into a lent buffer.
 use Prim.Native.Nat.{ℕ}
 use mathlib.Core.List.{List, [], _∷_, _++_, flatMap}
 use mathlib.Core.Option.{Option, none, some}
@@ -6,14 +6,45 @@ use Rattle.format.specs.declared.block.Block.{Block}
 use Rattle.format.specs.declared.block.Record.{Record}
 use Rattle.format.specs.declared.block.Inner.{Inner}
 use Rattle.format.specs.declared.block.Inner.the-variants.{Plain, Opened, Refused, TooDeep}
+use Rattle.format.specs.declared.layout.Layout.{Layout}
+use Rattle.format.specs.declared.layout.Tree.{Tree}
+use Rattle.format.specs.declared.layout.Tree.the-variants.{NoTree, Found}
+use Rattle.format.specs.declared.layout.Verdict.{Verdict}
+use Rattle.format.specs.declared.layout.Verdict.the-variants.{Absent, Good, IgnoredForm, IgnoredList}
 use Rattle.format.specs.declared.row.Row.{Row}
 use Rattle.format.specs.Bytes.{Bytes, toBytes, bit}
 use Rattle.format.specs.Outcome.{Outcome, accepted, _>>=_}
+use Rattle.format.specs.File.{layout}
 use Rattle.format.specs.Nest.{records}
+use Rattle.format.specs.Outline.{innerNumber}
 
 -- numbers of eight bytes each, the most significant byte first
 unfoldable pub numberBytes : List ℕ → Bytes
 numberBytes ns = flatMap (toBytes 8) ns
+
+-- the number of a verdict
+abbrev pub verdictNumber : Verdict → ℕ
+verdictNumber Absent = 0
+verdictNumber Good = 1
+verdictNumber IgnoredForm = 2
+verdictNumber IgnoredList = 3
+
+-- whether there is a tree, and its start, its end and the end of its room
+abbrev pub treeFields : Tree → List ℕ
+treeFields NoTree = 0 ∷ 0 ∷ 0 ∷ 0 ∷ []
+treeFields (Found n e m) = 1 ∷ n .0 ∷ e .0 ∷ m .0 ∷ []
+
+-- three version numbers, the header's end, the comments' end, the tree, the number of blocks, the verdict
+unfoldable pub layoutFields : Layout → List ℕ
+layoutFields l =
+    l .header .version .major ∷ l .header .version .minor ∷ l .header .version .patch ∷ l .header .end .0 ∷ l .«comments_end» .0
+    ∷ (treeFields (l .tree) ++ (l .blocks ∷ verdictNumber (l .verdict) ∷ []))
+
+-- the bytes of a file's layout
+unfoldable pub layoutBytes : Bytes → Outcome Bytes
+layoutBytes s = do
+  l ← layout s
+  accepted (numberBytes (layoutFields l))
 
 -- ordinal, place in its file, header size, flags, compression, the three sizes, the checksum's two halves
 abbrev pub blockFields : Block → List ℕ
@@ -22,16 +53,16 @@ blockFields b =
     ∷ b .«checksum_low»
     ∷ []
 
--- the inner state as in a row, and the number and place of a refusal
-abbrev pub innerFields : Inner → List ℕ
-innerFields Plain = 0 ∷ 0 ∷ 0 ∷ []
-innerFields Opened = 1 ∷ 0 ∷ 0 ∷ []
-innerFields (Refused r) = 2 ∷ r .number ∷ r .place .0 ∷ []
-innerFields TooDeep = 3 ∷ 0 ∷ 0 ∷ []
+-- the number and place of an inner file's refusal, and zeros where there is none
+abbrev pub refusalFields : Inner → List ℕ
+refusalFields Plain = 0 ∷ 0 ∷ []
+refusalFields Opened = 0 ∷ 0 ∷ []
+refusalFields (Refused r) = r .number ∷ r .place .0 ∷ []
+refusalFields TooDeep = 0 ∷ 0 ∷ []
 
--- depth, offset in the outermost file, the inner state, the block
+-- depth, offset in the outermost file, the inner state with its refusal, the block
 unfoldable pub recordFields : Record → List ℕ
-recordFields r = r .depth ∷ r .at .0 ∷ (innerFields (r .inner) ++ blockFields (r .block))
+recordFields r = r .depth ∷ r .at .0 ∷ innerNumber (r .inner) ∷ (refusalFields (r .inner) ++ blockFields (r .block))
 
 -- of a row, in the order in which the program prints it: depth, ordinal, offset, header size, allocated, used, streamed, compressed,
 -- checksum, inner state

@@ -1,9 +1,9 @@
 -- One file by itself, front to back.
-use Prim.Native.Nat.{ℕ}
+use Prim.Native.Nat.{ℕ, _-_}
 use mathlib.Core.Bool.{Bool, true, false, _||_, not}
-use mathlib.Core.List.{List, [], _∷_, map}
+use mathlib.Core.List.{List, [], _∷_, _++_, map}
 use mathlib.Core.Option.{Option, none, some}
-use lib.ListN.{length, drop, getElem?}
+use lib.ListN.{length, drop, replicate, getElem?}
 use lib.Dec.{leb}
 use Rattle.format.specs.declared.layout.Header.{Header}
 use Rattle.format.specs.declared.layout.Tree.{Tree}
@@ -12,7 +12,7 @@ use Rattle.format.specs.declared.layout.Verdict.{Verdict}
 use Rattle.format.specs.declared.layout.Layout.{Layout}
 use Rattle.format.specs.declared.block.Block.{Block}
 use Rattle.format.specs.Bytes.{Bytes, begins}
-use Rattle.format.specs.Outcome.{Outcome, accepted, need, _>>=_, _>>_}
+use Rattle.format.specs.Outcome.{Outcome, accepted, refused, need, _>>=_, _>>_}
 use Rattle.format.specs.Line.{lines}
 use Rattle.format.specs.Header.{header}
 use Rattle.format.specs.Comments.{comments}
@@ -55,6 +55,11 @@ file s = do
   need (goesOn t (drop n s)) 7 n
   c ← chain mostBlocks 0 (firstBlock n t) (drop (firstBlock n t) s)
   accepted (record { header = h; commentsEnd = n; tree = t; blocks = c .blocks; verdict = verdict (offsets (c .blocks)) (c .tail) })
+
+-- where its blocks begin, in a table for as many as there can be: zeros fill it up, and are all there is of a refused file
+unfoldable pub offsetTable : Outcome File → List ℕ
+offsetTable (accepted f) = offsets (f .blocks) ++ replicate (mostBlocks - length (f .blocks)) 0
+offsetTable (refused r) = replicate mostBlocks 0
 
 -- what is answered of it
 unfoldable pub layoutOf : File → Layout

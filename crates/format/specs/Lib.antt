@@ -12,12 +12,15 @@ pub mod Index
 pub mod File
 pub mod IndexWriter
 pub mod Nest
-pub mod Fields
 pub mod Outline
+pub mod Fields
 pub mod Lent
 pub mod Edit
-pub mod Edited
 pub mod Listing
 pub mod Answer
+pub mod Written
+pub mod Edited
+pub mod Listed
+pub mod Export
 pub mod Examples
 pub mod Misreadings

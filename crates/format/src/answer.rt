@@ -9,6 +9,13 @@ pub enum LayoutAnswer {
     Refused(Refusal),
 }
 
+// The layout, and where the blocks begin, in their order. The offsets after those of the blocks are 0, and so are all of a
+// refused file.
+pub struct OffsetsAnswer {
+    pub layout: LayoutAnswer,
+    pub offsets: [u64; 64],
+}
+
 pub enum BlockAnswer {
     Found(Block),
     NoSuchBlock,

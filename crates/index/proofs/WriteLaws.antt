@@ -31,9 +31,8 @@ use Rattle.file.specs.Layout.{Judged, Kept}
 use Rattle.file.specs.Step.{blockOf}
 use Rattle.file.proofs.KeptLaws.{kept-room, kept-inside, kept-found, kept-refused}
 use Rattle.file.proofs.LayoutLaws.{file-refused}
-use Rattle.put.specs.Written.{Written}
+use Rattle.format.specs.Written.{Written, IndexWritten}
 use Rattle.put.proofs.WrittenLaws.{written-refused, written-short, written-placed, Taken, written-taken}
-use Rattle.index.specs.Index.{IndexWritten}
 
 -- whether there may be an index is told by the last block
 last-decides : (bs : List Block) (j : ℕ) (b : Block) → length bs ≡ suc j → getElem? bs j ≡ some b → mayHaveIndex bs ≡ not (isStreamed (b .flags))

@@ -26,13 +26,13 @@ use Rattle.format.specs.Listing.{mostInput, sentence, treeText, rowText, listed
 use Rattle.format.proofs.ByteLaws.{and-right}
 use Rattle.format.proofs.OutcomeLaws.{Accepts, accepted-holds, accepts-bind}
 use Rattle.format.proofs.OutlineLaws.{refused-no-rows, accepted-rows, read-back}
-use Rattle.put.specs.Written.{Written}
+use Rattle.format.specs.Written.{Written, OutlineWritten}
 use Rattle.put.proofs.PutLaws.{placed-none, placed-nothing}
 use Rattle.put.proofs.WrittenLaws.{written-short, written-placed, Taken, written-taken}
 use Rattle.outline.specs.Row.{rowsIn}
-use Rattle.nest.specs.Promise.{OutlineWritten}
 use Rattle.outline.proofs.StoredLaws.{Read, read-stored}
-use Rattle.listing.specs.Listing.{outlineBytes, outlineFor, bothFit, putIf, BothPut, mostOutline, lentBytes, Listed, BothShort, Short}
+use Rattle.format.specs.Listed.{outlineBytes, outlineFor, bothFit, putIf, BothPut, lentBytes, Listed}
+use Rattle.listing.specs.Listing.{mostOutline, BothShort, Short}
 use Rattle.listing.specs.Text.{fileText, verdictText, PutAt}
 use Rattle.file.proofs.FewLaws.{rows-few}
 

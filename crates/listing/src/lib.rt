@@ -8,7 +8,8 @@ ghost use Rattle.format.specs.declared.answer.CountAnswer.the-variants.{Counted
 ghost use Rattle.format.specs.File.{layout as File·layout};
 ghost use Rattle.format.specs.Listing.{mostInput, printed};
 ghost use Rattle.format.specs.Outcome.{accepted, refused as Outcome·refused, refusal};
-ghost use Rattle.listing.specs.Listing.{mostOutline, BothShort, Listed, Short, Stands};
+ghost use Rattle.format.specs.Listed.{Listed};
+ghost use Rattle.listing.specs.Listing.{mostOutline, BothShort, Short, Stands};
 ghost use Rattle.listing.specs.Text.{fileText};
 use format::answer::CountAnswer;
 use format::answer::LayoutAnswer;

@@ -31,13 +31,12 @@ use Rattle.format.proofs.OutcomeLaws.{accepted-holds}
 use Rattle.format.proofs.OutlineLaws.{read-back}
 use Rattle.format.proofs.RowLaws.{encoded-length}
 use Rattle.file.proofs.FewLaws.{Few, records-few}
-use Rattle.put.specs.Written.{Written}
+use Rattle.format.specs.Written.{Written, OutlineWritten}
 use Rattle.put.proofs.PutLaws.{placed-nothing, placed-none, placed-length, placed-append}
 use Rattle.put.proofs.WrittenLaws.{written-refused, written-short, written-placed, written-taken}
 use Rattle.nest.specs.declared.sink.Form.{Form}
 use Rattle.nest.specs.declared.sink.Form.the-variants.{Count, Rows, Table, One}
 use Rattle.nest.specs.Sink.{encoded, width, entries, entry, numberBehind, putAll, Delivered}
-use Rattle.nest.specs.Promise.{OutlineWritten}
 use Rattle.nest.specs.Walk.{recordsOf, allRecords}
 use Rattle.nest.proofs.SinkLaws.{record-length}
 use Rattle.nest.proofs.ContentLaws.{OfFile, of-file, accepted-records, layout-refused}

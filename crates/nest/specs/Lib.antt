@@ -1,4 +1,3 @@
 -- What the contracts of the walk cite.
 pub mod Sink
 pub mod Walk
-pub mod Promise

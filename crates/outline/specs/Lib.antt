@@ -1,3 +1,2 @@
 -- What the contracts of rows and stored outlines cite.
 pub mod Row
-pub mod Rewrite

@@ -5,16 +5,16 @@ ghost use lib.ListN.{length, take, drop};
 ghost use Rattle.format.specs.Answer.{rowAnswer};
 ghost use Rattle.format.specs.Lent.{placed};
 ghost use Rattle.format.specs.Outcome.{accepted};
-ghost use Rattle.format.specs.Outline.{encodeRow, decodeRow, innerNumber, rowOf};
+ghost use Rattle.format.specs.Outline.{encodeRow, decodeRow, rowOf};
 ghost use Rattle.outline.specs.Row.{hasChecksum, stateOf, frontOf, Field, rowAt};
 use format::answer::RowAnswer;
 use format::block::Block;
-use format::block::Inner;
 use format::block::Record;
 use format::offset::Offset;
 use format::offset::OutermostOffset;
 use format::row::Row;
 use put::fields::bit;
+use put::fields::inner_number;
 use scan::number;
 
 // The row of a block.
@@ -46,18 +46,6 @@ fn has_checksum(b: Block) -> bool
         return true;
     }
     b.checksum_low != 0
-}
-
-// The number of an inner state in a row.
-fn inner_number(inner: Inner) -> u8
-    ensures { λ n. ⌜ n ≡ innerNumber inner ⌝ }
-{
-    match inner {
-        Inner::Plain => 0,
-        Inner::Opened => 1,
-        Inner::Refused(_) => 2,
-        Inner::TooDeep => 3,
-    }
 }
 
 // Puts a row at an offset. Where it does not fit, nothing changes.

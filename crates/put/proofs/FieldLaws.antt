@@ -9,25 +9,25 @@ use Rattle.format.specs.declared.block.Inner.the-variants.{Plain, Opened, Refus
 use Rattle.format.specs.declared.refusal.Refusal.{Refusal}
 use Rattle.format.specs.declared.row.Row.{Row}
 use Rattle.format.specs.Bytes.{bit}
-use Rattle.format.specs.Fields.{blockFields, innerFields, recordFields, rowFields}
+use Rattle.format.specs.Fields.{blockFields, recordFields, refusalFields, rowFields}
+use Rattle.format.specs.Outline.{innerNumber}
 
 -- a refused inner state's numbers
-pub inner-refused : (i : Inner) (r : Refusal) → i ≡ Refused r → 2 ∷ r .number ∷ r .place .0 ∷ [] ≡ innerFields i
-inner-refused i r h = rw h
+pub fields-refused : (i : Inner) (r : Refusal) → i ≡ Refused r → r .number ∷ r .place .0 ∷ [] ≡ refusalFields i
+fields-refused i r h = rw h
 
--- three numbers in front of others
-three-fields : (i : Inner) (others : List ℕ)
-    → getD (innerFields i) 0 0 ∷ getD (innerFields i) 1 0 ∷ getD (innerFields i) 2 0 ∷ others ≡ innerFields i ++ others
-three-fields Plain others = refl
-three-fields Opened others = refl
-three-fields (Refused r) others = refl
-three-fields TooDeep others = refl
+-- two numbers in front of others
+two-fields : (i : Inner) (others : List ℕ) → getD (refusalFields i) 0 0 ∷ getD (refusalFields i) 1 0 ∷ others ≡ refusalFields i ++ others
+two-fields Plain others = refl
+two-fields Opened others = refl
+two-fields (Refused r) others = refl
+two-fields TooDeep others = refl
 
--- the inner state's three numbers stand among a record's
-pub record-three : (r : Record) (three : List ℕ) → three ≡ innerFields (r .inner) → (at : ℕ) → at ≡ r .at .0
-    → r .depth ∷ at ∷ getD three 0 0 ∷ getD three 1 0 ∷ getD three 2 0 ∷ blockFields (r .block) ≡ recordFields r
+-- the inner state's number and the two of its refusal stand among a record's
+pub record-numbers : (r : Record) (two : List ℕ) → two ≡ refusalFields (r .inner) → (at inner : ℕ) → at ≡ r .at .0 → inner ≡ innerNumber (r .inner)
+    → r .depth ∷ at ∷ inner ∷ getD two 0 0 ∷ getD two 1 0 ∷ blockFields (r .block) ≡ recordFields r
 unfolding recordFields
-record-three r three f at e = rw (f, e, three-fields (r .inner) (blockFields (r .block)))
+record-numbers r two f at inner e g = rw (f, e, g, two-fields (r .inner) (blockFields (r .block)))
 
 -- a row's offset and flags stand among its numbers
 pub row-numbers : (r : Row) (at streamed compressed checksum : ℕ) → at ≡ r .at .0 → streamed ≡ bit (r .streamed)

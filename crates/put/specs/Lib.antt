@@ -1,3 +1,2 @@
 -- What the contracts of writers cite.
 pub mod Decimal
-pub mod Written

@@ -2,7 +2,8 @@
 ghost use Prim.Native.Nat.{_<_};
 ghost use mathlib.Core.Path.{_≡_};
 ghost use Rattle.format.specs.Bytes.{bit as Bytes·bit};
-ghost use Rattle.format.specs.Fields.{blockFields, innerFields, recordFields, rowFields};
+ghost use Rattle.format.specs.Fields.{blockFields, recordFields, refusalFields, rowFields};
+ghost use Rattle.format.specs.Outline.{innerNumber};
 use format::block::Block;
 use format::block::Inner;
 use format::block::Record;
@@ -26,31 +27,43 @@ pub fn block_fields(b: Block) -> [u64; 10]
     ]
 }
 
-// The inner state, and the number and place of a refusal.
-fn inner_fields(inner: Inner) -> [u64; 3]
-    ensures { λ r. ⌜ r ≡ innerFields inner ⌝ }
+// The number of an inner state.
+pub fn inner_number(inner: Inner) -> u8
+    ensures { λ n. ⌜ n ≡ innerNumber inner ⌝ }
 {
     match inner {
-        Inner::Plain => [0, 0, 0],
-        Inner::Opened => [1, 0, 0],
-        Inner::Refused(r) => [2, r.number as u64, r.place.0],
-        Inner::TooDeep => [3, 0, 0],
+        Inner::Plain => 0,
+        Inner::Opened => 1,
+        Inner::Refused(_) => 2,
+        Inner::TooDeep => 3,
     }
 }
 
-// A record: its depth, its offset in the outermost file, the inner state, the block.
+// The number and place of an inner file's refusal, or zeros.
+fn refusal_fields(inner: Inner) -> [u64; 2]
+    ensures { λ r. ⌜ r ≡ refusalFields inner ⌝ }
+{
+    match inner {
+        Inner::Plain => [0, 0],
+        Inner::Opened => [0, 0],
+        Inner::Refused(r) => [r.number as u64, r.place.0],
+        Inner::TooDeep => [0, 0],
+    }
+}
+
+// A record: its depth, its offset in the outermost file, the inner state with its refusal, the block.
 pub fn record_fields(r: Record) -> [u64; 15]
     ensures { λ x. ⌜ x ≡ recordFields r ⌝ }
 {
     let b = r.block;
     let inner = r.inner;
-    let state = inner_fields(inner);
+    let refusal = refusal_fields(inner);
     [
         r.depth as u64,
         r.at.number(),
-        state[0],
-        state[1],
-        state[2],
+        inner_number(inner) as u64,
+        refusal[0],
+        refusal[1],
         b.ordinal as u64,
         b.at.0,
         b.header_size as u64,

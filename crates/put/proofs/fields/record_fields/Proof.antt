@@ -1,6 +1,6 @@
--- The inner state's numbers stand among the record's.
+-- The inner state's number and its refusal's stand among the record's.
 use borrow.Author.Needs.{needs}
-use Rattle.put.proofs.FieldLaws.{record-three}
+use Rattle.put.proofs.FieldLaws.{record-numbers}
 use Rattle.put.proofs.fields.record_fields.Statement.{statement}
 use Rattle.put.proofs.fields.record_fields.Tie as tie
 
@@ -11,6 +11,7 @@ record-fields-spec =
     (λ c κs. search needs)
     (λ c. search needs)
     (λ c κs. search needs)
+    (λ c κs. search needs)
     (λ c. search needs)
     (λ c. search needs)
     (λ c. search needs)
@@ -18,4 +19,4 @@ record-fields-spec =
     (λ c. search needs)
     (λ c. search needs)
     (λ c. search needs)
-    (λ c. search (record-three, needs)))
+    (λ c. search (record-numbers, needs)))

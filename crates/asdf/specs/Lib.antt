@@ -1,2 +1,0 @@
--- What the contracts of the exported functions cite.
-pub mod Export

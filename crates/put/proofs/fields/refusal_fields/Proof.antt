@@ -1,0 +1,19 @@
+-- Only a refused state has numbers to give.
+use borrow.Author.Needs.{needs}
+use Rattle.put.proofs.FieldLaws.{fields-refused}
+use Rattle.put.proofs.fields.refusal_fields.Statement.{statement}
+use Rattle.put.proofs.fields.refusal_fields.Tie as tie
+
+pub refusal-fields-spec : {M : Type 1} → statement M
+refusal-fields-spec =
+    tie.close
+    (tie.spec
+    (λ c. search needs)
+    (λ c. search needs)
+    (λ c. search needs)
+    (λ c. search needs)
+    (λ c. search needs)
+    (λ c. search needs)
+    (λ c. search needs)
+    (λ c. search (fields-refused, needs))
+    (λ c. search needs))
