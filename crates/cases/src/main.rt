@@ -1,4 +1,6 @@
 // Prints the listing of each file that an argument names, with the name before it.
+ghost use mathlib.Core.Path.{_≡_};
+ghost use Rattle.format.specs.Listing.{listing};
 use libc::STDOUT_FILENO;
 
 fn main() {
@@ -31,9 +33,17 @@ fn print_file(fd: i32) {
     print_listing(&input[..n]);
 }
 
+// Prints the listing of a file's bytes.
 fn print_listing(s: &[u8]) {
     let mut rows = io::large_buffer();
     let mut out = io::large_buffer();
     let n = listing::list_lent(s, &mut rows, &mut out);
-    io::write_all(STDOUT_FILENO, &out[..n]);
+    write_listing(s, &out[..n]);
+}
+
+// Writes a text to standard output, which is the listing of s. Beside the names nothing else is written.
+fn write_listing(s: &[u8], text: &[u8])
+    requires { ⌜ now text ≡ listing (now s) ⌝ }
+{
+    io::write_all(STDOUT_FILENO, text);
 }

@@ -1,8 +1,8 @@
--- The customer's worked examples as one table, P1 to P13 and the listing of B, and the statement that all of
--- them hold, which proofs/Examples.antt proves.
+-- The customer's worked examples as one table, P1 to P13, some of them as numbers too, and the listing of B, and the statement that all
+-- of them hold, which proofs/Examples.antt proves.
 use Prim.Native.Nat.{ℕ}
 use mathlib.Core.Path.{_≡_}
-use mathlib.Core.List.{List, [], _∷_, _++_, map}
+use mathlib.Core.List.{List, [], _∷_, _++_, map, flatMap}
 use lib.ListN.{take, replicate}
 use Rattle.format.specs.declared.block.Inner.{Inner}
 use Rattle.format.specs.declared.block.Record.{Record}
@@ -18,6 +18,7 @@ use Rattle.format.specs.File.{layout}
 use Rattle.format.specs.IndexWriter.{indexFor}
 use Rattle.format.specs.Nest.{records}
 use Rattle.format.specs.Outline.{outline}
+use Rattle.format.specs.Fields.{numberBytes, layoutBytes, recordTable}
 use Rattle.format.specs.Edit.{edit}
 use Rattle.format.specs.Edited.{treeAt}
 use Rattle.format.specs.Listing.{listing}
@@ -30,6 +31,8 @@ pub data Example : Type 0 where
   Edits : Bytes → Bytes → Outcome Bytes → Example
   Lists : Bytes → Bytes → Example
   States : Bytes → Outcome (List Inner) → Example
+  Numbers : Bytes → List ℕ → Example
+  Records : Bytes → List (List ℕ) → Example
 
 -- the inner states of all blocks, in walking order
 abbrev pub innerStates : Bytes → Outcome (List Inner)
@@ -44,6 +47,8 @@ Holds (Indexes s answer) = indexFor s ≡ answer
 Holds (Edits s t answer) = edit s t ≡ answer
 Holds (Lists s answer) = listing s ≡ answer
 Holds (States s answer) = innerStates s ≡ answer
+Holds (Numbers s numbers) = layoutBytes s ≡ accepted (numberBytes numbers)
+Holds (Records s numbers) = recordTable s ≡ accepted (flatMap numberBytes numbers)
 
 abbrev pub AllHold : List Example → Type 0
 AllHold [] = Unit {0}
@@ -101,6 +106,10 @@ table =
     ∷ Reads (fileB ++ indexWith (text "12")) (layoutWith NoTree 1 Good)
     ∷ Reads (fileB ++ indexWith (text "012")) (layoutWith NoTree 1 IgnoredForm)
     ∷ Reads (fileB ++ indexWith (text "13")) (layoutWith NoTree 1 IgnoredList)
+    -- the same three as numbers: version, ends of header and comments, tree, number of blocks, verdict
+    ∷ Numbers (fileB ++ indexWith (text "12")) (1 ∷ 0 ∷ 0 ∷ 12 ∷ 12 ∷ 0 ∷ 0 ∷ 0 ∷ 0 ∷ 1 ∷ 1 ∷ [])
+    ∷ Numbers (fileB ++ indexWith (text "012")) (1 ∷ 0 ∷ 0 ∷ 12 ∷ 12 ∷ 0 ∷ 0 ∷ 0 ∷ 0 ∷ 1 ∷ 2 ∷ [])
+    ∷ Numbers (fileB ++ indexWith (text "13")) (1 ∷ 0 ∷ 0 ∷ 12 ∷ 12 ∷ 0 ∷ 0 ∷ 0 ∷ 0 ∷ 1 ∷ 3 ∷ [])
     -- P8, P9
     ∷ Reads (fileA ++ blockHeader 47 0 0 0) (refused (refusal 12 12))
     ∷ Reads (take 65 fileB) (refused (refusal 11 12))
@@ -109,8 +118,13 @@ table =
     (accepted
     (0x01 ∷ 0x00 ∷ 0x00 ∷ 0x30 ∷ 0x00 ∷ 0x00 ∷ 0x00 ∷ 0x0C ∷ 0x00 ∷ 0x00 ∷ 0x00 ∷ 0x42 ∷ 0x00 ∷ 0x00 ∷ 0x00 ∷ 0x42
     ∷ 0x20 ∷ 0x00 ∷ 0x00 ∷ 0x30 ∷ 0x00 ∷ 0x00 ∷ 0x00 ∷ 0x4E ∷ replicate 8 0x00))
+    -- and as records: depth, offset, inner state, the refusal's number and place; ordinal, offset in its file, header size, flags,
+    -- compression, three sizes, the checksum's halves
+    ∷ Records fileBInside
+    ((0 ∷ 12 ∷ 1 ∷ 0 ∷ 0 ∷ 0 ∷ 12 ∷ 48 ∷ 0 ∷ 0 ∷ 66 ∷ 66 ∷ 66 ∷ 0 ∷ 0 ∷ []) ∷ (1 ∷ 78 ∷ 0 ∷ 0 ∷ 0 ∷ 0 ∷ 12 ∷ 48 ∷ 0 ∷ 0 ∷ 0 ∷ 0 ∷ 0 ∷ 0 ∷ 0 ∷ []) ∷ [])
     -- P11
     ∷ Reads fileT (layoutWith (treeAt 12 30 40) 1 Absent)
+    ∷ Numbers fileT (1 ∷ 0 ∷ 0 ∷ 12 ∷ 12 ∷ 1 ∷ 12 ∷ 30 ∷ 40 ∷ 1 ∷ 0 ∷ [])
     ∷ Outlines fileT (accepted (0x00 ∷ 0x00 ∷ 0x00 ∷ 0x30 ∷ 0x00 ∷ 0x00 ∷ 0x00 ∷ 0x28 ∷ replicate 8 0x00))
     -- P12, P13
     ∷ Edits fileT (text "%YAML 1.1\n---\nxxxxxxxxx\n...\n") (accepted (fileA ++ text "%YAML 1.1\n---\nxxxxxxxxx\n...\n" ++ emptyBlock))

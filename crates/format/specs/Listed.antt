@@ -3,9 +3,10 @@ use Prim.Native.Nat.{ℕ, _≤_}
 use mathlib.Core.Path.{_≡_}
 use mathlib.Core.Bool.{Bool, true, false, _&&_}
 use mathlib.Core.List.{[]}
-use lib.ListN.{length}
+use lib.ListN.{length, take}
 use lib.Dec.{leb}
 use Rattle.format.specs.declared.answer.CountAnswer.{CountAnswer}
+use Rattle.format.specs.declared.answer.CountAnswer.the-variants.{Counted}
 use Rattle.format.specs.Bytes.{Bytes}
 use Rattle.format.specs.Outcome.{Outcome, accepted, refused, need, _>>_}
 use Rattle.format.specs.Answer.{countAnswer}
@@ -44,3 +45,10 @@ lentBytes = 65536
 pub record Listed (s rows out rowsAfter outAfter : Bytes) (r : CountAnswer) : Type 0 where
   pub put : BothPut (outlineFor s) (listing s) rows out rowsAfter outAfter r
   pub enough : lentBytes ≤ length rows → lentBytes ≤ length out → countAnswer r ≡ accepted (length (listing s))
+
+-- the same with buffers that are as long as the program's: the first n bytes of the second are the listing then
+pub record ListedLent (s rows out rowsAfter outAfter : Bytes) (n : ℕ) : Type 0 where
+  pub listed : Listed s rows out rowsAfter outAfter (Counted n)
+  pub inside : n ≤ length outAfter
+  pub size : n ≡ length (take n outAfter)
+  pub text : take n outAfter ≡ listing s

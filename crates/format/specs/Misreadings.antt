@@ -9,7 +9,7 @@ use Rattle.format.specs.Bytes.{Bytes, text}
 use Rattle.format.specs.Outcome.{accepted, refused, refusal}
 use Rattle.format.specs.Tree.{mark}
 use Rattle.format.specs.Edited.{treeAt}
-use Rattle.format.specs.Examples.{Example, Reads, States, fileA, fileB, blockHeader, emptyBlock, indexWith, layoutWith}
+use Rattle.format.specs.Examples.{Example, Reads, Lists, States, Records, fileA, fileB, blockHeader, emptyBlock, indexWith, layoutWith}
 
 -- n copies, one behind another
 abbrev pub copies : ℕ → Bytes → Bytes
@@ -38,9 +38,23 @@ misreadings =
     ∷ Reads (fileA ++ blockHeader 48 1 2 2 ++ text "xy") (refused (refusal 13 12))
     -- a refused inner file does not refuse the outer one, and its place counts from its own first byte
     ∷ States (fileA ++ blockOf (text "#ASDF ") ++ emptyBlock) (accepted (Refused (refusal 3 6) ∷ Plain ∷ []))
+    -- and stands in its block's record, behind the inner state 2
+    ∷ Records (fileA ++ blockOf (text "#ASDF ")) ((0 ∷ 12 ∷ 2 ∷ 3 ∷ 6 ∷ 0 ∷ 12 ∷ 48 ∷ 0 ∷ 0 ∷ 6 ∷ 6 ∷ 6 ∷ 0 ∷ 0 ∷ []) ∷ [])
     -- eight files deep, and nine
     ∷ States (nested 7) (accepted (replicate 7 Opened ++ (Plain ∷ [])))
     ∷ States (nested 8) (accepted (replicate 7 Opened ++ (TooDeep ∷ [])))
+    -- the listing of the latter: too deep is 3
+    ∷ Lists (nested 8)
+    (text "tree none\n"
+    ++ text "0 0 12 48 528 528 0 0 0 1\n"
+    ++ text "1 0 78 48 462 462 0 0 0 1\n"
+    ++ text "2 0 144 48 396 396 0 0 0 1\n"
+    ++ text "3 0 210 48 330 330 0 0 0 1\n"
+    ++ text "4 0 276 48 264 264 0 0 0 1\n"
+    ++ text "5 0 342 48 198 198 0 0 0 1\n"
+    ++ text "6 0 408 48 132 132 0 0 0 1\n"
+    ++ text "7 0 474 48 66 66 0 0 0 3\n"
+    ++ text "index absent\n")
     -- an index line among the comments is no comment
     ∷ Reads (fileA ++ text "#ASDF BLOCK INDEX\n%YAML 1.1\n--- [12]\n...\n") (refused (refusal 6 12))
     -- an index of nothing, and a number above 2^32

@@ -31,7 +31,7 @@ use Rattle.put.proofs.PutLaws.{placed-none, placed-nothing}
 use Rattle.put.proofs.WrittenLaws.{written-short, written-placed, Taken, written-taken}
 use Rattle.outline.specs.Row.{rowsIn}
 use Rattle.outline.proofs.StoredLaws.{Read, read-stored}
-use Rattle.format.specs.Listed.{outlineBytes, outlineFor, bothFit, putIf, BothPut, lentBytes, Listed}
+use Rattle.format.specs.Listed.{outlineBytes, outlineFor, bothFit, putIf, BothPut, lentBytes, Listed, ListedLent}
 use Rattle.listing.specs.Listing.{mostOutline, BothShort, Short}
 use Rattle.listing.specs.Text.{fileText, verdictText, PutAt}
 use Rattle.file.proofs.FewLaws.{rows-few}
@@ -272,18 +272,14 @@ module _ (s rows out rows-after out-after : Bytes) (x : CountAnswer) (h : Listed
     text-taken : Taken (accepted (listing s)) out-after n
     text-taken = written-taken (accepted (listing s)) out out-after n text-written
 
-    pub shown-listed : Listed s rows out rows-after out-after (Counted n)
-    shown-listed = rw (← e) h
-
     -- the first n bytes of the buffer are the listing
-    pub shown-is : take n out-after ≡ listing s
-    shown-is = let same = text-taken .is in cc
-
-    pub shown-count : n ≡ length (take n out-after)
-    shown-count = sym (text-taken .size)
-
-    pub shown-fits : n ≤ length out-after
-    shown-fits = omega (arith, text-taken .size, length-take n out-after)
+    pub shown : ListedLent s rows out rows-after out-after n
+    shown = record {
+      listed = rw (← e) h;
+      inside = omega (arith, text-taken .size, length-take n out-after);
+      size = sym (text-taken .size);
+      text = let same = text-taken .is in cc;
+    }
 
   -- buffers as long as the program's are never refused
   pub never-refused : (r : Refusal) → x ≡ Refused r → length rows ≡ lentBytes → length out ≡ lentBytes → ⊥

@@ -1,7 +1,6 @@
 -- How long an outline and a text can be, and what the parts of the writer of a listing promise.
 use Prim.Native.Nat.{ℕ, _≤_}
-use mathlib.Core.Path.{_≡_}
-use lib.ListN.{length, take}
+use lib.ListN.{length}
 use Rattle.format.specs.declared.answer.CountAnswer.{CountAnswer}
 use Rattle.format.specs.Bytes.{Bytes}
 use Rattle.format.specs.Outcome.{accepted}
@@ -11,10 +10,6 @@ use Rattle.format.specs.Listed.{BothPut, lentBytes}
 -- no outline of 65,536 bytes is longer: a block takes 54 of them or more, and its row 16
 abbrev pub mostOutline : ℕ
 mostOutline = 19408
-
--- n bytes stand at the start of a buffer
-abbrev pub Stands : ℕ → Bytes → Type 0
-Stands n out = (n ≤ length out) × (n ≡ length (take n out))
 
 -- an outline and a text that such buffers hold were put
 pub record BothShort (b t rows out rowsAfter outAfter : Bytes) (r : CountAnswer) : Type 0 where

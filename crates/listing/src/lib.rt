@@ -4,12 +4,12 @@ mod text;
 ghost use Prim.Native.Nat.{_≤_};
 ghost use mathlib.Core.Path.{_≡_};
 ghost use lib.ListN.{length};
-ghost use Rattle.format.specs.declared.answer.CountAnswer.the-variants.{Counted, Refused};
+ghost use Rattle.format.specs.declared.answer.CountAnswer.the-variants.{Refused};
 ghost use Rattle.format.specs.File.{layout as File·layout};
 ghost use Rattle.format.specs.Listing.{mostInput, printed};
 ghost use Rattle.format.specs.Outcome.{accepted, refused as Outcome·refused, refusal};
-ghost use Rattle.format.specs.Listed.{Listed};
-ghost use Rattle.listing.specs.Listing.{mostOutline, BothShort, Short, Stands};
+ghost use Rattle.format.specs.Listed.{Listed, ListedLent};
+ghost use Rattle.listing.specs.Listing.{mostOutline, BothShort, Short};
 ghost use Rattle.listing.specs.Text.{fileText};
 use format::answer::CountAnswer;
 use format::answer::LayoutAnswer;
@@ -32,10 +32,9 @@ pub fn list(s: &[u8], rows: &mut [u8], out: &mut [u8]) -> CountAnswer
     }
 }
 
-// The same with buffers that are long enough for every file.
+// The same with buffers that are long enough for every file: the first bytes of one are the listing.
 pub fn list_lent(s: &[u8], rows: &mut [u8; 65536], out: &mut [u8; 65536]) -> usize
-    ensures { λ r. ⌜ Listed (now (s .entry)) (now (rows .entry)) (now (out .entry)) (now (rows .exit)) (now (out .exit)) (Counted r) ⌝ }
-    ensures { λ r. ⌜ Stands r (now (out .exit)) ⌝ }
+    ensures { λ r. ⌜ ListedLent (now (s .entry)) (now (rows .entry)) (now (out .entry)) (now (rows .exit)) (now (out .exit)) r ⌝ }
 {
     match list(s, rows, out) {
         CountAnswer::Refused(_) => 0,

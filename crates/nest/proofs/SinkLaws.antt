@@ -11,7 +11,7 @@ use Rattle.format.specs.declared.row.Row.{Row}
 use Rattle.format.specs.Bytes.{Bytes, wrapped}
 use Rattle.format.specs.declared.block.Inner.{Inner}
 use Rattle.format.specs.declared.block.Inner.the-variants.{Plain, Opened, Refused, TooDeep}
-use Rattle.format.specs.Fields.{blockFields, innerFields, recordFields, numberBytes, encodeRecord}
+use Rattle.format.specs.Fields.{blockFields, recordFields, refusalFields, numberBytes, encodeRecord}
 use Rattle.format.specs.Lent.{placed}
 use Rattle.format.specs.Outline.{rowOf, encodeRow}
 use Rattle.format.proofs.RowLaws.{encoded-length}
@@ -26,7 +26,7 @@ pub record-length : (r : Record) → length (encodeRecord r) ≡ 120
 unfolding encodeRecord recordFields
 record-length r = rw (numbers-length (recordFields r)) (fields (r .inner))
   where
-    fields : (i : Inner) → 8 * suc (suc (length (innerFields i ++ blockFields (r .block)))) ≡ 120
+    fields : (i : Inner) → 8 * suc (suc (suc (length (refusalFields i ++ blockFields (r .block))))) ≡ 120
     fields Plain = refl
     fields Opened = refl
     fields (Refused x) = refl

@@ -1,6 +1,6 @@
 -- Buffers of this length are never refused.
 use borrow.Author.Needs.{needs}
-use Rattle.listing.proofs.ListLaws.{never-refused, shown-listed, shown-count, shown-fits}
+use Rattle.listing.proofs.ListLaws.{never-refused, shown}
 use Rattle.listing.proofs.list_lent.Statement.{statement}
 use Rattle.listing.proofs.list_lent.Tie as tie
 
@@ -12,4 +12,4 @@ list-lent-spec =
     (λ c. search needs)
     (λ c. search needs)
     (λ c. search (never-refused, needs))
-    (λ c. search (shown-listed, shown-count, shown-fits, needs)))
+    (λ c. search (shown, needs)))
