@@ -23,11 +23,13 @@ two-fields Opened others = refl
 two-fields (Refused r) others = refl
 two-fields TooDeep others = refl
 
--- the inner state's number and the two of its refusal stand among a record's
-pub record-numbers : (r : Record) (two : List ℕ) → two ≡ refusalFields (r .inner) → (at inner : ℕ) → at ≡ r .at .0 → inner ≡ innerNumber (r .inner)
-    → r .depth ∷ at ∷ inner ∷ getD two 0 0 ∷ getD two 1 0 ∷ blockFields (r .block) ≡ recordFields r
+-- the inner state's number, the two of its refusal and the ten of the block stand among a record's
+pub record-numbers : (r : Record) (two ten : List ℕ) → two ≡ refusalFields (r .inner) → ten ≡ blockFields (r .block) → (at inner : ℕ) → at ≡ r .at .0
+    → inner ≡ innerNumber (r .inner)
+    → r .depth ∷ at ∷ inner ∷ getD two 0 0 ∷ getD two 1 0 ∷ getD ten 0 0 ∷ getD ten 1 0 ∷ getD ten 2 0 ∷ getD ten 3 0 ∷ getD ten 4 0 ∷ getD ten 5 0 ∷ getD ten 6 0 ∷ getD ten 7 0 ∷ getD ten 8 0 ∷ getD ten 9 0 ∷ []
+    ≡ recordFields r
 unfolding recordFields
-record-numbers r two f at inner e g = rw (f, e, g, two-fields (r .inner) (blockFields (r .block)))
+record-numbers r two ten f g at inner e h = rw (f, g, e, h, two-fields (r .inner) (blockFields (r .block)))
 
 -- a row's offset and flags stand among its numbers
 pub row-numbers : (r : Row) (at streamed compressed checksum : ℕ) → at ≡ r .at .0 → streamed ≡ bit (r .streamed)

@@ -58,22 +58,23 @@ pub fn record_fields(r: Record) -> [u64; 15]
     let b = r.block;
     let inner = r.inner;
     let refusal = refusal_fields(inner);
+    let block = block_fields(b);
     [
         r.depth as u64,
         r.at.number(),
         inner_number(inner) as u64,
         refusal[0],
         refusal[1],
-        b.ordinal as u64,
-        b.at.0,
-        b.header_size as u64,
-        b.flags as u64,
-        b.compression as u64,
-        b.allocated,
-        b.used,
-        b.data_size,
-        b.checksum_high,
-        b.checksum_low,
+        block[0],
+        block[1],
+        block[2],
+        block[3],
+        block[4],
+        block[5],
+        block[6],
+        block[7],
+        block[8],
+        block[9],
     ]
 }
 

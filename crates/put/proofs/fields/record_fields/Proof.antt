@@ -1,4 +1,4 @@
--- The inner state's number and its refusal's stand among the record's.
+-- The inner state's number, its refusal's and the block's stand among the record's.
 use borrow.Author.Needs.{needs}
 use Rattle.put.proofs.FieldLaws.{record-numbers}
 use Rattle.put.proofs.fields.record_fields.Statement.{statement}
@@ -9,9 +9,16 @@ record-fields-spec =
     tie.close
     (tie.spec
     (λ c κs. search needs)
+    (λ c κs. search needs)
     (λ c. search needs)
     (λ c κs. search needs)
     (λ c κs. search needs)
+    (λ c. search needs)
+    (λ c. search needs)
+    (λ c. search needs)
+    (λ c. search needs)
+    (λ c. search needs)
+    (λ c. search needs)
     (λ c. search needs)
     (λ c. search needs)
     (λ c. search needs)
