@@ -2,10 +2,11 @@
 use Prim.Native.Nat.{ℕ, _+_, _-_, _%_, _^_, _≤_, _<_}
 use native.Mathlib.Nat.{le-refl, lt-of-lt-of-le, mod-eq-of-lt, pow-le-pow-right}
 use native.Mathlib.Omega.{arith}
-use mathlib.Core.Path.{_≡_, refl, _∙_}
+use mathlib.Core.Path.{_≡_, refl, sym, ap, _∙_}
 use mathlib.Core.Bool.{Bool, true, false, not, _||_}
-use lib.ListN.{length, take, drop, getD, length-drop}
-use lib.Seq.{length-take-le}
+use mathlib.Core.List.{_++_}
+use lib.ListN.{length, take, drop, getD, length-append, length-drop}
+use lib.Seq.{length-take-le, drop-append-add, drop-drop}
 use lib.Dec.{leb, eqb}
 use mir.Syntax.{w8, w64}
 use mir.Val.{Fits}
@@ -15,14 +16,16 @@ use Rattle.format.specs.declared.refusal.Refusal.{Refusal}
 use Rattle.format.specs.Bytes.{Bytes}
 use Rattle.format.specs.Outcome.{Outcome, accepted, refused, refusal, need, _>>_}
 use Rattle.format.specs.Block.{headerSize, flags, compression, allocatedSize, dataSize, leastHeader, isStreamed, contentStart, bytesLeft, blockWith, block}
+use Rattle.format.specs.Tree.{mark}
 use Rattle.format.specs.Chain.{extent}
 use Rattle.format.proofs.OutcomeLaws.{Accepts, accepts-need, accepted-holds, choice}
 use Rattle.format.proofs.PackLaws.{is-bytes-take, is-bytes-drop, big-endian-lt}
 use Rattle.scan.specs.Number.{BigEndian}
+use Rattle.file.specs.declared.block.BlockStep.{BlockStep}
 use Rattle.file.specs.declared.block.BlockStep.the-variants.{Read, Refused}
 use Rattle.file.specs.declared.step.LinkStep.the-variants as LinkStep·is
 use Rattle.file.specs.Step.{blockOf}
-use Rattle.file.specs.Block.{IsField, FieldRead, HeaderRead, soundBlock, soundLink, Sound, Fault}
+use Rattle.file.specs.Block.{IsField, FieldRead, HeaderRead, soundBlock, soundLink, Sound, Fault, BlockRead}
 
 -- the number in at most eight bytes fits in 64 bits
 pub field-read : (t : Bytes) (from to r : ℕ) → ((i : ℕ) → Fits w8 (getD t i 0)) → IsField t from to → BigEndian (take (to - from) (drop from t)) r → FieldRead t from to r
@@ -162,20 +165,44 @@ module _ (t : Bytes) (h f : ℕ) (read : FieldRead t 4 6 h) (least : leastHeader
     behind = omega (arith, read .is);
   }
 
+-- what stands after the mark is the same with other bytes in its place
+past-mark : (t m : Bytes) → length m ≡ length mark → (k : ℕ) → drop (length mark + k) (m ++ drop (length mark) t) ≡ drop (length mark + k) t
+past-mark t m e k =
+    ap (λ (j : ℕ). drop (j + k) (m ++ drop (length mark) t)) (sym e) ∙ drop-append-add m (drop (length mark) t) k ∙ drop-drop k (length mark) t
+
+-- a block is the same with any four bytes in the place of its mark
+any-mark : (i n : ℕ) (t m : Bytes) → length m ≡ length mark → length mark ≤ length t → block i n (m ++ drop (length mark) t) ≡ block i n t
+unfolding block blockWith
+any-mark i n t m e h = go (isStreamed (flags t)) refl
+  where
+    size : length (m ++ drop (length mark) t) ≡ length t
+    size = simp (length-append, length-drop) (omega arith)
+
+    past : (k : ℕ) → drop (length mark + k) (m ++ drop (length mark) t) ≡ drop (length mark + k) t
+    past = past-mark t m e
+
+    go : (y : Bool) → isStreamed (flags t) ≡ y → block i n (m ++ drop (length mark) t) ≡ block i n t
+    go true k = rw (past 2, k, size, past 0, past 2, past 6, past 34, past 42)
+    go false k = rw (past 2, k, size, past 0, past 2, past 6, past 10, past 18, past 26, past 34, past 42)
+
+-- and so is what is read of it
+read-any : (i n : ℕ) (t : Bytes) (r : BlockStep) → blockOf r ≡ block i n t → BlockRead i n t r
+read-any i n t r is = record { is = is; any-mark = λ m e h. is ∙ sym (any-mark i n t m e h) }
+
 module _ (t : Bytes) (x : ℕ) (fault : Fault t x) where
   -- a block that has a fault is refused
-  pub block-refused : (i n : ℕ) (r : Refusal) → r ≡ refusal x n → (x ≡ 0 → ⊥) → blockOf (Refused r) ≡ block i n t
+  pub block-refused : (i n : ℕ) (r : Refusal) → r ≡ refusal x n → (x ≡ 0 → ⊥) → BlockRead i n t (Refused r)
   unfolding blockOf
-  block-refused i n r e h = rw (e, fault .fails h i n)
+  block-refused i n r e h = read-any i n t (Refused r) (rw (e, fault .fails h i n))
 
   -- one that has none is sound
   pub block-sound : x ≡ 0 → Sound t
   block-sound h = fault .passes h
 
   -- and is read
-  pub block-read : (i n : ℕ) (b : Block) → b ≡ soundBlock i n t → x ≡ 0 → blockOf (Read b) ≡ block i n t
+  pub block-read : (i n : ℕ) (b : Block) → b ≡ soundBlock i n t → x ≡ 0 → BlockRead i n t (Read b)
   unfolding blockOf
-  block-read i n b e h = rw (e, fault .passes h .is i n)
+  block-read i n b e h = read-any i n t (Read b) (rw (e, fault .passes h .is i n))
 
 module _ (t : Bytes) (f : ℕ) (bits : FieldRead t 6 10 f) where
   -- a streamed block has all that is left

@@ -1,12 +1,11 @@
 -- The chain of blocks: one law for each way out of a link and of the walk. The blocks so far, in front of the chain from here on, are the chain.
 use Prim.Native.Nat.{ℕ, zero, suc, _+_, _-_, _^_, _≤_, _<_}
-use native.Mathlib.Numerals.{add-one}
 use native.Mathlib.Omega.{arith}
 use mathlib.Core.Path.{_≡_, refl, sym, ap, subst, _∙_}
 use mathlib.Core.Bool.{Bool, true, false}
 use mathlib.Core.List.{List, [], _∷_, _++_, append-nil, map-append}
-use lib.ListN.{length, take, drop, set, length-append, length-drop}
-use lib.Seq.{take-suc-set, append-snoc, drop-drop}
+use lib.ListN.{length, take, drop, set, replicate, length-append, length-drop, length-map}
+use lib.Seq.{set-at, append-snoc, drop-drop}
 use mir.Syntax.{w64}
 use mir.Val.{Fits}
 use Rattle.format.specs.declared.block.Block.{Block}
@@ -23,7 +22,7 @@ use Rattle.file.specs.declared.step.LinkStep.{LinkStep}
 use Rattle.file.specs.declared.step.LinkStep.the-variants as LinkStep·is
 use Rattle.file.proofs.PartLaws.{part-all}
 use Rattle.file.specs.Block.{Fault, soundBlock, soundLink}
-use Rattle.file.specs.Chain.{onward, TailBegins, BlockBegins, LinkIs, Chained, WalkedAlone, WalkedTo}
+use Rattle.file.specs.Chain.{onward, TailBegins, BlockBegins, LinkIs, table, Chained, WalkedAlone, WalkedTo}
 use Rattle.file.proofs.BlockLaws.{Starts, sound-flags, sound-extent, sound-starts}
 
 -- what begins like an index is not zeros only
@@ -122,18 +121,26 @@ in-front-next : (bs : List Block) (b : Block) (o : Outcome Chain) → inFront bs
 in-front-next bs b (accepted c) = rw (append-snoc bs b (c .blocks))
 in-front-next bs b (refused r) = refl
 
--- i blocks are walked, which begin at the first i of out, and o is the chain behind them
+-- i blocks are walked, out is the table of where they begin, and o is the chain after them
 pub record Walking (s out : Bytes) (first i : ℕ) (o : Outcome Chain) : Type 0 where
   pub blocks : List Block
   pub is : onward s 0 first ≡ inFront blocks o
   pub count : length blocks ≡ i
   pub few : i ≤ mostBlocks
-  pub kept : take i out ≡ offsets blocks
+  pub kept : out ≡ table blocks
 
 -- no block is walked
-pub walk-begins : (s out : Bytes) (first : ℕ) → Walking s out first 0 (onward s 0 first)
-walk-begins s out first =
-    record { blocks = []; is = in-front-none (onward s 0 first); count = refl; few = omega arith; kept = refl }
+pub walk-begins : (s out : Bytes) (first : ℕ) → out ≡ replicate mostBlocks 0 → Walking s out first 0 (onward s 0 first)
+walk-begins s out first zeros =
+    record { blocks = []; is = in-front-none (onward s 0 first); count = refl; few = omega arith; kept = zeros }
+
+-- where block b begins is kept after the others
+table-next : (bs : List Block) (b : Block) → length bs < mostBlocks → set (table bs) (length bs) (b .at .0) ≡ table (bs ++ (b ∷ []))
+table-next bs b h =
+    let more : mostBlocks - length bs ≡ suc (mostBlocks - (length bs + 1)) = omega arith in
+    let size : length (offsets bs) ≡ length bs = length-map bs (λ (a : Block). a .at .0) in
+    let put = set-at (offsets bs) 0 (replicate (mostBlocks - (length bs + 1)) 0) (b .at .0) (length bs) size in
+    rw (more, put, length-append, map-append, append-snoc)
 
 -- where no block stands behind them, they are all
 walk-ends : (s out : Bytes) (first i : ℕ) (o : Outcome Chain) (w : Walking s out first i o) (t : Bytes) → o ≡ accepted (ended t)
@@ -192,7 +199,7 @@ module _ (s out : Bytes) (first i n : ℕ) (w : Walking s out first i (onward s 
       let t : TailBegins s i n false = rw h at link in
       record { c = _; chained = walk-ends s out first i _ w (drop n s) (t .is); zeros = t .tail; tail = refl; inside = inside }
 
-  module _ (room : length out ≡ mostBlocks) (out' : Bytes) (keep : out' ≡ set out i n) where
+  module _ (out' : Bytes) (keep : out' ≡ set out i n) where
     -- one block more is walked
     walk-next : (o : Outcome Chain) → BlockBegins s i n o → Walking s out' first (i + 1) o
     walk-next o b = record {
@@ -200,7 +207,7 @@ module _ (s out : Bytes) (first i n : ℕ) (w : Walking s out first i (onward s 
       is = w .is ∙ ap (inFront (w .blocks)) (b .is) ∙ in-front-next (w .blocks) (b .first) o;
       count = rw (length-append, w .count);
       few = omega (arith, b .few);
-      kept = rw (keep, add-one, take-suc-set out i n (omega (arith, b .few)), w .kept, map-append, b .at);
+      kept = rw (keep, w .kept, ← w .count, ← b .at) (table-next (w .blocks) (b .first) (omega (arith, w .count, b .few)));
     }
 
     -- a streamed block is the last

@@ -5,8 +5,8 @@ use mathlib.Core.Path.{_≡_, refl, sym, ap, _∙_}
 use mathlib.Core.Bool.{Bool, true, false}
 use mathlib.Core.List.{List, [], _∷_}
 use mathlib.Core.Option.{none, some}
-use lib.ListN.{length, take, drop, getD, getElem?, length-take, length-drop, length-map}
-use lib.Seq.{drop-drop, getD-take}
+use lib.ListN.{length, take, drop, getD, getElem?, replicate, length-take, length-drop, length-map}
+use lib.Seq.{drop-drop, getD-take, take-at}
 use Rattle.format.specs.declared.answer.BlockAnswer.the-variants as BlockAnswer·is
 use Rattle.format.specs.declared.block.Block.{Block}
 use Rattle.format.specs.declared.refusal.Refusal.{Refusal}
@@ -21,6 +21,8 @@ use Rattle.format.proofs.OutcomeLaws.{Accepts, accepted-holds, accepts-bind, ac
 use Rattle.file.specs.declared.block.BlockStep.{BlockStep}
 use Rattle.file.specs.declared.block.BlockStep.the-variants as BlockStep·is
 use Rattle.file.specs.Step.{blockOf}
+use Rattle.file.specs.Block.{BlockRead}
+use Rattle.file.specs.Chain.{table}
 use Rattle.file.specs.Layout.{Kept}
 use Rattle.file.proofs.PartLaws.{part-all}
 use Rattle.file.proofs.BlockLaws.{Starts, block-starts}
@@ -97,6 +99,10 @@ no-element [] j h = refl
 no-element (b ∷ bs) zero h = absurd (omega arith)
 no-element (b ∷ bs) (suc j) h = no-element bs j (omega arith)
 
+-- a table begins with the offsets of its blocks
+pub table-kept : (k : ℕ) (out : Bytes) (bs : List Block) → length bs ≡ k → out ≡ table bs → take k out ≡ offsets bs
+table-kept k out bs n h = rw h (take-at (offsets bs) (replicate (mostBlocks - length bs) 0) k (length-map bs (λ (b : Block). b .at .0) ∙ n))
+
 -- as many offsets are kept as there are blocks
 pub enough-kept : (out : Bytes) (k : ℕ) (bs : List Block) → length bs ≡ k → take k out ≡ offsets bs → k ≤ length out
 enough-kept out k bs n h = omega (arith, length-take k out, ap length h, length-map bs (λ (b : Block). b .at .0))
@@ -125,10 +131,10 @@ module _ (s out : Bytes) (count : ℕ) (kept : Kept s out count) (j : ℕ) where
     pub kept-inside : getD out j 0 ≤ length s
     kept-inside = rw kept-at (kept-block .is .inside)
 
-    module _ (x : BlockStep) (read : blockOf x ≡ block j (getD out j 0) (take (length s - getD out j 0) (drop (getD out j 0) s))) where
+    module _ (x : BlockStep) (read : BlockRead j (getD out j 0) (take (length s - getD out j 0) (drop (getD out j 0) s)) x) where
       -- it is read there
       kept-read : blockOf x ≡ accepted (kept-block .b)
-      kept-read = read ∙ rw (part-all, kept-at) (kept-block .is .read)
+      kept-read = read .is ∙ rw (part-all, kept-at) (kept-block .is .read)
 
       pub kept-found : (b : Block) → x ≡ BlockStep·is.Read b → blockAnswer (BlockAnswer·is.Found b) ≡ blockAt s j
       unfolding blockOf blockAnswer blockAt

@@ -3,11 +3,12 @@ use Prim.Native.Nat.{ℕ, _-_, _≤_, _<_}
 use native.Mathlib.Omega.{arith}
 use mathlib.Core.Path.{_≡_, refl, sym, ap, _∙_}
 use mathlib.Core.Bool.{Bool, true, false, not}
-use lib.ListN.{length, take, drop, drop-of-length-le, length-drop}
+use lib.ListN.{length, take, drop, replicate, drop-of-length-le, length-drop}
 use lib.Seq.{drop-cons}
 use borrow.Author.Tests.{le-leb, lt-leb, not-true, not-false}
 use Rattle.format.specs.declared.answer.LayoutAnswer.{LayoutAnswer}
 use Rattle.format.specs.declared.answer.LayoutAnswer.the-variants as LayoutAnswer·is
+use Rattle.format.specs.declared.answer.OffsetsAnswer.{OffsetsAnswer}
 use Rattle.format.specs.declared.answer.BlockAnswer.the-variants as BlockAnswer·is
 use Rattle.format.specs.declared.layout.Header.{Header}
 use Rattle.format.specs.declared.layout.Tree.{Tree}
@@ -25,7 +26,7 @@ use Rattle.format.specs.Comments.{comments}
 use Rattle.format.specs.Tree.{tree, mark}
 use Rattle.format.specs.Chain.{Chain, mostBlocks, chain}
 use Rattle.format.specs.Index.{indexed, judged, verdict}
-use Rattle.format.specs.File.{File, mostBytes, firstBlock, goesOn, offsets, file, layoutOf, layout, blockAt}
+use Rattle.format.specs.File.{File, mostBytes, firstBlock, goesOn, offsets, file, offsetTable, layoutOf, layout, blockAt}
 use Rattle.format.specs.Answer.{layoutAnswer, blockAnswer}
 use Rattle.format.proofs.ReadLaws.{header-bounds, comments-bounds, first-block-bounds}
 use Rattle.file.specs.declared.step.HeaderStep.{HeaderStep}
@@ -37,29 +38,29 @@ use Rattle.file.specs.declared.step.TreeStep.the-variants as TreeStep·i
 use Rattle.file.specs.declared.step.ChainStep.{ChainStep}
 use Rattle.file.specs.declared.step.ChainStep.the-variants as ChainStep·is
 use Rattle.file.specs.Step.{headerOf, endOf, treeOf}
-use Rattle.file.specs.Chain.{Chained, WalkedAlone, WalkedTo, Walked}
+use Rattle.file.specs.Chain.{table, Chained, WalkedAlone, WalkedTo, Walked}
 use Rattle.file.specs.Layout.{fileWith, withBlocks, behindTree, behindComments, behindHeader, layoutWith, Judged, Kept}
 use Rattle.file.proofs.PartLaws.{part-all}
-use Rattle.file.proofs.KeptLaws.{enough-kept}
+use Rattle.file.proofs.KeptLaws.{table-kept, enough-kept}
 
--- a refused file is answered by its refusal
-refused-judged : (o : Outcome File) (out : Bytes) (r : Refusal) → o ≡ refused r → Judged o out (LayoutAnswer·is.Refused r)
-unfolding layoutAnswer
-refused-judged o out r h = record { is = rw h; kept = λ f e. cc }
+-- a refusal and a table of zeros answer for a refused file
+pub refused-judged : (r : Refusal) → Judged (refused r) (record { layout = LayoutAnswer·is.Refused r; offsets = replicate mostBlocks 0 })
+unfolding layoutAnswer offsetTable
+refused-judged r = record { is = refl; table = refl }
 
--- an accepted file is answered by its layout, where the first of out are where its blocks begin
-accepted-judged : (o : Outcome File) (out : Bytes) (l : Layout) (f : File) → o ≡ accepted f → l ≡ layoutOf f
-    → take (length (f .blocks)) out ≡ offsets (f .blocks) → Judged o out (LayoutAnswer·is.Accepted l)
-unfolding layoutAnswer
-accepted-judged o out l f h e k = record { is = rw (h, e); kept = λ g q. let same : f ≡ g = cc in rw same at k }
+-- a layout and the table of its blocks answer for an accepted file
+accepted-judged : (o : Outcome File) (out : Bytes) (l : Layout) (f : File) → o ≡ accepted f → l ≡ layoutOf f → out ≡ table (f .blocks)
+    → Judged o (record { layout = LayoutAnswer·is.Accepted l; offsets = out })
+unfolding layoutAnswer offsetTable
+accepted-judged o out l f h e k = record { is = rw (h, e); table = rw (h, k) }
 
-module _ {A : Type 0} (o : Outcome File) (p : Outcome A) (then : A → Outcome File) (step : o ≡ _>>=_ p then) (out : Bytes) where
+module _ {A : Type 0} (o : Outcome File) (p : Outcome A) (then : A → Outcome File) (step : o ≡ _>>=_ p then) where
   -- a step that refuses
-  step-refused : (r : Refusal) → p ≡ refused r → Judged o out (LayoutAnswer·is.Refused r)
-  step-refused r h = refused-judged o out r (rw (step, h))
+  step-refused : (r : Refusal) → p ≡ refused r → (x : OffsetsAnswer) → Judged (refused r) x → Judged o x
+  step-refused r h x j = rw (step, h) j
 
-  -- a step that accepts hands on to what comes behind it
-  step-accepted : (a : A) → p ≡ accepted a → (x : LayoutAnswer) → Judged (then a) out x → Judged o out x
+  -- a step that accepts hands on to what comes after it
+  step-accepted : (a : A) → p ≡ accepted a → (x : OffsetsAnswer) → Judged (then a) x → Judged o x
   step-accepted a h x j = rw (step, h) j
 
 -- a file that is short enough is read from its header on
@@ -68,21 +69,21 @@ unfolding file behindHeader behindComments behindTree withBlocks
 file-begins s h = rw (le-leb (length s) mostBytes h, file)
 
 -- a file that is too long is refused
-pub file-long : (s : Bytes) → mostBytes < length s → (r : Refusal) → r ≡ refusal 1 0 → (out : Bytes) → Judged (file s) out (LayoutAnswer·is.Refused r)
+pub file-long : (s : Bytes) → mostBytes < length s → (r : Refusal) → r ≡ refusal 1 0 → (x : OffsetsAnswer) → Judged (refused r) x → Judged (file s) x
 unfolding file
-file-long s h r e out = refused-judged (file s) out r (rw (lt-leb (length s) mostBytes h, file, e))
+file-long s h r e x j = rw (lt-leb (length s) mostBytes h, file, ← e) j
 
 module _ (s : Bytes) (x : HeaderStep) (read : headerOf x ≡ header s) where
-  module _ (few : length s ≤ mostBytes) (out : Bytes) where
+  module _ (few : length s ≤ mostBytes) where
     -- the header is refused
-    pub header-refused : (r : Refusal) → x ≡ HeaderStep·is.Refused r → Judged (file s) out (LayoutAnswer·is.Refused r)
+    pub header-refused : (r : Refusal) → x ≡ HeaderStep·is.Refused r → (a : OffsetsAnswer) → Judged (refused r) a → Judged (file s) a
     unfolding headerOf
-    header-refused r e = step-refused (file s) (header s) (behindHeader s) (file-begins s few) out r (sym read ∙ ap headerOf e)
+    header-refused r e = step-refused (file s) (header s) (behindHeader s) (file-begins s few) r (sym read ∙ ap headerOf e)
 
     -- the header is read
-    pub header-read : (h : Header) → x ≡ HeaderStep·is.Read h → (a : LayoutAnswer) → Judged (behindHeader s h) out a → Judged (file s) out a
+    pub header-read : (h : Header) → x ≡ HeaderStep·is.Read h → (a : OffsetsAnswer) → Judged (behindHeader s h) a → Judged (file s) a
     unfolding headerOf
-    header-read h e = step-accepted (file s) (header s) (behindHeader s) (file-begins s few) out h (sym read ∙ ap headerOf e)
+    header-read h e = step-accepted (file s) (header s) (behindHeader s) (file-begins s few) h (sym read ∙ ap headerOf e)
 
   -- it ends inside
   pub header-inside : (h : Header) → x ≡ HeaderStep·is.Read h → h .end .0 ≤ length s
@@ -91,15 +92,15 @@ module _ (s : Bytes) (x : HeaderStep) (read : headerOf x ≡ header s) where
 
 module _ (s : Bytes) (h : Header) (x : EndStep) (read : endOf x ≡ comments (h .end .0) (lines (drop (h .end .0) s))) where
   -- the comments are refused
-  pub comments-refused : (out : Bytes) (r : Refusal) → x ≡ EndStep·is.Refused r → Judged (behindHeader s h) out (LayoutAnswer·is.Refused r)
+  pub comments-refused : (r : Refusal) → x ≡ EndStep·is.Refused r → (a : OffsetsAnswer) → Judged (refused r) a → Judged (behindHeader s h) a
   unfolding endOf behindHeader
-  comments-refused out r e = step-refused (behindHeader s h) _ (behindComments s h) refl out r (sym read ∙ ap endOf e)
+  comments-refused r e = step-refused (behindHeader s h) _ (behindComments s h) refl r (sym read ∙ ap endOf e)
 
   module _ (n : ℕ) (e : x ≡ EndStep·is.At n) where
     -- the comments are read
-    pub comments-read : (out : Bytes) (a : LayoutAnswer) → Judged (behindComments s h n) out a → Judged (behindHeader s h) out a
+    pub comments-read : (a : OffsetsAnswer) → Judged (behindComments s h n) a → Judged (behindHeader s h) a
     unfolding endOf behindHeader
-    comments-read out = step-accepted (behindHeader s h) _ (behindComments s h) refl out n (sym read ∙ ap endOf e)
+    comments-read = step-accepted (behindHeader s h) _ (behindComments s h) refl n (sym read ∙ ap endOf e)
 
     -- they end inside
     pub comments-inside : h .end .0 ≤ length s → n ≤ length s
@@ -109,15 +110,15 @@ module _ (s : Bytes) (h : Header) (x : EndStep) (read : endOf x ≡ comments (h 
 
 module _ (s : Bytes) (h : Header) (n : ℕ) (x : TreeStep) (read : treeOf x ≡ tree n s) where
   -- the tree is refused
-  pub tree-refused : (out : Bytes) (r : Refusal) → x ≡ TreeStep·is.Refused r → Judged (behindComments s h n) out (LayoutAnswer·is.Refused r)
+  pub tree-refused : (r : Refusal) → x ≡ TreeStep·is.Refused r → (a : OffsetsAnswer) → Judged (refused r) a → Judged (behindComments s h n) a
   unfolding treeOf behindComments
-  tree-refused out r e = step-refused (behindComments s h n) _ (behindTree s h n) refl out r (sym read ∙ ap treeOf e)
+  tree-refused r e = step-refused (behindComments s h n) _ (behindTree s h n) refl r (sym read ∙ ap treeOf e)
 
   module _ (t : Tree) (e : x ≡ TreeStep·is.Read t) where
     -- the tree is read
-    pub tree-read : (out : Bytes) (a : LayoutAnswer) → Judged (behindTree s h n t) out a → Judged (behindComments s h n) out a
+    pub tree-read : (a : OffsetsAnswer) → Judged (behindTree s h n t) a → Judged (behindComments s h n) a
     unfolding treeOf behindComments
-    tree-read out = step-accepted (behindComments s h n) _ (behindTree s h n) refl out t (sym read ∙ ap treeOf e)
+    tree-read = step-accepted (behindComments s h n) _ (behindTree s h n) refl t (sym read ∙ ap treeOf e)
 
     -- the blocks begin inside
     pub tree-inside : n ≤ length s → firstBlock n t ≤ length s
@@ -127,23 +128,23 @@ module _ (s : Bytes) (h : Header) (n : ℕ) (x : TreeStep) (read : treeOf x ≡ 
 module _ (s : Bytes) (h : Header) (n : ℕ) (t : Tree) where
   module _ (x y m : Offset) (e : t ≡ Found x y m) where
     -- the blocks begin behind the tree's room
-    pub blocks-behind : (out : Bytes) (a : LayoutAnswer) → Judged (withBlocks s h n (Found x y m) (m .0)) out a → Judged (behindTree s h n t) out a
+    pub blocks-behind : (a : OffsetsAnswer) → Judged (withBlocks s h n (Found x y m) (m .0)) a → Judged (behindTree s h n t) a
     unfolding behindTree goesOn firstBlock
-    blocks-behind out a j = rw e j
+    blocks-behind a j = rw e j
 
     -- the room ends inside
     pub room-inside : firstBlock n t ≤ length s → m .0 ≤ length s
     unfolding firstBlock
     room-inside q = rw e at q
 
-  module _ (e : t ≡ NoTree) (b : Bool) (goes : b ≡ goesOn NoTree (drop n s)) (out : Bytes) where
+  module _ (e : t ≡ NoTree) (b : Bool) (goes : b ≡ goesOn NoTree (drop n s)) where
     -- something else stands where no tree begins
-    pub blocks-none : not b ≡ true → (r : Refusal) → r ≡ refusal 7 n → Judged (behindTree s h n t) out (LayoutAnswer·is.Refused r)
+    pub blocks-none : not b ≡ true → (r : Refusal) → r ≡ refusal 7 n → (a : OffsetsAnswer) → Judged (refused r) a → Judged (behindTree s h n t) a
     unfolding behindTree
-    blocks-none q r i = refused-judged _ out r (rw (e, behindTree, sym goes ∙ not-true b q, i))
+    blocks-none q r i a j = rw (e, behindTree, sym goes ∙ not-true b q, ← i) j
 
     -- the blocks begin there, or the file ends
-    pub blocks-here : not b ≡ false → (a : LayoutAnswer) → Judged (withBlocks s h n t n) out a → Judged (behindTree s h n t) out a
+    pub blocks-here : not b ≡ false → (a : OffsetsAnswer) → Judged (withBlocks s h n t n) a → Judged (behindTree s h n t) a
     unfolding behindTree firstBlock
     blocks-here q a j = rw (e, behindTree, sym goes ∙ not-false b q) (rw e at j)
 
@@ -165,15 +166,15 @@ goes-mark s at h b e = rw (drop-cons s at 0 h) (rw (drop-cons s at 0 h) at e)
 module _ (s : Bytes) (h : Header) (n : ℕ) (t : Tree) (first : ℕ) (out : Bytes) where
   -- the chain c was walked, and v is the verdict on its tail
   chain-judged : (c : Chain) (k : ℕ) → Chained (chain mostBlocks 0 first (drop first s)) out k c → (v : Verdict) → v ≡ verdict (offsets (c .blocks)) (c .tail)
-      → (l : Layout) → l ≡ layoutWith h n t k v → Judged (withBlocks s h n t first) out (LayoutAnswer·is.Accepted l)
+      → (l : Layout) → l ≡ layoutWith h n t k v → Judged (withBlocks s h n t first) (record { layout = LayoutAnswer·is.Accepted l; offsets = out })
   unfolding withBlocks layoutOf
-  chain-judged c k w v q l e = accepted-judged _ out l (fileWith h n t c) (rw (w .is, withBlocks)) (rw (e, w .count, q)) (rw (w .count) (w .kept))
+  chain-judged c k w v q l e = accepted-judged _ out l (fileWith h n t c) (rw (w .is, withBlocks)) (rw (e, w .count, q)) (w .kept)
 
   module _ (x : ChainStep) (walked : Walked s (chain mostBlocks 0 first (drop first s)) out x) where
     -- the chain is refused
-    pub walk-refused : (r : Refusal) → x ≡ ChainStep·is.Refused r → Judged (withBlocks s h n t first) out (LayoutAnswer·is.Refused r)
+    pub walk-refused : (r : Refusal) → x ≡ ChainStep·is.Refused r → (a : OffsetsAnswer) → Judged (refused r) a → Judged (withBlocks s h n t first) a
     unfolding withBlocks
-    walk-refused r e = step-refused (withBlocks s h n t first) (chain mostBlocks 0 first (drop first s)) _ refl out r (rw e at walked)
+    walk-refused r e = step-refused (withBlocks s h n t first) (chain mostBlocks 0 first (drop first s)) _ refl r (rw e at walked)
 
     module _ (k : ℕ) (e : x ≡ ChainStep·is.Walked k) where
       -- the walk ended at zeros, or at the end
@@ -185,7 +186,8 @@ module _ (s : Bytes) (h : Header) (n : ℕ) (t : Tree) (first : ℕ) (out : Byte
       alone-few = walked-alone .chained .few
 
       -- no index stands behind the blocks
-      pub alone-judged : (l : Layout) → l ≡ layoutWith h n t k Absent → Judged (withBlocks s h n t first) out (LayoutAnswer·is.Accepted l)
+      pub alone-judged : (l : Layout) → l ≡ layoutWith h n t k Absent
+          → Judged (withBlocks s h n t first) (record { layout = LayoutAnswer·is.Accepted l; offsets = out })
       unfolding verdict
       alone-judged = let w = walked-alone in chain-judged (w .c) k (w .chained) Absent (rw (verdict, w .zeros))
 
@@ -199,8 +201,12 @@ module _ (s : Bytes) (h : Header) (n : ℕ) (t : Tree) (first : ℕ) (out : Byte
       to-few = walked-to .chained .few
 
       -- where they begin is kept
+      to-begin : take k out ≡ offsets (walked-to .c .blocks)
+      to-begin = table-kept k out (walked-to .c .blocks) (walked-to .chained .count) (walked-to .chained .kept)
+
+      -- for all of them
       pub to-kept : k ≤ length out
-      to-kept = enough-kept out k (walked-to .c .blocks) (walked-to .chained .count) (walked-to .chained .kept)
+      to-kept = enough-kept out k (walked-to .c .blocks) (walked-to .chained .count) to-begin
 
       -- the tail begins inside
       pub to-inside : m ≤ length s
@@ -208,26 +214,31 @@ module _ (s : Bytes) (h : Header) (n : ℕ) (t : Tree) (first : ℕ) (out : Byte
 
       -- the tail is judged
       pub to-judged : (v : Verdict) → v ≡ judged (take k out) (indexed (lines (take (length s - m) (drop m s))))
-          → (l : Layout) → l ≡ layoutWith h n t k v → Judged (withBlocks s h n t first) out (LayoutAnswer·is.Accepted l)
+          → (l : Layout) → l ≡ layoutWith h n t k v → Judged (withBlocks s h n t first) (record { layout = LayoutAnswer·is.Accepted l; offsets = out })
       unfolding verdict
       to-judged v q =
           let w = walked-to in
-          chain-judged (w .c) k (w .chained) v (q ∙ rw (part-all s m, verdict, w .zeros, w .chained .kept, w .tail))
+          chain-judged (w .c) k (w .chained) v (q ∙ rw (part-all s m, verdict, w .zeros, to-begin, w .tail))
 
-module _ (s out : Bytes) (a : LayoutAnswer) (judged : Judged (file s) out a) where
+module _ (s : Bytes) (x : OffsetsAnswer) (judged : Judged (file s) x) where
   -- the answer is the layout
-  pub layout-judged : layoutAnswer a ≡ layout s
+  pub layout-judged : layoutAnswer (x .layout) ≡ layout s
   unfolding layout
   layout-judged = judged .is
 
+  -- and the offsets are the file's
+  pub table-judged : x .offsets ≡ offsetTable (file s)
+  table-judged = judged .table
+
+module _ (s : Bytes) (a : LayoutAnswer) (judged : layoutAnswer a ≡ layout s) where
   -- a refusal is the file's
   pub file-refused : (r : Refusal) → a ≡ LayoutAnswer·is.Refused r → file s ≡ refused r
-  unfolding layoutAnswer
+  unfolding layoutAnswer layout
   file-refused r e = go (file s) refl
     where
       go : (o : Outcome File) → file s ≡ o → o ≡ refused r
-      go (accepted f) h = let clash = sym (ap layoutAnswer e) ∙ rw h at (judged .is) in cc
-      go (refused q) h = let same : _≡_ {A = Outcome Layout} (refused r) (refused q) = sym (ap layoutAnswer e) ∙ rw h at (judged .is) in cc
+      go (accepted f) h = let clash = sym (ap layoutAnswer e) ∙ rw (layout, h) at judged in cc
+      go (refused q) h = let same : _≡_ {A = Outcome Layout} (refused r) (refused q) = sym (ap layoutAnswer e) ∙ rw (layout, h) at judged in cc
 
   -- a refused file has no blocks
   pub block-refused : (j : ℕ) (r : Refusal) → a ≡ LayoutAnswer·is.Refused r → blockAnswer (BlockAnswer·is.Refused r) ≡ blockAt s j
@@ -235,16 +246,16 @@ module _ (s out : Bytes) (a : LayoutAnswer) (judged : Judged (file s) out a) whe
   block-refused j r e = rw (file-refused r e, blockAt)
 
   -- the blocks of an accepted file begin where it is kept
-  pub blocks-kept : (l : Layout) → a ≡ LayoutAnswer·is.Accepted l → Kept s out (l .blocks)
-  unfolding layoutAnswer layoutOf
-  blocks-kept l e = go (file s) refl
+  pub blocks-kept : (out : Bytes) → out ≡ offsetTable (file s) → (l : Layout) → a ≡ LayoutAnswer·is.Accepted l → Kept s out (l .blocks)
+  unfolding layoutAnswer layoutOf layout offsetTable
+  blocks-kept out kept l e = go (file s) refl
     where
       go : (o : Outcome File) → file s ≡ o → Kept s out (l .blocks)
       go (accepted f) h =
-          let same : accepted l ≡ accepted (layoutOf f) = sym (ap layoutAnswer e) ∙ rw h at (judged .is) in
+          let same : accepted l ≡ accepted (layoutOf f) = sym (ap layoutAnswer e) ∙ rw (layout, h) at judged in
           let count : length (f .blocks) ≡ l .blocks = cc in
-          record { f = f; is = h; count = count; begin = rw count at (judged .kept f h) }
+          record { f = f; is = h; count = count; begin = table-kept (l .blocks) out (f .blocks) count (rw h at kept) }
       go (refused q) h =
-          let clash : accepted l ≡ refused q = sym (ap layoutAnswer e) ∙ rw h at (judged .is) in
+          let clash : accepted l ≡ refused q = sym (ap layoutAnswer e) ∙ rw (layout, h) at judged in
           let z : _≡_ {A = ℕ} 0 1 = cc in
           absurd (omega arith)

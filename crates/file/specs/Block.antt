@@ -2,11 +2,15 @@
 use Prim.Native.Nat.{ℕ, _+_, _-_, _≤_, _<_, _^_}
 use mathlib.Core.Path.{_≡_}
 use mathlib.Core.Bool.{true, false}
-use lib.ListN.{length}
+use mathlib.Core.List.{_++_}
+use lib.ListN.{length, drop}
 use Rattle.format.specs.declared.block.Block.{Block}
 use Rattle.format.specs.Bytes.{Bytes, number}
 use Rattle.format.specs.Outcome.{accepted, refused, refusal}
+use Rattle.format.specs.Tree.{mark}
 use Rattle.format.specs.Block.{headerSize, flags, allocatedSize, usedSize, dataSize, leastHeader, isStreamed, contentStart, bytesLeft, blockWith, block}
+use Rattle.file.specs.declared.block.BlockStep.{BlockStep}
+use Rattle.file.specs.Step.{blockOf}
 use Rattle.file.specs.declared.step.LinkStep.{LinkStep}
 use Rattle.file.specs.declared.step.LinkStep.the-variants as LinkStep·is
 
@@ -50,3 +54,9 @@ pub record Sound (t : Bytes) : Type 0 where
 pub record Fault (t : Bytes) (r : ℕ) : Type 0 where
   pub fails : (r ≡ 0 → ⊥) → (i n : ℕ) → block i n t ≡ refused (refusal r n)
   pub passes : r ≡ 0 → Sound t
+
+-- r is what the header with which t begins says of block i at offset n. The mark's four bytes are not looked at: whoever asks has
+-- found the mark there, and with other bytes in its place the answer is the same
+pub record BlockRead (i n : ℕ) (t : Bytes) (r : BlockStep) : Type 0 where
+  pub is : blockOf r ≡ block i n t
+  pub any-mark : (m : Bytes) → length m ≡ length mark → length mark ≤ length t → blockOf r ≡ block i n (m ++ drop (length mark) t)

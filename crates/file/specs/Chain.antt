@@ -2,8 +2,8 @@
 use Prim.Native.Nat.{ℕ, _+_, _-_, _≤_, _<_}
 use mathlib.Core.Path.{_≡_}
 use mathlib.Core.Bool.{Bool, true, false}
-use mathlib.Core.List.{[]}
-use lib.ListN.{length, take, drop}
+use mathlib.Core.List.{List, [], _++_}
+use lib.ListN.{length, drop, replicate}
 use Rattle.format.specs.declared.block.Block.{Block}
 use Rattle.format.specs.Bytes.{Bytes, allZero}
 use Rattle.format.specs.Outcome.{Outcome, accepted, refused, _>>=_}
@@ -38,12 +38,16 @@ LinkIs s i n LinkStep·is.Zeros = TailBegins s i n true
 LinkIs s i n LinkStep·is.Index = TailBegins s i n false
 LinkIs s i n (LinkStep·is.Refused r) = onward s i n ≡ refused r
 
--- the chain c of k blocks was walked, and the first k of out are where they begin
+-- where these blocks begin, and zeros up to as many as there can be
+abbrev pub table : List Block → Bytes
+table bs = offsets bs ++ replicate (mostBlocks - length bs) 0
+
+-- the chain c of k blocks was walked, and out is the table of where they begin
 pub record Chained (o : Outcome Chain) (out : Bytes) (k : ℕ) (c : Chain) : Type 0 where
   pub is : o ≡ accepted c
   pub count : length (c .blocks) ≡ k
   pub few : k ≤ mostBlocks
-  pub kept : take k out ≡ offsets (c .blocks)
+  pub kept : out ≡ table (c .blocks)
 
 -- a chain was walked behind which no index stands
 pub record WalkedAlone (o : Outcome Chain) (out : Bytes) (k : ℕ) : Type 0 where

@@ -4,9 +4,8 @@ ghost use mathlib.Core.Path.{_≡_};
 ghost use mathlib.Core.Bool.{_||_, not};
 ghost use lib.ListN.{length};
 ghost use lib.Dec.{eqb};
-ghost use Rattle.format.specs.Block.{block, blockWith};
-ghost use Rattle.file.specs.Step.{blockOf};
-ghost use Rattle.file.specs.Block.{IsField, FieldRead, HeaderRead, Fault, Sound, soundBlock, soundLink};
+ghost use Rattle.format.specs.Block.{blockWith};
+ghost use Rattle.file.specs.Block.{IsField, FieldRead, HeaderRead, Fault, Sound, BlockRead, soundBlock, soundLink};
 use crate::step::LinkStep;
 use crate::step::refusal;
 use format::block::Block;
@@ -20,8 +19,9 @@ pub enum BlockStep {
 }
 
 // The block with this ordinal, whose first byte is t's and stands at an offset of its file; t reaches to the file's end.
+// Whoever asks has found the mark there: its four bytes are not looked at, and any others in its place give the same answer.
 pub fn read_block(t: &[u8], ordinal: u8, at: usize) -> BlockStep
-    ensures { λ r. ⌜ blockOf r ≡ block ordinal at (now (t .entry)) ⌝ }
+    ensures { λ r. ⌜ BlockRead ordinal at (now (t .entry)) r ⌝ }
 {
     let number = fault(t);
     if number != 0 {

@@ -2,7 +2,7 @@
 ghost use Prim.Native.Nat.{_≤_, _<_};
 ghost use mathlib.Core.Path.{_≡_};
 ghost use mathlib.Core.Bool.{true};
-ghost use lib.ListN.{length, drop, set};
+ghost use lib.ListN.{length, drop, set, replicate};
 ghost use Rattle.format.specs.Bytes.{begins};
 ghost use Rattle.format.specs.Tree.{mark as Tree·mark};
 ghost use Rattle.format.specs.Chain.{chain, mostBlocks};
@@ -14,9 +14,11 @@ use crate::step::refusal;
 use scan::mark;
 use scan::text;
 
-// Walks the blocks from an offset on, and keeps where each begins.
+// Walks the blocks from an offset on, and keeps where each begins. The offsets are all 0 before, and those after the last
+// block's stay so.
 pub(crate) fn walk(s: &[u8], first: usize, offsets: &mut [u64; 64]) -> ChainStep
     requires { ⌜ first ≤ length (now s) ⌝ }
+    requires { ⌜ now offsets ≡ replicate mostBlocks 0 ⌝ }
     ensures { λ r. ⌜ Walked (now (s .entry)) (chain mostBlocks 0 first (drop first (now (s .entry)))) (now (offsets .exit)) r ⌝ }
 {
     let mut at = first;

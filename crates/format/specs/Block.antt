@@ -63,7 +63,8 @@ blockWith i n t allocated used size =
       «checksum_low» = checksumLow t;
     }
 
--- block i of a file: the bytes t from offset n on begin with the mark
+-- block i of a file, with which the bytes t from offset n on begin. The chain has found the mark there before, so the mark's four
+-- bytes are not looked at again: with others in their place the outcome is the same
 unfoldable pub block : ℕ → ℕ → Bytes → Outcome Block
 block i n t = do
   need (leb 6 (length t)) 11 n

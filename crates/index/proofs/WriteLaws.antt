@@ -16,19 +16,19 @@ use Rattle.format.specs.declared.answer.LayoutAnswer.{LayoutAnswer}
 use Rattle.format.specs.declared.answer.LayoutAnswer.the-variants as LayoutAnswer·is
 use Rattle.format.specs.declared.block.Block.{Block}
 use Rattle.format.specs.declared.refusal.Refusal.{Refusal}
-use Rattle.format.specs.Answer.{blockAnswer}
+use Rattle.format.specs.Answer.{layoutAnswer, blockAnswer}
 use Rattle.format.specs.Bytes.{Bytes, IsBytes}
 use Rattle.format.specs.Outcome.{accepted, refused, refusal}
-use Rattle.format.specs.Block.{isStreamed, block}
+use Rattle.format.specs.Block.{isStreamed}
 use Rattle.format.specs.Index.{indexText}
-use Rattle.format.specs.File.{file, blockAt}
+use Rattle.format.specs.File.{layout, blockAt}
 use Rattle.format.specs.IndexWriter.{mayHaveIndex, indexFor}
 use Rattle.format.specs.Lent.{placed}
 use Rattle.format.proofs.WriterLaws.{index-good, index-short}
 use Rattle.file.specs.declared.block.BlockStep.{BlockStep}
 use Rattle.file.specs.declared.block.BlockStep.the-variants as BlockStep·is
-use Rattle.file.specs.Layout.{Judged, Kept}
-use Rattle.file.specs.Step.{blockOf}
+use Rattle.file.specs.Block.{BlockRead}
+use Rattle.file.specs.Layout.{Kept}
 use Rattle.file.proofs.KeptLaws.{kept-room, kept-inside, kept-found, kept-refused}
 use Rattle.file.proofs.LayoutLaws.{file-refused}
 use Rattle.format.specs.Written.{Written, IndexWritten}
@@ -95,7 +95,7 @@ module _ (s kept : Bytes) (count : ℕ) (h : Kept s kept count) where
     part-few e = omega (arith, part-length, all-kept 64 e)
 
     module _ (x : BlockStep)
-        (read : blockOf x ≡ block (count - 1) (getD kept (count - 1) 0) (take (length s - getD kept (count - 1) 0) (drop (getD kept (count - 1) 0) s))) where
+        (read : BlockRead (count - 1) (getD kept (count - 1) 0) (take (length s - getD kept (count - 1) 0) (drop (getD kept (count - 1) 0) s)) x) where
       -- the last block is not refused where it begins
       pub last-refused : (r : Refusal) → x ≡ BlockStep·is.Refused r → (out : Bytes) → Written (indexFor s) out out (Refused r)
       unfolding blockAnswer blockAt
@@ -139,8 +139,8 @@ module _ (s : Bytes) (known : (i : ℕ) → Fits w8 (getD s i 0)) where
       taken n e = written-taken (indexFor s) out after n (rw e at w)
 
   -- the file is refused
-  pub index-refused : (kept : Bytes) (a : LayoutAnswer) → Judged (file s) kept a → (r : Refusal) → a ≡ LayoutAnswer·is.Refused r → (out : Bytes)
+  pub index-refused : (a : LayoutAnswer) → layoutAnswer a ≡ layout s → (r : Refusal) → a ≡ LayoutAnswer·is.Refused r → (out : Bytes)
       → IndexWritten s out out (Refused r)
   unfolding indexFor
-  index-refused kept a j r e out =
-      index-written out out (Refused r) (written-refused (indexFor s) out r (rw (file-refused s kept a j r e, indexFor)) (Refused r) refl)
+  index-refused a is r e out =
+      index-written out out (Refused r) (written-refused (indexFor s) out r (rw (file-refused s a is r e, indexFor)) (Refused r) refl)

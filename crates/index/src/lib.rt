@@ -22,10 +22,14 @@ use format::refusal::Refusal;
 pub fn write(s: &[u8], out: &mut [u8]) -> CountAnswer
     ensures { λ r. ⌜ IndexWritten (now (s .entry)) (now (out .entry)) (now (out .exit)) r ⌝ }
 {
-    let mut offsets = [0u64; 64];
-    match file::layout::read_with_offsets(s, &mut offsets) {
+    let found = file::layout::read_with_offsets(s);
+    let answer = found.layout;
+    match answer {
         LayoutAnswer::Refused(r) => CountAnswer::Refused(r),
-        LayoutAnswer::Accepted(l) => write_kept(s, offsets, l.blocks, out),
+        LayoutAnswer::Accepted(l) => {
+            let offsets = found.offsets;
+            write_kept(s, offsets, l.blocks, out)
+        }
     }
 }
 

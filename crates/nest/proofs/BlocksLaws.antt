@@ -22,6 +22,7 @@ use Rattle.format.proofs.OutcomeLaws.{Accepts, accepted-holds, accepts-bind, ac
 use Rattle.file.specs.declared.block.BlockStep.{BlockStep}
 use Rattle.file.specs.declared.block.BlockStep.the-variants as BlockStep·is
 use Rattle.file.specs.Step.{blockOf}
+use Rattle.file.specs.Block.{BlockRead}
 use Rattle.file.proofs.PartLaws.{part-all}
 use Rattle.file.proofs.BlockLaws.{Starts, block-starts}
 use Rattle.nest.specs.Walk.{blocksFrom, BlockAt}
@@ -95,16 +96,16 @@ unfolding blocksFrom
 blocks-refused zero i n s r h = refl
 blocks-refused (suc left) i n s r h = rw (blocksFrom, h)
 
-module _ (s : Bytes) (i n : ℕ) (h : n ≤ length s) (x : BlockStep) (read : blockOf x ≡ block i n (take (length s - n) (drop n s))) where
+module _ (s : Bytes) (i n : ℕ) (h : n ≤ length s) (x : BlockStep) (read : BlockRead i n (take (length s - n) (drop n s)) x) where
   -- no block is read
   pub next-none : (r : Refusal) → x ≡ BlockStep·is.Refused r → blocksFrom 1 i n (drop n s) ≡ []
   unfolding blockOf
-  next-none r e = blocks-refused 1 i n s r (ap (block i n) (sym (part-all s n)) ∙ sym read ∙ ap blockOf e)
+  next-none r e = blocks-refused 1 i n s r (ap (block i n) (sym (part-all s n)) ∙ sym (read .is) ∙ ap blockOf e)
 
   module _ (b : Block) (e : x ≡ BlockStep·is.Read b) where
     begins-here : Begins s i n b
     unfolding blockOf
-    begins-here = block-begins s i n b h (ap (block i n) (sym (part-all s n)) ∙ sym read ∙ ap blockOf e)
+    begins-here = block-begins s i n b h (ap (block i n) (sym (part-all s n)) ∙ sym (read .is) ∙ ap blockOf e)
 
     -- its header, its content and its allocated space end inside
     pub next-six : length s < 2 ^ 64 → Fits w64 (n + 6)
