@@ -16,13 +16,13 @@ use Rattle.format.specs.Comments.{indexLine}
 use Rattle.format.specs.Tree.{mark}
 use Rattle.format.specs.Block.{flags, allocatedSize, isStreamed, contentStart, block}
 use Rattle.format.specs.Chain.{Chain, mostBlocks, ended, linked, tail, chain}
-use Rattle.format.specs.File.{offsets}
+use Rattle.format.specs.File.{offsets, table}
 use Rattle.format.proofs.ByteLaws.{begins-true}
 use Rattle.file.specs.declared.step.LinkStep.{LinkStep}
 use Rattle.file.specs.declared.step.LinkStep.the-variants as LinkStep·is
 use Rattle.file.proofs.PartLaws.{part-all}
 use Rattle.file.specs.Block.{Fault, soundBlock, soundLink}
-use Rattle.file.specs.Chain.{onward, TailBegins, BlockBegins, LinkIs, table, Chained, WalkedAlone, WalkedTo}
+use Rattle.file.specs.Chain.{onward, TailBegins, BlockBegins, LinkIs, Chained, WalkedAlone, WalkedTo}
 use Rattle.file.proofs.BlockLaws.{Starts, sound-flags, sound-extent, sound-starts}
 
 -- what begins like an index is not zeros only

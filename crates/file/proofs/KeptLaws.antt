@@ -15,14 +15,13 @@ use Rattle.format.specs.Outcome.{Outcome, accepted, refused, _>>=_}
 use Rattle.format.specs.Tree.{mark}
 use Rattle.format.specs.Block.{isStreamed, block}
 use Rattle.format.specs.Chain.{Chain, mostBlocks, extent, ended, linked, tail, chain}
-use Rattle.format.specs.File.{offsets, file, blockAt}
+use Rattle.format.specs.File.{offsets, table, file, blockAt}
 use Rattle.format.specs.Answer.{blockAnswer}
 use Rattle.format.proofs.OutcomeLaws.{Accepts, accepted-holds, accepts-bind, accepts-need, choice}
 use Rattle.file.specs.declared.block.BlockStep.{BlockStep}
 use Rattle.file.specs.declared.block.BlockStep.the-variants as BlockStep·is
 use Rattle.file.specs.Step.{blockOf}
 use Rattle.file.specs.Block.{BlockRead}
-use Rattle.file.specs.Chain.{table}
 use Rattle.file.specs.Layout.{Kept}
 use Rattle.file.proofs.PartLaws.{part-all}
 use Rattle.file.proofs.BlockLaws.{Starts, block-starts}

@@ -26,7 +26,7 @@ use Rattle.format.specs.Comments.{comments}
 use Rattle.format.specs.Tree.{tree, mark}
 use Rattle.format.specs.Chain.{Chain, mostBlocks, chain}
 use Rattle.format.specs.Index.{indexed, judged, verdict}
-use Rattle.format.specs.File.{File, mostBytes, firstBlock, goesOn, offsets, file, offsetTable, layoutOf, layout, blockAt}
+use Rattle.format.specs.File.{File, mostBytes, firstBlock, goesOn, offsets, table, file, offsetTable, layoutOf, layout, blockAt}
 use Rattle.format.specs.Answer.{layoutAnswer, blockAnswer}
 use Rattle.format.proofs.ReadLaws.{header-bounds, comments-bounds, first-block-bounds}
 use Rattle.file.specs.declared.step.HeaderStep.{HeaderStep}
@@ -38,7 +38,7 @@ use Rattle.file.specs.declared.step.TreeStep.the-variants as TreeStep·i
 use Rattle.file.specs.declared.step.ChainStep.{ChainStep}
 use Rattle.file.specs.declared.step.ChainStep.the-variants as ChainStep·is
 use Rattle.file.specs.Step.{headerOf, endOf, treeOf}
-use Rattle.file.specs.Chain.{table, Chained, WalkedAlone, WalkedTo, Walked}
+use Rattle.file.specs.Chain.{Chained, WalkedAlone, WalkedTo, Walked}
 use Rattle.file.specs.Layout.{fileWith, withBlocks, behindTree, behindComments, behindHeader, layoutWith, Judged, Kept}
 use Rattle.file.proofs.PartLaws.{part-all}
 use Rattle.file.proofs.KeptLaws.{table-kept, enough-kept}

@@ -2,13 +2,13 @@
 use Prim.Native.Nat.{ℕ, _+_, _-_, _≤_, _<_}
 use mathlib.Core.Path.{_≡_}
 use mathlib.Core.Bool.{Bool, true, false}
-use mathlib.Core.List.{List, [], _++_}
-use lib.ListN.{length, drop, replicate}
+use mathlib.Core.List.{[]}
+use lib.ListN.{length, drop}
 use Rattle.format.specs.declared.block.Block.{Block}
 use Rattle.format.specs.Bytes.{Bytes, allZero}
 use Rattle.format.specs.Outcome.{Outcome, accepted, refused, _>>=_}
 use Rattle.format.specs.Chain.{Chain, mostBlocks, ended, linked, chain}
-use Rattle.format.specs.File.{offsets}
+use Rattle.format.specs.File.{table}
 use Rattle.file.specs.declared.step.LinkStep.{LinkStep}
 use Rattle.file.specs.declared.step.LinkStep.the-variants as LinkStep·is
 use Rattle.file.specs.declared.step.ChainStep.{ChainStep}
@@ -37,10 +37,6 @@ LinkIs s i n LinkStep·is.Streamed = BlockBegins s i n (accepted (ended []))
 LinkIs s i n LinkStep·is.Zeros = TailBegins s i n true
 LinkIs s i n LinkStep·is.Index = TailBegins s i n false
 LinkIs s i n (LinkStep·is.Refused r) = onward s i n ≡ refused r
-
--- where these blocks begin, and zeros up to as many as there can be
-abbrev pub table : List Block → Bytes
-table bs = offsets bs ++ replicate (mostBlocks - length bs) 0
 
 -- the chain c of k blocks was walked, and out is the table of where they begin
 pub record Chained (o : Outcome Chain) (out : Bytes) (k : ℕ) (c : Chain) : Type 0 where

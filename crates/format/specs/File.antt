@@ -56,10 +56,14 @@ file s = do
   c ← chain mostBlocks 0 (firstBlock n t) (drop (firstBlock n t) s)
   accepted (record { header = h; commentsEnd = n; tree = t; blocks = c .blocks; verdict = verdict (offsets (c .blocks)) (c .tail) })
 
--- where its blocks begin, in a table for as many as there can be: zeros fill it up, and are all there is of a refused file
+-- where blocks begin, in a table for as many as there can be: zeros fill it up
+abbrev pub table : List Block → List ℕ
+table bs = offsets bs ++ replicate (mostBlocks - length bs) 0
+
+-- where the blocks of a file begin; a refused one has none
 unfoldable pub offsetTable : Outcome File → List ℕ
-offsetTable (accepted f) = offsets (f .blocks) ++ replicate (mostBlocks - length (f .blocks)) 0
-offsetTable (refused r) = replicate mostBlocks 0
+offsetTable (accepted f) = table (f .blocks)
+offsetTable (refused r) = table []
 
 -- what is answered of it
 unfoldable pub layoutOf : File → Layout
