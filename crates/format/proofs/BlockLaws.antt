@@ -1,6 +1,6 @@
 -- Every block of an accepted file lies inside the file, and its numbers keep their bounds.
 use Prim.Native.Nat.{ℕ, zero, suc, _+_, _-_, _≤_, _<_}
-use mathlib.Core.Path.{_≡_}
+use mathlib.Core.Path.{_≡_, refl}
 use mathlib.Core.Bool.{Bool, true, false}
 use mathlib.Core.List.{List, [], _∷_}
 use native.Mathlib.Nat.{le-refl}
@@ -35,20 +35,39 @@ AllBlocks P (b ∷ bs) = P b × AllBlocks P bs
 abbrev pub AllSound : ℕ → List Block → Type 0
 AllSound size = AllBlocks (Sound size)
 
+-- the bytes t, from offset n on, begin with the block b
+pub record Starts (n : ℕ) (t : Bytes) (b : Block) : Type 0 where
+  pub at : b .at .0 ≡ n
+  pub header-least : leastHeader ≤ b .«header_size»
+  pub inside : extent b ≤ length t
+  pub used : b .used ≤ b .allocated
+
+module _ (i n : ℕ) (t : Bytes) where
+  -- a block starts where its tests hold
+  with-starts : (a u d : ℕ) → leb leastHeader (headerSize t) ≡ true → leb (contentStart t) (length t) ≡ true → a ≤ bytesLeft t → u ≤ a
+      → Starts n t (blockWith i n t a u d)
+  unfolding blockWith
+  with-starts a u d least h k used =
+      record { at = refl; header-least = leb-true _ _ least; inside = omega (arith, leb-true (contentStart t) (length t) h); used = used }
+
+  -- and so does an accepted block
+  pub block-starts : Accepts (Starts n t) (block i n t)
+  unfolding block
+  block-starts = search (accepts-need, choice (Accepts (Starts n t)) (isStreamed (flags t)), with-starts, leb-true, le-refl) depth 12
+
 module _ (size i n : ℕ) (t : Bytes) (bytes : IsBytes t) (few : i < mostBlocks) (room : length t ≤ size - n) where
   -- a block's numbers keep their bounds where its tests hold
-  with-sound : (a u d : ℕ) → leb 6 (length t) ≡ true → leb leastHeader (headerSize t) ≡ true → leb (contentStart t) (length t) ≡ true
-      → u ≤ a → a ≤ bytesLeft t → Sound size (blockWith i n t a u d)
+  with-sound : (a u d : ℕ) → leb leastHeader (headerSize t) ≡ true → leb (contentStart t) (length t) ≡ true → a ≤ bytesLeft t → u ≤ a
+      → Sound size (blockWith i n t a u d)
   unfolding blockWith
-  with-sound a u d e6 e48 ec hu ha =
-      let h6 : 6 ≤ length t = leb-true _ _ e6 in
-      let hc : contentStart t ≤ length t = leb-true _ _ ec in
+  with-sound a u d least h k used =
+      let starts = with-starts i n t a u d least h k used in
       record {
         ordinal = few;
-        header-least = leb-true _ _ e48;
+        header-least = starts .header-least;
         header-most = number-lt 4 2 t bytes;
-        used = hu;
-        end = omega arith;
+        used = used;
+        end = omega (arith, starts .header-least, starts .inside);
       }
 
   -- and so do those of an accepted block

@@ -3,6 +3,7 @@ pub mod Meaning
 pub mod Examples
 pub mod OutcomeLaws
 pub mod NumberedLaws
+pub mod WordLaws
 pub mod PackLaws
 pub mod RowLaws
 pub mod BlockLaws

@@ -1,131 +1,272 @@
--- No refusal has the number 0: step by step, of one file by itself, its index and its edit.
-use Prim.Native.Nat.{ℕ, zero, suc, _+_}
-use mathlib.Core.Path.{_≡_, refl}
+-- No refusal has the number 0, and its place is inside the bytes that are read or where they end. Step by step: of one file by
+-- itself, then of all that is asked of a file or of a stored outline.
+use Prim.Native.Nat.{ℕ, zero, suc, _+_, _*_, _/_, _≤_}
+use mathlib.Core.Path.{_≡_, refl, ap}
 use mathlib.Core.Bool.{Bool, true, false}
+use mathlib.Core.List.{List, []}
 use mathlib.Core.Option.{Option, none, some}
-use lib.ListN.{drop}
-use lib.Dec.{eqb}
+use native.Mathlib.Omega.{arith}
+use lib.ListN.{length, take, drop, length-append, length-drop}
+use lib.Dec.{leb}
+use borrow.Author.Tests.{leb-true}
 use Rattle.format.specs.declared.block.Block.{Block}
+use Rattle.format.specs.declared.block.Record.{Record}
 use Rattle.format.specs.declared.layout.Tree.{Tree}
 use Rattle.format.specs.declared.layout.Tree.the-variants.{NoTree, Found}
 use Rattle.format.specs.declared.layout.Version.{Version}
+use Rattle.format.specs.declared.refusal.Refusal.{Refusal}
+use Rattle.format.specs.declared.row.Row.{Row}
 use Rattle.format.specs.Bytes.{Bytes, text, begins, same}
-use Rattle.format.specs.Outcome.{Outcome, accepted, refused, refusal, need, _>>=_, _>>_}
-use Rattle.format.specs.Line.{Lines, unended, line, behind}
-use Rattle.format.specs.Header.{headerOf, versionLine, header}
+use Rattle.format.specs.Outcome.{Outcome, accepted, refused, need, _>>=_, _>>_}
+use Rattle.format.specs.Line.{LineEnd, Lines, unended, line, behind, lines}
+use Rattle.format.specs.Header.{token, headerOf, versionLine, header}
 use Rattle.format.specs.Comments.{comments, indexLine}
 use Rattle.format.specs.Tree.{endLine, yamlLine, isStart, isDirective, content, directives, treeEnd, tree, mark}
 use Rattle.format.specs.Block.{block, isStreamed, flags}
-use Rattle.format.specs.Chain.{Chain, extent, tail, chain}
-use Rattle.format.specs.File.{file}
+use Rattle.format.specs.Chain.{Chain, mostBlocks, extent, ended, linked, tail, chain}
+use Rattle.format.specs.File.{mostBytes, firstBlock, goesOn, file, layout, blockAt}
+use Rattle.format.specs.Nest.{walkFile, recordsFrom, records, recordCount, recordAt}
+use Rattle.format.specs.Outline.{rowBytes, decodeRow, rows, outline, storedFrom, stored, storedCount, storedAt, rewritten}
+use Rattle.format.specs.Fields.{layoutBytes, recordTable, foundBytes}
 use Rattle.format.specs.Lent.{writes}
 use Rattle.format.specs.IndexWriter.{indexFor}
 use Rattle.format.specs.Edit.{editTree, edit}
-use Rattle.format.proofs.OutcomeLaws.{choice}
+use Rattle.format.proofs.OutcomeLaws.{accepted-holds, choice}
+use Rattle.format.proofs.ByteLaws.{begins-true}
+use Rattle.format.proofs.LineLaws.{joinLines, join-lines}
+use Rattle.format.proofs.ReadLaws.{header-bounds, comments-bounds, first-block-bounds}
+use Rattle.format.proofs.BlockLaws.{Starts, block-starts}
 
--- the refusal, if it is one, has a number that is not 0
-abbrev pub Numbered : {A : Type 0} → Outcome A → Type 0
-Numbered (accepted a) = Unit {0}
-Numbered (refused r) = eqb (r .number) 0 ≡ false
+-- the refusal's number is not 0, and its place is at most so far
+pub record Proper (most : ℕ) (r : Refusal) : Type 0 where
+  pub number : 1 ≤ r .number
+  pub place : r .place .0 ≤ most
 
--- a step, and what follows it
-numbered-bind : {A B : Type 0} (o : Outcome A) (f : A → Outcome B) → Numbered o → ((a : A) → Numbered (f a)) → Numbered (_>>=_ o f)
-numbered-bind (accepted a) f h k = k a
-numbered-bind (refused r) f h k = h
+-- an outcome that is accepted, or refused so
+abbrev pub Numbered : {A : Type 0} → ℕ → Outcome A → Type 0
+Numbered most (accepted a) = Unit {0}
+Numbered most (refused r) = Proper most r
 
--- a test, and what follows it
-numbered-need : {A : Type 0} (t : Bool) (n p : ℕ) (o : Outcome A) → eqb n 0 ≡ false → Numbered o → Numbered (_>>_ (need t n p) o)
-numbered-need true n p o h k = k
-numbered-need false n p o h k = h
+-- a place that is at most so far is also at most farther
+pub numbered-more : {A : Type 0} (near most : ℕ) (o : Outcome A) → near ≤ most → Numbered near o → Numbered most o
+numbered-more near most (accepted a) l h = tt
+numbered-more near most (refused r) l h = omega arith
 
--- a step, and a value for it
-pub numbered-done : {A B : Type 0} (o : Outcome A) (b : B) → Numbered o → Numbered (_>>_ o (accepted b))
-numbered-done (accepted a) b h = tt
-numbered-done (refused r) b h = h
+module _ (most : ℕ) where
+  -- the first place is never too far
+  at-first : 0 ≤ most
+  at-first = omega arith
 
--- what is written to a buffer that may be too short
-pub numbered-writes : (result : Outcome Bytes) (out : Bytes) → Numbered result → Numbered (writes result out)
-unfolding writes
-numbered-writes result out h = search (numbered-bind, numbered-need)
+  -- a step, and what follows it
+  numbered-bind : {A B : Type 0} (o : Outcome A) (f : A → Outcome B) → Numbered most o → ((a : A) → o ≡ accepted a → Numbered most (f a))
+      → Numbered most (_>>=_ o f)
+  numbered-bind (accepted a) f h k = k a refl
+  numbered-bind (refused r) f h k = h
 
-numbered-header-of : (v : Option Version) (e : ℕ) → Numbered (headerOf v e)
-unfolding headerOf
-numbered-header-of none e = refl
-numbered-header-of (some v) e = search numbered-need
+  -- a test, and what follows it
+  numbered-need : {A : Type 0} (t : Bool) (n p : ℕ) (o : Outcome A) → leb 1 n ≡ true → p ≤ most → (t ≡ true → Numbered most o)
+      → Numbered most (_>>_ (need t n p) o)
+  numbered-need true n p o h l k = k refl
+  numbered-need false n p o h l k = omega (arith, leb-true 1 n h)
 
-numbered-version : (l : Lines) → Numbered (versionLine l)
-unfolding versionLine
-numbered-version (unended t) = refl
-numbered-version (line t e l) = numbered-header-of _ _
+  -- a step, and a value for it
+  pub numbered-done : {A B : Type 0} (o : Outcome A) (b : B) → Numbered most o → Numbered most (_>>_ o (accepted b))
+  numbered-done (accepted a) b h = tt
+  numbered-done (refused r) b h = h
 
-numbered-header : (s : Bytes) → Numbered (header s)
+  -- a step, and a value from it
+  numbered-value : {A B : Type 0} (o : Outcome A) (f : A → B) → Numbered most o → Numbered most (_>>=_ o (λ a. accepted (f a)))
+  numbered-value (accepted a) f h = tt
+  numbered-value (refused r) f h = h
+
+  -- what is written to a buffer that may be too short
+  pub numbered-writes : (result : Outcome Bytes) (out : Bytes) → Numbered most result → Numbered most (writes result out)
+  unfolding writes
+  numbered-writes result out h = search (numbered-bind, numbered-need, at-first)
+
+  numbered-header-of : (v : Option Version) (e : ℕ) → 6 ≤ most → Numbered most (headerOf v e)
+  unfolding headerOf
+  numbered-header-of none e h = omega arith
+  numbered-header-of (some v) e h = search numbered-need
+
+  numbered-version : (l : Lines) → 6 ≤ most → Numbered most (versionLine l)
+  unfolding versionLine
+  numbered-version (unended t) h = omega arith
+  numbered-version (line t e l) h = numbered-header-of _ _ h
+
+  -- where a line and the lines after it end by then, so do the lines after it
+  line-inside : (n : ℕ) (t : Bytes) (e : LineEnd) (l : Lines) → n + length (joinLines (line t e l)) ≤ most
+      → behind n t e + length (joinLines l) ≤ most
+  unfolding joinLines
+  line-inside n t e l h = omega (arith, simp length-append at h)
+
+  numbered-comments : (n : ℕ) (l : Lines) → n + length (joinLines l) ≤ most → Numbered most (comments n l)
+  unfolding comments
+  numbered-comments n (unended t) h = choice (Numbered most) (begins (text "#") t) _ _ (omega arith) tt
+  numbered-comments n (line t e l) h =
+      choice (Numbered most) (begins (text "#") t) _ _
+      (choice (Numbered most) (same t indexLine) _ _ (omega arith) (numbered-comments (behind n t e) l (line-inside n t e l h)))
+      tt
+
+  numbered-content : (n : ℕ) (l : Lines) → n + length (joinLines l) ≤ most → Numbered most (content n l)
+  unfolding content
+  numbered-content n (unended t) h = omega arith
+  numbered-content n (line t e l) h =
+      choice (Numbered most) (same t endLine) _ _ tt
+      (choice (Numbered most) (isStart t) _ _ (omega arith) (numbered-content (behind n t e) l (line-inside n t e l h)))
+
+  numbered-directives : (n : ℕ) (l : Lines) → n + length (joinLines l) ≤ most → Numbered most (directives n l)
+  unfolding directives
+  numbered-directives n (unended t) h = omega arith
+  numbered-directives n (line t e l) h =
+      let others = line-inside n t e l h in
+      choice (Numbered most) (isStart t) _ _ (numbered-content (behind n t e) l others)
+      (choice (Numbered most) (isDirective t) _ _ (numbered-directives (behind n t e) l others) (omega arith))
+
+  numbered-tree-end : (n : ℕ) (l : Lines) → n + length (joinLines l) ≤ most → Numbered most (treeEnd n l)
+  unfolding treeEnd
+  numbered-tree-end n (unended t) h = tt
+  numbered-tree-end n (line t e l) h =
+      choice (Numbered most) (same t yamlLine) _ _
+      (numbered-value (directives (behind n t e) l) some (numbered-directives (behind n t e) l (line-inside n t e l h)))
+      tt
+
+  numbered-block : (i n : ℕ) (t : Bytes) → n ≤ most → Numbered most (block i n t)
+  unfolding block
+  numbered-block i n t h = search (numbered-need, choice {A = Outcome Block} (Numbered most) (isStreamed (flags t))) depth 12
+
+  numbered-tail : (n : ℕ) (t : Bytes) → n ≤ most → Numbered most (tail n t)
+  unfolding tail
+  numbered-tail n t h = search numbered-need
+
+  -- a block in front of others, or of none where it is streamed
+  numbered-linked : (b : Block) (streamed : Bool) (o : Outcome Chain) → Numbered most o
+      → Numbered most (_>>=_ (elim streamed [ true ↦ accepted (ended []) | false ↦ o ]) (λ c. accepted (linked b c)))
+  numbered-linked b true o h = tt
+  numbered-linked b false o h = numbered-value o (linked b) h
+
+  numbered-chain : (k i n : ℕ) (t : Bytes) → n + length t ≤ most → Numbered most (chain k i n t)
+  unfolding chain
+  numbered-chain zero i n t h = choice (Numbered most) (begins mark t) _ _ (omega arith) (numbered-tail n t (omega arith))
+  numbered-chain (suc k) i n t h =
+      choice (Numbered most) (begins mark t) _ _
+      (numbered-bind (block i n t) _ (numbered-block i n t (omega arith))
+      λ b e.
+      let inside = accepted-holds (Starts n t) (block i n t) b (block-starts i n t) e .inside in
+      numbered-linked b (isStreamed (b .flags)) (chain k (i + 1) (n + extent b) (drop (extent b) t))
+      (numbered-chain k (i + 1) (n + extent b) (drop (extent b) t) (simp length-drop (omega arith))))
+      (numbered-tail n t (omega arith))
+
+  numbered-stored-from : (k n deep : ℕ) (b : Bytes) → n + k * rowBytes ≤ most → Numbered most (storedFrom k n deep b)
+  unfolding storedFrom
+  numbered-stored-from zero n deep b h = tt
+  numbered-stored-from (suc k) n deep b h =
+      let inside : n ≤ most = omega arith in
+      let others = numbered-stored-from k (n + rowBytes) (decodeRow (take rowBytes b) .depth + 1) (drop rowBytes b) (omega arith) in
+      search (numbered-need, numbered-value)
+
+-- the lines of what stands in s from offset n on end where s ends
+lines-inside : (n : ℕ) (s : Bytes) → n ≤ length s → n + length (joinLines (lines (drop n s))) ≤ length s
+lines-inside n s h = rw (join-lines (drop n s), length-drop n s) (omega arith)
+
+numbered-header : (s : Bytes) → Numbered (length s) (header s)
 unfolding header
-numbered-header s = search (numbered-need, numbered-version)
+numbered-header s =
+    numbered-need (length s) (begins token s) 2 0 _ refl (omega arith)
+    λ e. numbered-version (length s) _ (omega (arith, simp length-append at (ap length (begins-true token s e))))
 
-numbered-comments : (n : ℕ) (l : Lines) → Numbered (comments n l)
-unfolding comments
-numbered-comments n (unended t) = choice Numbered (begins (text "#") t) _ _ refl tt
-numbered-comments n (line t e l) =
-    choice Numbered (begins (text "#") t) _ _ (choice Numbered (same t indexLine) _ _ refl (numbered-comments (behind n t e) l)) tt
-
-numbered-content : (n : ℕ) (l : Lines) → Numbered (content n l)
-unfolding content
-numbered-content n (unended t) = refl
-numbered-content n (line t e l) =
-    choice Numbered (same t endLine) _ _ tt (choice Numbered (isStart t) _ _ refl (numbered-content (behind n t e) l))
-
-numbered-directives : (n : ℕ) (l : Lines) → Numbered (directives n l)
-unfolding directives
-numbered-directives n (unended t) = refl
-numbered-directives n (line t e l) =
-    choice Numbered (isStart t) _ _ (numbered-content _ l)
-    (choice Numbered (isDirective t) _ _ (numbered-directives (behind n t e) l) refl)
-
-numbered-tree-end : (n : ℕ) (l : Lines) → Numbered (treeEnd n l)
-unfolding treeEnd
-numbered-tree-end n (unended t) = tt
-numbered-tree-end n (line t e l) =
-    choice Numbered (same t yamlLine) _ _ (numbered-bind (directives (behind n t e) l) _ (numbered-directives _ l) (λ m. tt)) tt
-
-numbered-tree : (n : ℕ) (s : Bytes) → Numbered (tree n s)
+numbered-tree : (n : ℕ) (s : Bytes) → n ≤ length s → Numbered (length s) (tree n s)
 unfolding tree
-numbered-tree n s = search (numbered-bind, numbered-tree-end)
+numbered-tree n s h =
+    numbered-value (length s) (treeEnd n (lines (drop n s))) _ (numbered-tree-end (length s) n (lines (drop n s)) (lines-inside n s h))
 
-numbered-block : (i n : ℕ) (t : Bytes) → Numbered (block i n t)
-unfolding block
-numbered-block i n t = search (numbered-need, choice {A = Outcome Block} Numbered (isStreamed (flags t))) depth 12
-
-numbered-tail : (n : ℕ) (t : Bytes) → Numbered (tail n t)
-unfolding tail
-numbered-tail n t = search numbered-need
-
-numbered-chain : (k i n : ℕ) (t : Bytes) → Numbered (chain k i n t)
-unfolding chain
-numbered-chain zero i n t = choice Numbered (begins mark t) _ _ refl (numbered-tail n t)
-numbered-chain (suc k) i n t =
-    choice Numbered (begins mark t) _ _
-    (numbered-bind (block i n t) _ (numbered-block i n t)
-    (λ b.
-    let others = numbered-chain k (i + 1) (n + extent b) (drop (extent b) t) in
-    search (numbered-bind, choice {A = Outcome Chain} Numbered (isStreamed (b .flags)), others)))
-    (numbered-tail n t)
-
-numbered-file : (s : Bytes) → Numbered (file s)
+numbered-file : (s : Bytes) → Numbered (length s) (file s)
 unfolding file
 numbered-file s =
-    search (numbered-need, numbered-bind, numbered-header, numbered-comments, numbered-tree, numbered-chain) depth 16
+    let most = length s in
+    numbered-need most (leb most mostBytes) 1 0 _ refl (omega arith)
+    λ short. numbered-bind most (header s) _ (numbered-header s)
+    λ h e.
+    let n = h .end .0 in
+    let header-end : n ≤ most = header-bounds s h e in
+    numbered-bind most (comments n (lines (drop n s))) _ (numbered-comments most n (lines (drop n s)) (lines-inside n s header-end))
+    λ m f.
+    let comments-end : m ≤ most = omega (arith, simp length-drop at (comments-bounds n (drop n s) m f)) in
+    numbered-bind most (tree m s) _ (numbered-tree m s comments-end)
+    λ t g. numbered-need most (goesOn t (drop m s)) 7 m _ refl comments-end
+    λ q.
+    let first : firstBlock m t ≤ most = omega (arith, first-block-bounds m s t comments-end g) in
+    let blocks = numbered-chain most mostBlocks 0 (firstBlock m t) (drop (firstBlock m t) s) (simp length-drop (omega arith)) in
+    search (numbered-value, blocks)
 
--- where an index is asked
-pub numbered-index : (s : Bytes) → Numbered (indexFor s)
-unfolding indexFor
-numbered-index s = search (numbered-need, numbered-bind, numbered-file)
+module _ (s : Bytes) where
+  -- where a layout is asked
+  pub numbered-layout : Numbered (length s) (layoutBytes s)
+  unfolding layoutBytes layout
+  numbered-layout = search (numbered-value, numbered-file)
 
-numbered-edit-tree : (s t : Bytes) (x : Tree) → Numbered (editTree s t x)
-unfolding editTree
-numbered-edit-tree s t NoTree = refl
-numbered-edit-tree s t (Found n e m) = search numbered-need
+  -- or a block, as these numbers
+  pub numbered-block-at : (fields : Block → List ℕ) (i : ℕ) → Numbered (length s) (foundBytes fields (blockAt s i))
+  unfolding foundBytes blockAt
+  numbered-block-at fields i = search (numbered-value, numbered-file)
 
--- where an edit is asked
-pub numbered-edit : (s t : Bytes) → Numbered (edit s t)
-unfolding edit
-numbered-edit s t = search (numbered-bind, numbered-file, numbered-edit-tree)
+  numbered-records : Numbered (length s) (records s)
+  unfolding records recordsFrom walkFile
+  numbered-records = search (numbered-value, numbered-file)
+
+  -- or how many records there are
+  pub numbered-count : Numbered (length s) (recordCount s)
+  unfolding recordCount
+  numbered-count = search (numbered-value, numbered-records)
+
+  -- or a record, as these numbers
+  pub numbered-record-at : (fields : Record → List ℕ) (k : ℕ) → Numbered (length s) (foundBytes fields (recordAt s k))
+  unfolding foundBytes recordAt
+  numbered-record-at fields k = search (numbered-value, numbered-records)
+
+  -- or all records
+  pub numbered-table : Numbered (length s) (recordTable s)
+  unfolding recordTable
+  numbered-table = search (numbered-value, numbered-records)
+
+  -- or the outline
+  pub numbered-outline : Numbered (length s) (outline s)
+  unfolding outline rows
+  numbered-outline = search (numbered-value, numbered-records)
+
+  -- or an index
+  pub numbered-index : Numbered (length s) (indexFor s)
+  unfolding indexFor
+  numbered-index = search (numbered-bind, numbered-need, numbered-file, at-first)
+
+  numbered-edit-tree : (t : Bytes) (x : Tree) → Numbered (length s) (editTree s t x)
+  unfolding editTree
+  numbered-edit-tree t NoTree = omega arith
+  numbered-edit-tree t (Found n e m) = search (numbered-need, at-first)
+
+  -- or an edit
+  pub numbered-edit : (t : Bytes) → Numbered (length s) (edit s t)
+  unfolding edit
+  numbered-edit t = search (numbered-bind, numbered-file, numbered-edit-tree)
+
+module _ (b : Bytes) where
+  numbered-stored : Numbered (length b) (stored b)
+  unfolding stored
+  numbered-stored =
+      let inside : 0 + length b / rowBytes * rowBytes ≤ length b = omega arith in
+      search (numbered-need, numbered-stored-from, at-first)
+
+  -- where it is asked how many rows are stored
+  pub numbered-stored-count : Numbered (length b) (storedCount b)
+  unfolding storedCount
+  numbered-stored-count = search (numbered-value, numbered-stored)
+
+  -- or a row, as these numbers
+  pub numbered-stored-at : (fields : Row → List ℕ) (k : ℕ) → Numbered (length b) (foundBytes fields (storedAt b k))
+  unfolding foundBytes storedAt
+  numbered-stored-at fields k = search (numbered-value, numbered-stored)
+
+  -- or all rows again
+  pub numbered-rewritten : Numbered (length b) (rewritten b)
+  unfolding rewritten
+  numbered-rewritten = search (numbered-value, numbered-stored)
