@@ -1,86 +1,69 @@
 -- The answers that are exported: one law for each way out.
 use Prim.Native.Nat.{ℕ}
 use native.Mathlib.Omega.{arith}
-use mathlib.Core.Path.{_≡_, refl, sym, ap, _∙_}
+use mathlib.Core.Path.{_≡_, refl}
 use mathlib.Core.List.{List, []}
 use mathlib.Core.Option.{Option, none, some}
+use lib.ListN.{length}
+use Rattle.format.specs.declared.answer.CountAnswer.{CountAnswer}
+use Rattle.format.specs.declared.answer.CountAnswer.the-variants as CountAnswer·is
 use Rattle.format.specs.declared.answer.LayoutAnswer.{LayoutAnswer}
 use Rattle.format.specs.declared.answer.LayoutAnswer.the-variants as LayoutAnswer·is
-use Rattle.format.specs.declared.answer.BlockAnswer.{BlockAnswer}
-use Rattle.format.specs.declared.answer.BlockAnswer.the-variants as BlockAnswer·is
-use Rattle.format.specs.declared.answer.RowAnswer.{RowAnswer}
-use Rattle.format.specs.declared.answer.RowAnswer.the-variants as RowAnswer·is
-use Rattle.format.specs.declared.block.Block.{Block}
 use Rattle.format.specs.declared.layout.Layout.{Layout}
 use Rattle.format.specs.declared.refusal.Refusal.{Refusal}
-use Rattle.format.specs.declared.row.Row.{Row}
 use Rattle.format.specs.Bytes.{Bytes}
 use Rattle.format.specs.Outcome.{Outcome, accepted, refused}
 use Rattle.format.specs.File.{layout}
-use Rattle.format.specs.Answer.{layoutAnswer, blockAnswer, rowAnswer}
-use Rattle.format.specs.Fields.{numberBytes, blockFields, rowFields, foundNumbers, foundBytes}
-use Rattle.asdf.specs.Export.{Exported, word, layoutFields, layoutBytes}
+use Rattle.format.specs.Answer.{layoutAnswer, countAnswer}
+use Rattle.format.specs.Fields.{numberBytes, layoutFields, layoutBytes, foundNumbers, foundBytes}
+use Rattle.format.specs.Written.{Written}
+use Rattle.format.specs.Export.{word, Exported}
+use Rattle.format.proofs.NumberedLaws.{Numbered, numbered-layout}
 use Rattle.put.proofs.PutLaws.{placed-nothing}
-use Rattle.asdf.proofs.ExportLaws.{exported-refused, exported-placed}
+use Rattle.put.proofs.WrittenLaws.{written-refused, written-placed}
+use Rattle.asdf.proofs.WordLaws.{exported-written}
 
-module _ (s : Bytes) (a : LayoutAnswer) (read : layoutAnswer a ≡ layout s) where
+-- a refusal changes no byte
+exported-refused : (s : Bytes) (result : Outcome Bytes) → Numbered (length s) result → (r : Refusal) → result ≡ refused r
+    → (out : Bytes) (w : ℕ) → w ≡ word (refused r) → Exported s result out out w
+unfolding countAnswer
+exported-refused s result n r h out w e =
+    exported-written out out (CountAnswer·is.Refused r) w e s result n (written-refused result out r h (CountAnswer·is.Refused r) refl)
+
+module _ (s : Bytes) (a : LayoutAnswer) (read : layoutAnswer a ≡ layout s) (out : Bytes) where
   -- the file is refused
-  pub layout-refused : (r : Refusal) → a ≡ LayoutAnswer·is.Refused r → (out : Bytes) (w : ℕ) → w ≡ word (refused r)
-      → Exported (layoutBytes s) out out w
+  pub layout-refused : (r : Refusal) → a ≡ LayoutAnswer·is.Refused r → (w : ℕ) → w ≡ word (refused r) → Exported s (layoutBytes s) out out w
   unfolding layoutAnswer layoutBytes
-  layout-refused r e = exported-refused (layoutBytes s) r (rw (layoutBytes, ← read, e))
+  layout-refused r e = exported-refused s (layoutBytes s) (numbered-layout s) r (rw (layoutBytes, ← read, e)) out
 
   -- its layout is put
-  pub layout-put : (l : Layout) → a ≡ LayoutAnswer·is.Accepted l → (ns : List ℕ) → ns ≡ layoutFields l → (out after : Bytes) (w : ℕ)
-      → Exported (accepted (numberBytes ns)) out after w → Exported (layoutBytes s) out after w
+  pub layout-put : (l : Layout) → a ≡ LayoutAnswer·is.Accepted l → (ns : List ℕ) → ns ≡ layoutFields l → (after : Bytes) (x : CountAnswer)
+      → Written (accepted (numberBytes ns)) out after x
+      → (w : ℕ) → w ≡ word (countAnswer x) → Exported s (layoutBytes s) out after w
   unfolding layoutAnswer layoutBytes
-  layout-put l e ns n out after w x = rw (layoutBytes, ← read, e, ← n) x
+  layout-put l e ns n after x h w q =
+      exported-written out after x w q s (layoutBytes s) (numbered-layout s) (rw (layoutBytes, ← read, e, ← n) h)
 
-module _ {A : Type 0} (fields : A → List ℕ) (result : Outcome (Option A)) where
-  -- what is asked is refused
-  found-refused : (r : Refusal) → result ≡ refused r → (out : Bytes) (w : ℕ) → w ≡ word (refused r) → Exported (foundBytes fields result) out out w
-  unfolding foundBytes foundNumbers
-  found-refused r e = exported-refused (foundBytes fields result) r (rw (e))
+-- a block or a row is asked for by its number, and the answer tells whether there is one
+module _ {Answer A : Type 0} (tells : Answer → Outcome (Option A)) (fields : A → List ℕ) (s : Bytes) (result : Outcome (Option A)) (numbered : Numbered (length s) (foundBytes fields result)) (a : Answer) (read : tells a ≡ result) (out : Bytes) (x : Answer) (e : a ≡ x) where
+  -- it is refused
+  pub found-refused : (r : Refusal) → tells x ≡ refused r → (w : ℕ) → w ≡ word (refused r) → Exported s (foundBytes fields result) out out w
+  unfolding foundBytes
+  found-refused r h = exported-refused s (foundBytes fields result) numbered r (rw (foundBytes, ← read, e, h)) out
 
   -- there is none
-  found-none : result ≡ accepted none → (out : Bytes) → Exported (foundBytes fields result) out out 0
-  unfolding foundBytes foundNumbers
-  found-none e out = rw (e) (exported-placed [] out (omega arith) out (placed-nothing out 0 (omega arith)) 0 refl)
+  pub found-none : tells x ≡ accepted none → Exported s (foundBytes fields result) out out 0
+  unfolding foundBytes foundNumbers countAnswer
+  found-none h =
+      let nothing : foundBytes fields result ≡ accepted [] = rw (foundBytes, ← read, e, h) in
+      exported-written out out (CountAnswer·is.Counted 0) 0 refl s (foundBytes fields result) numbered
+      (written-placed (foundBytes fields result) out [] nothing (omega arith) out (placed-nothing out 0 (omega arith)) 0 refl)
 
   -- it is put
-  found-put : (x : A) → result ≡ accepted (some x) → (ns : List ℕ) → ns ≡ fields x → (out after : Bytes) (w : ℕ)
-      → Exported (accepted (numberBytes ns)) out after w → Exported (foundBytes fields result) out after w
+  pub found-put : (y : A) → tells x ≡ accepted (some y) → (ns : List ℕ) → ns ≡ fields y → (after : Bytes) (z : CountAnswer)
+      → Written (accepted (numberBytes ns)) out after z
+      → (w : ℕ) → w ≡ word (countAnswer z) → Exported s (foundBytes fields result) out after w
   unfolding foundBytes foundNumbers
-  found-put x e ns n out after w h = rw (e, ← n) h
-
-module _ (result : Outcome (Option Block)) (a : BlockAnswer) (read : blockAnswer a ≡ result) where
-  -- of a block
-  pub block-refused : (r : Refusal) → a ≡ BlockAnswer·is.Refused r → (out : Bytes) (w : ℕ) → w ≡ word (refused r)
-      → Exported (foundBytes blockFields result) out out w
-  unfolding blockAnswer
-  block-refused r e = found-refused blockFields result r (sym read ∙ ap blockAnswer e)
-
-  pub block-none : a ≡ BlockAnswer·is.NoSuchBlock → (out : Bytes) → Exported (foundBytes blockFields result) out out 0
-  unfolding blockAnswer
-  block-none e = found-none blockFields result (sym read ∙ ap blockAnswer e)
-
-  pub block-put : (b : Block) → a ≡ BlockAnswer·is.Found b → (ns : List ℕ) → ns ≡ blockFields b → (out after : Bytes) (w : ℕ)
-      → Exported (accepted (numberBytes ns)) out after w → Exported (foundBytes blockFields result) out after w
-  unfolding blockAnswer
-  block-put b e = found-put blockFields result b (sym read ∙ ap blockAnswer e)
-
-module _ (result : Outcome (Option Row)) (a : RowAnswer) (read : rowAnswer a ≡ result) where
-  -- of a row
-  pub row-refused : (r : Refusal) → a ≡ RowAnswer·is.Refused r → (out : Bytes) (w : ℕ) → w ≡ word (refused r)
-      → Exported (foundBytes rowFields result) out out w
-  unfolding rowAnswer
-  row-refused r e = found-refused rowFields result r (sym read ∙ ap rowAnswer e)
-
-  pub row-none : a ≡ RowAnswer·is.NoSuchRow → (out : Bytes) → Exported (foundBytes rowFields result) out out 0
-  unfolding rowAnswer
-  row-none e = found-none rowFields result (sym read ∙ ap rowAnswer e)
-
-  pub row-put : (b : Row) → a ≡ RowAnswer·is.Found b → (ns : List ℕ) → ns ≡ rowFields b → (out after : Bytes) (w : ℕ)
-      → Exported (accepted (numberBytes ns)) out after w → Exported (foundBytes rowFields result) out after w
-  unfolding rowAnswer
-  row-put b e = found-put rowFields result b (sym read ∙ ap rowAnswer e)
+  found-put y h ns n after z put w q =
+      let bytes : foundBytes fields result ≡ accepted (numberBytes ns) = rw (foundBytes, ← read, e, h, n) in
+      exported-written out after z w q s (foundBytes fields result) numbered (rw bytes put)

@@ -7,7 +7,7 @@ use Rattle.format.specs.declared.layout.Layout.{Layout}
 use Rattle.format.specs.declared.layout.Tree.{Tree}
 use Rattle.format.specs.declared.layout.Tree.the-variants.{NoTree, Found}
 use Rattle.format.specs.declared.offset.Offset.{Offset}
-use Rattle.asdf.specs.Export.{layoutFields, treeFields, verdictNumber}
+use Rattle.format.specs.Fields.{layoutFields, treeFields, verdictNumber}
 
 -- a tree's numbers
 pub tree-found : (t : Tree) (a e m : Offset) → t ≡ Found a e m → 1 ∷ a .0 ∷ e .0 ∷ m .0 ∷ [] ≡ treeFields t

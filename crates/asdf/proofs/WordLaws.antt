@@ -1,8 +1,8 @@
--- Answers as one number: a count, what was written, an index, an edit.
-use Prim.Native.Nat.{ℕ, _≤_}
+-- Answers as one number: a count, what was written, an outline, a stored outline again, an index, an edit.
+use Prim.Native.Nat.{ℕ, _+_, _<_}
 use native.Mathlib.Omega.{arith}
-use mathlib.Core.Path.{_≡_, refl, ap, _∙_}
-use borrow.Author.Tests.{eqb-false}
+use mathlib.Core.Path.{_≡_, refl, sym, ap, _∙_}
+use lib.ListN.{length}
 use Rattle.format.specs.declared.answer.CountAnswer.{CountAnswer}
 use Rattle.format.specs.declared.answer.CountAnswer.the-variants as CountAnswer·is
 use Rattle.format.specs.declared.answer.EditAnswer.{EditAnswer}
@@ -12,12 +12,14 @@ use Rattle.format.specs.Answer.{countAnswer, editAnswer}
 use Rattle.format.specs.Bytes.{Bytes}
 use Rattle.format.specs.Outcome.{Outcome, accepted, refused, _>>_}
 use Rattle.format.specs.Lent.{writes}
+use Rattle.format.specs.Outline.{outline, rewritten}
 use Rattle.format.specs.IndexWriter.{indexFor}
 use Rattle.format.specs.Edit.{edit}
-use Rattle.format.proofs.NumberedLaws.{Numbered, numbered-writes, numbered-index, numbered-edit, numbered-done}
-use Rattle.format.specs.Written.{Written, IndexWritten}
+use Rattle.format.specs.Written.{Written, OutlineWritten, WrittenAgain, IndexWritten}
 use Rattle.format.specs.Edited.{Done}
-use Rattle.asdf.specs.Export.{Exported, IndexExported, EditExported, leastRefusal, word, doneWord}
+use Rattle.format.specs.Export.{leastRefusal, word, Returned, Exported, OutlineExported, RewriteExported, IndexExported, EditExported}
+use Rattle.format.proofs.NumberedLaws.{Numbered, numbered-more, numbered-writes, numbered-done, numbered-outline, numbered-rewritten, numbered-index, numbered-edit}
+use Rattle.format.proofs.WordLaws.{word-large, Counts, returned, returned-writes}
 
 -- a count, or a refusal
 pub word-counted : (a : CountAnswer) (n : ℕ) → a ≡ CountAnswer·is.Counted n → n ≡ word (countAnswer a)
@@ -29,68 +31,105 @@ unfolding countAnswer
 word-refused a r e w h = rw e h
 
 -- 0, or a refusal
-pub word-edited : (a : EditAnswer) → a ≡ EditAnswer·is.Edited → 0 ≡ doneWord (editAnswer a)
+pub word-edited : (a : EditAnswer) → a ≡ EditAnswer·is.Edited → 0 ≡ word (_>>_ (editAnswer a) (accepted 0))
 unfolding editAnswer
 word-edited a e = rw e
 
-pub word-unedited : (a : EditAnswer) (r : Refusal) → a ≡ EditAnswer·is.Refused r → (w : ℕ) → w ≡ word (refused r) → w ≡ doneWord (editAnswer a)
+pub word-unedited : (a : EditAnswer) (r : Refusal) → a ≡ EditAnswer·is.Refused r → (w : ℕ) → w ≡ word (refused r)
+    → w ≡ word (_>>_ (editAnswer a) (accepted 0))
 unfolding editAnswer
 word-unedited a r e w h = rw e h
 
 -- the count that was asked for
-pub word-count : (a : CountAnswer) (count : Outcome ℕ) → countAnswer a ≡ count → (w : ℕ) → w ≡ word (countAnswer a) → w ≡ word count
-word-count a count h w e = e ∙ ap word h
+pub returned-count : (a : CountAnswer) (count : Outcome ℕ) (lent : ℕ) → countAnswer a ≡ count → Counts lent count → Numbered lent count
+    → (w : ℕ) → w ≡ word (countAnswer a) → Returned count lent w
+returned-count a count lent h c n w e = returned count lent c n w (e ∙ ap word h)
 
--- what was written
-pub exported-written : (result : Outcome Bytes) (before after : Bytes) (a : CountAnswer) → Written result before after a
-    → (w : ℕ) → w ≡ word (countAnswer a) → Exported result before after w
-exported-written result before after a h w e = record { answer = e ∙ ap word (h .answer); buffer = h .buffer }
+module _ (before after : Bytes) (a : CountAnswer) (w : ℕ) (e : w ≡ word (countAnswer a)) where
+  -- what was written
+  pub exported-written : (s : Bytes) (result : Outcome Bytes) → Numbered (length s) result → Written result before after a
+      → Exported s result before after w
+  exported-written s result n h =
+      record { answer = returned-writes result before s n w (e ∙ ap word (h .answer)); buffer = h .buffer }
 
--- a refusal is no small number
-refusal-large : {A : Type 0} (o : Outcome A) (r : Refusal) → Numbered o → refused r ≡ o → leastRefusal ≤ word (refused r)
-refusal-large o r h e = let n = eqb-false (r .number) 0 (rw (← e) at h) in omega arith
+  -- a number below 2^56 is returned for what was written
+  small-counted : (s : Bytes) (result : Outcome Bytes) → Numbered (length s) result → Written result before after a → w < leastRefusal
+      → a ≡ CountAnswer·is.Counted w
+  unfolding countAnswer
+  small-counted s result n h p = from a (h .answer) e
+    where
+      from : (x : CountAnswer) → countAnswer x ≡ writes result before → w ≡ word (countAnswer x) → x ≡ CountAnswer·is.Counted w
+      from (CountAnswer·is.Counted m) q f = ap CountAnswer·is.Counted (sym f)
+      from (CountAnswer·is.Refused r) q f =
+          let large = word-large (length s) (writes result before) r (numbered-writes (length s) result before n) q in
+          absurd (omega arith)
 
--- the index that was written is good and short
-pub exported-index : (s before after : Bytes) (a : CountAnswer) → IndexWritten s before after a → (w : ℕ) → w ≡ word (countAnswer a)
-    → IndexExported s before after w
-unfolding countAnswer
-exported-index s before after (CountAnswer·is.Counted n) h w e =
-    rw e
-    (record {
-      written = exported-written (indexFor s) before after _ (h .written) n refl;
-      good = λ p. h .good n refl;
-      short = λ p. h .short n refl;
-    })
-exported-index s before after (CountAnswer·is.Refused r) h w e =
-    let large = refusal-large (writes (indexFor s) before) r (numbered-writes (indexFor s) before (numbered-index s)) (h .written .answer) in
-    record {
-      written = exported-written (indexFor s) before after _ (h .written) w e;
-      good = λ p. absurd (omega arith);
-      short = λ p. absurd (omega arith);
-    }
+  -- the outline that was written reads back
+  pub exported-outline : (s : Bytes) → OutlineWritten s before after a → OutlineExported s before after w
+  exported-outline s h = record {
+    written = exported-written s (outline s) (numbered-outline s) (h .written);
+    reads-back = λ p. h .reads-back w (small-counted s (outline s) (numbered-outline s) (h .written) p);
+  }
 
--- what was done, with any value
-done-word : {A B : Type 0} (o : Outcome A) (b : B) → doneWord (_>>_ o (accepted b)) ≡ doneWord o
-done-word (accepted a) b = refl
-done-word (refused r) b = refl
+  -- the stored outline that was written again is the same
+  pub exported-rewrite : (b : Bytes) → WrittenAgain b before after a → RewriteExported b before after w
+  exported-rewrite b h = record {
+    written = exported-written b (rewritten b) (numbered-rewritten b) (h .written);
+    same = λ p. h .same w (small-counted b (rewritten b) (numbered-rewritten b) (h .written) p);
+  }
+
+  -- the index that was written is good and short
+  pub exported-index : (s : Bytes) → IndexWritten s before after a → IndexExported s before after w
+  exported-index s h =
+      let counted = small-counted s (indexFor s) (numbered-index s) (h .written) in
+      record {
+        written = exported-written s (indexFor s) (numbered-index s) (h .written);
+        good = λ p. h .good w (counted p);
+        short = λ p. h .short w (counted p);
+      }
+
+-- what was done, with another value
+done-again : {A B C : Type 0} (o : Outcome A) (b : B) (c : C) → _>>_ (_>>_ o (accepted b)) (accepted c) ≡ _>>_ o (accepted c)
+done-again (accepted a) b c = refl
+done-again (refused r) b c = refl
+
+-- an edit counts nothing
+done-none : {A : Type 0} (o : Outcome A) (lent : ℕ) → Counts lent (_>>_ o (accepted 0))
+done-none (accepted a) lent = omega arith
+done-none (refused r) lent = tt
 
 -- the file that was edited
-pub exported-edit : (s t after : Bytes) (a : EditAnswer) → Done s t after a → (w : ℕ) → w ≡ doneWord (editAnswer a) → EditExported s t after w
-unfolding editAnswer
-exported-edit s t after EditAnswer·is.Edited h w e =
-    record {
-      answer = e ∙ ap doneWord (h .answer) ∙ done-word (edit s t) tt;
-      bytes = h .bytes;
-      accepts = λ p. e;
-      only = λ p. h .only refl;
-      edited = λ p. h .edited refl;
-    }
-exported-edit s t after (EditAnswer·is.Refused r) h w e =
-    let large = refusal-large (_>>_ (edit s t) (accepted tt)) r (numbered-done (edit s t) tt (numbered-edit s t)) (h .answer) in
-    record {
-      answer = e ∙ ap doneWord (h .answer) ∙ done-word (edit s t) tt;
-      bytes = h .bytes;
-      accepts = λ p. let clash = h .accepts p in let z : _≡_ {A = ℕ} 0 1 = cc in absurd (omega arith);
-      only = λ p. absurd (omega arith);
-      edited = λ p. absurd (omega arith);
-    }
+module _ (s t after : Bytes) (a : EditAnswer) (h : Done s t after a) (w : ℕ) (e : w ≡ word (_>>_ (editAnswer a) (accepted 0))) where
+  -- the word of the answer is returned for it
+  edit-answer : Returned (_>>_ (edit s t) (accepted 0)) (length s + length t) w
+  edit-answer =
+      let done : Outcome ℕ = _>>_ (edit s t) (accepted 0) in
+      let lent = length s + length t in
+      returned done lent (done-none (edit s t) lent)
+      (numbered-more (length s) lent done (omega arith) (numbered-done (length s) (edit s t) 0 (numbered-edit s t)))
+      w
+      (e ∙ ap (λ (o : Outcome (Unit {0})). word (_>>_ o (accepted 0))) (h .answer) ∙ ap word (done-again (edit s t) tt 0))
+
+  -- 0 is returned for an edit that is done
+  zero-edited : w ≡ 0 → a ≡ EditAnswer·is.Edited
+  unfolding editAnswer
+  zero-edited p = from a (h .answer) e
+    where
+      from : (x : EditAnswer) → editAnswer x ≡ _>>_ (edit s t) (accepted tt) → w ≡ word (_>>_ (editAnswer x) (accepted 0)) → x ≡ EditAnswer·is.Edited
+      from EditAnswer·is.Edited q f = refl
+      from (EditAnswer·is.Refused r) q f =
+          let large = word-large (length s) _ r (numbered-done (length s) (edit s t) tt (numbered-edit s t)) q in
+          absurd (omega arith)
+
+  -- and only for one
+  edited-zero : a ≡ EditAnswer·is.Edited → w ≡ 0
+  edited-zero p = e ∙ sym (word-edited a p)
+
+  pub exported-edit : EditExported s t after w
+  exported-edit = record {
+    answer = edit-answer;
+    bytes = h .bytes;
+    accepts = λ p. edited-zero (h .accepts p);
+    only = λ p. h .only (zero-edited p);
+    edited = λ p. h .edited (zero-edited p);
+  }

@@ -1,6 +1,6 @@
 // What is answered, as lists of numbers.
 ghost use mathlib.Core.Path.{_≡_};
-ghost use Rattle.asdf.specs.Export.{layoutFields, treeFields, verdictNumber};
+ghost use Rattle.format.specs.Fields.{layoutFields, treeFields, verdictNumber};
 use format::layout::Layout;
 use format::layout::Tree;
 use format::layout::Verdict;

@@ -1,14 +1,15 @@
 // The functions that C and Rust call. Each returns one number: how many bytes it put at the start of the lent buffer, or the
-// count that was asked for, or a refusal, its number in the top byte and its place below. A refusal changes no byte.
+// count that was asked for, or a refusal, its number in the top byte and its place below. A refusal changes no byte. Where all
+// that is lent is shorter than 2^56 bytes, the number can be read in one way only.
 mod fields;
 mod word;
 
-ghost use mathlib.Core.Path.{_≡_};
-ghost use Rattle.format.specs.Fields.{blockFields, recordFields, rowFields, foundBytes, recordTable};
+ghost use lib.ListN.{length};
+ghost use Rattle.format.specs.Export.{Returned, Exported, OutlineExported, RewriteExported, IndexExported, EditExported};
+ghost use Rattle.format.specs.Fields.{layoutBytes, blockFields, recordFields, rowFields, foundBytes, recordTable};
 ghost use Rattle.format.specs.File.{blockAt};
 ghost use Rattle.format.specs.Nest.{recordCount, recordAt};
-ghost use Rattle.format.specs.Outline.{outline as Outline·outline, storedCount, storedAt, rewritten};
-ghost use Rattle.asdf.specs.Export.{word as Export·word, Exported, IndexExported, EditExported, layoutBytes};
+ghost use Rattle.format.specs.Outline.{storedCount, storedAt};
 use format::answer::BlockAnswer;
 use format::answer::LayoutAnswer;
 use format::answer::RowAnswer;
@@ -16,13 +17,13 @@ use format::answer::RowAnswer;
 // The layout of a file: 88 bytes.
 #[no_mangle]
 pub extern "C" fn asdf_read(file: &[u8], out: &mut [u8]) -> u64
-    ensures { λ r. ⌜ Exported (layoutBytes (now (file .entry))) (now (out .entry)) (now (out .exit)) r ⌝ }
+    ensures { λ r. ⌜ Exported (now (file .entry)) (layoutBytes (now (file .entry))) (now (out .entry)) (now (out .exit)) r ⌝ }
 {
     match file::layout::read(file) {
         LayoutAnswer::Refused(r) => word::refused(r),
         LayoutAnswer::Accepted(l) => {
             let numbers = fields::layout_fields(l);
-            word::put_numbers(out, &numbers)
+            word::counted(word::put_numbers(out, &numbers))
         }
     }
 }
@@ -30,14 +31,14 @@ pub extern "C" fn asdf_read(file: &[u8], out: &mut [u8]) -> u64
 // The block of an ordinal in a file: 80 bytes, or none where there is no such block.
 #[no_mangle]
 pub extern "C" fn asdf_block(file: &[u8], ordinal: u64, out: &mut [u8]) -> u64
-    ensures { λ r. ⌜ Exported (foundBytes blockFields (blockAt (now (file .entry)) ordinal)) (now (out .entry)) (now (out .exit)) r ⌝ }
+    ensures { λ r. ⌜ Exported (now (file .entry)) (foundBytes blockFields (blockAt (now (file .entry)) ordinal)) (now (out .entry)) (now (out .exit)) r ⌝ }
 {
     match file::layout::block(file, ordinal) {
         BlockAnswer::Refused(r) => word::refused(r),
         BlockAnswer::NoSuchBlock => 0,
         BlockAnswer::Found(b) => {
             let numbers = put::fields::block_fields(b);
-            word::put_numbers(out, &numbers)
+            word::counted(word::put_numbers(out, &numbers))
         }
     }
 }
@@ -45,7 +46,7 @@ pub extern "C" fn asdf_block(file: &[u8], ordinal: u64, out: &mut [u8]) -> u64
 // How many blocks a file and the files inside it have.
 #[no_mangle]
 pub extern "C" fn asdf_count(file: &[u8]) -> u64
-    ensures { λ r. ⌜ r ≡ Export·word (recordCount (now (file .entry))) ⌝ }
+    ensures { λ r. ⌜ Returned (recordCount (now (file .entry))) (length (now (file .entry))) r ⌝ }
 {
     word::counted(nest::count(file))
 }
@@ -53,7 +54,7 @@ pub extern "C" fn asdf_count(file: &[u8]) -> u64
 // The outline of a file: 16 bytes for each block.
 #[no_mangle]
 pub extern "C" fn asdf_outline(file: &[u8], out: &mut [u8]) -> u64
-    ensures { λ r. ⌜ Exported (Outline·outline (now (file .entry))) (now (out .entry)) (now (out .exit)) r ⌝ }
+    ensures { λ r. ⌜ OutlineExported (now (file .entry)) (now (out .entry)) (now (out .exit)) r ⌝ }
 {
     word::counted(nest::outline(file, out))
 }
@@ -61,7 +62,7 @@ pub extern "C" fn asdf_outline(file: &[u8], out: &mut [u8]) -> u64
 // The record of block k in walking order: 120 bytes, or none where there is no such block.
 #[no_mangle]
 pub extern "C" fn asdf_record(file: &[u8], k: u64, out: &mut [u8]) -> u64
-    ensures { λ r. ⌜ Exported (foundBytes recordFields (recordAt (now (file .entry)) k)) (now (out .entry)) (now (out .exit)) r ⌝ }
+    ensures { λ r. ⌜ Exported (now (file .entry)) (foundBytes recordFields (recordAt (now (file .entry)) k)) (now (out .entry)) (now (out .exit)) r ⌝ }
 {
     word::counted(nest::record(file, k, out))
 }
@@ -69,7 +70,7 @@ pub extern "C" fn asdf_record(file: &[u8], k: u64, out: &mut [u8]) -> u64
 // The records of all blocks in walking order: 120 bytes for each.
 #[no_mangle]
 pub extern "C" fn asdf_records(file: &[u8], out: &mut [u8]) -> u64
-    ensures { λ r. ⌜ Exported (recordTable (now (file .entry))) (now (out .entry)) (now (out .exit)) r ⌝ }
+    ensures { λ r. ⌜ Exported (now (file .entry)) (recordTable (now (file .entry))) (now (out .entry)) (now (out .exit)) r ⌝ }
 {
     word::counted(nest::records(file, out))
 }
@@ -85,7 +86,7 @@ pub extern "C" fn asdf_index(file: &[u8], out: &mut [u8]) -> u64
 // How many rows a stored outline has.
 #[no_mangle]
 pub extern "C" fn asdf_stored_count(stored: &[u8]) -> u64
-    ensures { λ r. ⌜ r ≡ Export·word (storedCount (now (stored .entry))) ⌝ }
+    ensures { λ r. ⌜ Returned (storedCount (now (stored .entry))) (length (now (stored .entry))) r ⌝ }
 {
     word::counted(outline::stored::count(stored))
 }
@@ -93,14 +94,14 @@ pub extern "C" fn asdf_stored_count(stored: &[u8]) -> u64
 // Row k of a stored outline: 80 bytes, or none where there is no such row.
 #[no_mangle]
 pub extern "C" fn asdf_stored_row(stored: &[u8], k: u64, out: &mut [u8]) -> u64
-    ensures { λ r. ⌜ Exported (foundBytes rowFields (storedAt (now (stored .entry)) k)) (now (out .entry)) (now (out .exit)) r ⌝ }
+    ensures { λ r. ⌜ Exported (now (stored .entry)) (foundBytes rowFields (storedAt (now (stored .entry)) k)) (now (out .entry)) (now (out .exit)) r ⌝ }
 {
     match outline::stored::row(stored, k) {
         RowAnswer::Refused(r) => word::refused(r),
         RowAnswer::NoSuchRow => 0,
         RowAnswer::Found(r) => {
             let numbers = put::fields::row_fields(r);
-            word::put_numbers(out, &numbers)
+            word::counted(word::put_numbers(out, &numbers))
         }
     }
 }
@@ -108,7 +109,7 @@ pub extern "C" fn asdf_stored_row(stored: &[u8], k: u64, out: &mut [u8]) -> u64
 // A stored outline, read and written again: the same bytes.
 #[no_mangle]
 pub extern "C" fn asdf_rewrite(stored: &[u8], out: &mut [u8]) -> u64
-    ensures { λ r. ⌜ Exported (rewritten (now (stored .entry))) (now (out .entry)) (now (out .exit)) r ⌝ }
+    ensures { λ r. ⌜ RewriteExported (now (stored .entry)) (now (out .entry)) (now (out .exit)) r ⌝ }
 {
     word::counted(outline::stored::rewrite(stored, out))
 }

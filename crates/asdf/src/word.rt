@@ -1,9 +1,10 @@
 // Answers as one number, and numbers in the lent buffer.
 ghost use mathlib.Core.Path.{_≡_};
-ghost use Rattle.format.specs.Outcome.{accepted, refused as Outcome·refused};
+ghost use Rattle.format.specs.Outcome.{accepted, refused as Outcome·refused, _>>_ as Outcome·then};
 ghost use Rattle.format.specs.Answer.{countAnswer, editAnswer};
+ghost use Rattle.format.specs.Export.{word};
 ghost use Rattle.format.specs.Fields.{numberBytes};
-ghost use Rattle.asdf.specs.Export.{Exported, word, doneWord};
+ghost use Rattle.format.specs.Written.{Written};
 use format::answer::CountAnswer;
 use format::answer::EditAnswer;
 use format::offset::Offset;
@@ -28,7 +29,7 @@ pub(crate) fn counted(a: CountAnswer) -> u64
 
 // 0 where it was edited, or the refusal.
 pub(crate) fn edited(a: EditAnswer) -> u64
-    ensures { λ w. ⌜ w ≡ doneWord (editAnswer a) ⌝ }
+    ensures { λ w. ⌜ w ≡ word (Outcome·then (editAnswer a) (accepted 0)) ⌝ }
 {
     match a {
         EditAnswer::Edited => 0,
@@ -38,15 +39,15 @@ pub(crate) fn edited(a: EditAnswer) -> u64
 
 // Puts numbers at the buffer's start, each in eight bytes, and answers how many bytes that are; refuses a buffer that is too
 // short.
-pub(crate) fn put_numbers(out: &mut [u8], numbers: &[u64]) -> u64
-    ensures { λ r. ⌜ Exported (accepted (numberBytes (now (numbers .entry)))) (now (out .entry)) (now (out .exit)) r ⌝ }
+pub(crate) fn put_numbers(out: &mut [u8], numbers: &[u64]) -> CountAnswer
+    ensures { λ r. ⌜ Written (accepted (numberBytes (now (numbers .entry)))) (now (out .entry)) (now (out .exit)) r ⌝ }
 {
     if out.len() / 8 < numbers.len() {
-        return refused(Refusal {
+        return CountAnswer::Refused(Refusal {
             number: 21,
             place: Offset(0),
         });
     }
     put::put_numbers(out, 0, numbers);
-    8 * numbers.len() as u64
+    CountAnswer::Counted(8 * numbers.len() as u64)
 }

@@ -1,10 +1,14 @@
 -- A refusal is returned, of no block nothing is put, and a block is put.
 use borrow.Author.Needs.{needs}
-use Rattle.asdf.proofs.AnswerLaws.{block-refused, block-none, block-put}
+use Rattle.format.specs.Answer.{blockAnswer}
+use Rattle.format.specs.Fields.{blockFields}
+use Rattle.format.proofs.NumberedLaws.{numbered-block-at}
+use Rattle.asdf.proofs.AnswerLaws.{found-refused, found-none, found-put}
 use Rattle.asdf.proofs.asdf_block.Statement.{statement}
 use Rattle.asdf.proofs.asdf_block.Tie as tie
 
 pub asdf-block-spec : {M : Type 1} → statement M
+unfolding blockAnswer
 asdf-block-spec =
     tie.close
     (tie.spec
@@ -16,7 +20,8 @@ asdf-block-spec =
     (λ c κs. search needs)
     (λ c. search needs)
     (λ c κs. search needs)
-    (λ c. search (block-refused, needs))
-    (λ c. search (block-none, needs))
+    (λ c κs. search needs)
+    (λ c. search (found-refused blockAnswer blockFields, numbered-block-at, needs))
+    (λ c. search (found-none blockAnswer blockFields, numbered-block-at, needs))
     (λ c. search needs)
-    (λ c. search (block-put, needs)))
+    (λ c. search (found-put blockAnswer blockFields, numbered-block-at, needs)))

@@ -1,6 +1,8 @@
 -- The count, or the refusal, is returned.
 use borrow.Author.Needs.{needs}
-use Rattle.asdf.proofs.WordLaws.{word-count}
+use Rattle.format.proofs.NumberedLaws.{numbered-count}
+use Rattle.asdf.proofs.CountLaws.{count-few}
+use Rattle.asdf.proofs.WordLaws.{returned-count}
 use Rattle.asdf.proofs.asdf_count.Statement.{statement}
 use Rattle.asdf.proofs.asdf_count.Tie as tie
 
@@ -10,4 +12,4 @@ asdf-count-spec =
     (tie.spec
     (λ c κs. search needs)
     (λ c κs. search needs)
-    (λ c. search (word-count, needs)))
+    (λ c. search (returned-count, count-few, numbered-count, needs)))

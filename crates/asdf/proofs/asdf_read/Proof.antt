@@ -15,6 +15,7 @@ asdf-read-spec =
     (λ c κs. search needs)
     (λ c. search needs)
     (λ c κs. search needs)
+    (λ c κs. search needs)
     (λ c. search (layout-refused, needs))
     (λ c. search needs)
     (λ c. search (layout-put, needs)))

@@ -1,5 +1,6 @@
 -- What the writer answers is returned.
 use borrow.Author.Needs.{needs}
+use Rattle.format.proofs.NumberedLaws.{numbered-record-at}
 use Rattle.asdf.proofs.WordLaws.{exported-written}
 use Rattle.asdf.proofs.asdf_record.Statement.{statement}
 use Rattle.asdf.proofs.asdf_record.Tie as tie
@@ -11,4 +12,4 @@ asdf-record-spec =
     (λ c κs. search needs)
     (λ c κs. search needs)
     (λ c. search needs)
-    (λ c. search (exported-written, needs)))
+    (λ c. search (exported-written, numbered-record-at, needs)))

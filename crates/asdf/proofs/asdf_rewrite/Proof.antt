@@ -1,6 +1,6 @@
--- What the writer answers is returned.
+-- All that the writer promises holds of the number that is returned.
 use borrow.Author.Needs.{needs}
-use Rattle.asdf.proofs.WordLaws.{exported-written}
+use Rattle.asdf.proofs.WordLaws.{exported-rewrite}
 use Rattle.asdf.proofs.asdf_rewrite.Statement.{statement}
 use Rattle.asdf.proofs.asdf_rewrite.Tie as tie
 
@@ -11,4 +11,4 @@ asdf-rewrite-spec =
     (λ c κs. search needs)
     (λ c κs. search needs)
     (λ c. search needs)
-    (λ c. search (exported-written, needs)))
+    (λ c. search (exported-rewrite, needs)))

@@ -1,6 +1,8 @@
 -- The count, or the refusal, is returned.
 use borrow.Author.Needs.{needs}
-use Rattle.asdf.proofs.WordLaws.{word-count}
+use Rattle.format.proofs.NumberedLaws.{numbered-stored-count}
+use Rattle.asdf.proofs.CountLaws.{stored-count-few}
+use Rattle.asdf.proofs.WordLaws.{returned-count}
 use Rattle.asdf.proofs.asdf_stored_count.Statement.{statement}
 use Rattle.asdf.proofs.asdf_stored_count.Tie as tie
 
@@ -10,4 +12,4 @@ asdf-stored-count-spec =
     (tie.spec
     (λ c κs. search needs)
     (λ c κs. search needs)
-    (λ c. search (word-count, needs)))
+    (λ c. search (returned-count, stored-count-few, numbered-stored-count, needs)))

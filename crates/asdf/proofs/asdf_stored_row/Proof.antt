@@ -1,10 +1,14 @@
 -- A refusal is returned, of no row nothing is put, and a row is put.
 use borrow.Author.Needs.{needs}
-use Rattle.asdf.proofs.AnswerLaws.{row-refused, row-none, row-put}
+use Rattle.format.specs.Answer.{rowAnswer}
+use Rattle.format.specs.Fields.{rowFields}
+use Rattle.format.proofs.NumberedLaws.{numbered-stored-at}
+use Rattle.asdf.proofs.AnswerLaws.{found-refused, found-none, found-put}
 use Rattle.asdf.proofs.asdf_stored_row.Statement.{statement}
 use Rattle.asdf.proofs.asdf_stored_row.Tie as tie
 
 pub asdf-stored-row-spec : {M : Type 1} → statement M
+unfolding rowAnswer
 asdf-stored-row-spec =
     tie.close
     (tie.spec
@@ -16,7 +20,8 @@ asdf-stored-row-spec =
     (λ c κs. search needs)
     (λ c. search needs)
     (λ c κs. search needs)
-    (λ c. search (row-refused, needs))
-    (λ c. search (row-none, needs))
+    (λ c κs. search needs)
+    (λ c. search (found-refused rowAnswer rowFields, numbered-stored-at, needs))
+    (λ c. search (found-none rowAnswer rowFields, numbered-stored-at, needs))
     (λ c. search needs)
-    (λ c. search (row-put, needs)))
+    (λ c. search (found-put rowAnswer rowFields, numbered-stored-at, needs)))

@@ -9,7 +9,6 @@ pub put-numbers-spec : {M : Type 1} → statement M
 put-numbers-spec =
     tie.close
     (tie.spec
-    (λ c κs. search needs)
     (λ c. search (numbers-short, needs))
     (λ c κs. search needs)
     (λ c. search needs)
