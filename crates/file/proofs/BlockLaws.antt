@@ -1,6 +1,6 @@
 -- A block's header: one law for each way out of the tests, and what an accepted block says.
 use Prim.Native.Nat.{ℕ, _+_, _-_, _%_, _^_, _≤_, _<_}
-use native.Mathlib.Nat.{le-refl, lt-of-lt-of-le, mod-eq-of-lt, pow-le-pow-right}
+use native.Mathlib.Nat.{lt-of-lt-of-le, mod-eq-of-lt, pow-le-pow-right}
 use native.Mathlib.Omega.{arith}
 use mathlib.Core.Path.{_≡_, refl, sym, ap, _∙_}
 use mathlib.Core.Bool.{Bool, true, false, not, _||_}
@@ -10,16 +10,17 @@ use lib.Seq.{length-take-le, drop-append-add, drop-drop}
 use lib.Dec.{leb, eqb}
 use mir.Syntax.{w8, w64}
 use mir.Val.{Fits}
-use borrow.Author.Tests.{leb-true, le-leb, lt-leb, eq-eqb, ne-eqb, not-true, not-false}
+use borrow.Author.Tests.{le-leb, lt-leb, eq-eqb, ne-eqb, not-true, not-false}
 use Rattle.format.specs.declared.block.Block.{Block}
 use Rattle.format.specs.declared.refusal.Refusal.{Refusal}
 use Rattle.format.specs.Bytes.{Bytes}
 use Rattle.format.specs.Outcome.{Outcome, accepted, refused, refusal, need, _>>_}
-use Rattle.format.specs.Block.{headerSize, flags, compression, allocatedSize, dataSize, leastHeader, isStreamed, contentStart, bytesLeft, blockWith, block}
+use Rattle.format.specs.Block.{headerSize, flags, compression, allocatedSize, dataSize, leastHeader, isStreamed, contentStart, blockWith, block}
 use Rattle.format.specs.Tree.{mark}
 use Rattle.format.specs.Chain.{extent}
-use Rattle.format.proofs.OutcomeLaws.{Accepts, accepts-need, accepted-holds, choice}
+use Rattle.format.proofs.OutcomeLaws.{accepted-holds}
 use Rattle.format.proofs.PackLaws.{is-bytes-take, is-bytes-drop, big-endian-lt}
+use Rattle.format.proofs.BlockLaws.{Starts, block-starts}
 use Rattle.scan.specs.Number.{BigEndian}
 use Rattle.file.specs.declared.block.BlockStep.{BlockStep}
 use Rattle.file.specs.declared.block.BlockStep.the-variants.{Read, Refused}
@@ -226,26 +227,6 @@ module _ (t : Bytes) (f : ℕ) (bits : FieldRead t 6 10 f) where
   pub link-plain : (h a : ℕ) → FieldRead t 4 6 h → FieldRead t 14 22 a → (f % 2 ≡ 1 → ⊥) → LinkStep·is.Block (6 + h + a) ≡ soundLink t
   unfolding soundLink
   link-plain h a rh ra s = rw (soundLink, ← bits .is, ne-eqb (f % 2) 1 s, rh .is, ra .is)
-
--- the bytes t, from offset n on, begin with the block b
-pub record Starts (n : ℕ) (t : Bytes) (b : Block) : Type 0 where
-  pub at : b .at .0 ≡ n
-  pub header-least : leastHeader ≤ b .«header_size»
-  pub inside : extent b ≤ length t
-  pub used : b .used ≤ b .allocated
-
-module _ (i n : ℕ) (t : Bytes) where
-  -- a block starts where its tests hold
-  with-starts : (a u d : ℕ) → leb leastHeader (headerSize t) ≡ true → leb (contentStart t) (length t) ≡ true → a ≤ bytesLeft t → u ≤ a
-      → Starts n t (blockWith i n t a u d)
-  unfolding blockWith
-  with-starts a u d least h k used =
-      record { at = refl; header-least = leb-true _ _ least; inside = omega (arith, leb-true (contentStart t) (length t) h); used = used }
-
-  -- and so does an accepted block
-  pub block-starts : Accepts (Starts n t) (block i n t)
-  unfolding block
-  block-starts = search (accepts-need, choice (Accepts (Starts n t)) (isStreamed (flags t)), with-starts, leb-true, le-refl) depth 12
 
 module _ (i n : ℕ) (t : Bytes) where
   -- a sound block has the flags of its header

@@ -1,10 +1,9 @@
 -- A block takes 54 bytes or more of its file beside its content, so a file has at most one record for 54 bytes.
 use Prim.Native.Nat.{ℕ, zero, suc, _+_, _*_, _≤_}
 use native.Mathlib.Omega.{arith}
-use mathlib.Core.Path.{_≡_}
 use mathlib.Core.Bool.{Bool, true, false}
-use mathlib.Core.List.{List, [], _∷_, _++_, map}
-use lib.ListN.{length, take, drop, length-append, length-take, length-drop, length-map}
+use mathlib.Core.List.{List, [], _∷_}
+use lib.ListN.{length, drop, length-append, length-take, length-drop, length-map}
 use Rattle.format.specs.declared.block.Block.{Block}
 use Rattle.format.specs.declared.block.Record.{Record}
 use Rattle.format.specs.declared.row.Row.{Row}
@@ -13,12 +12,12 @@ use Rattle.format.specs.Outcome.{Outcome, accepted, refused, _>>=_}
 use Rattle.format.specs.Tree.{mark}
 use Rattle.format.specs.Block.{isStreamed, block}
 use Rattle.format.specs.Chain.{Chain, mostBlocks, extent, ended, linked, isTail, tail, chain}
-use Rattle.format.specs.File.{File, file}
+use Rattle.format.specs.File.{file}
 use Rattle.format.specs.Nest.{deepest, contentAt, contentOf, isFile, Inside, inside, opened, walked, walk, walkFile, recordsFrom, records}
 use Rattle.format.specs.Outline.{rowOf, rows}
 use Rattle.format.proofs.FileLaws.{blocksStart, file-parts}
 use Rattle.format.proofs.OutcomeLaws.{Accepts, accepted-holds, accepts-bind, accepts-need, choice}
-use Rattle.file.proofs.BlockLaws.{Starts, block-starts}
+use Rattle.format.proofs.BlockLaws.{Starts, block-starts}
 
 -- how many bytes blocks take at least: their headers and contents
 abbrev taken : List Block → ℕ

@@ -18,13 +18,13 @@ use Rattle.format.specs.Chain.{Chain, mostBlocks, extent, ended, linked, tail, 
 use Rattle.format.specs.File.{offsets, table, file, blockAt}
 use Rattle.format.specs.Answer.{blockAnswer}
 use Rattle.format.proofs.OutcomeLaws.{Accepts, accepted-holds, accepts-bind, accepts-need, choice}
+use Rattle.format.proofs.BlockLaws.{Starts, block-starts}
 use Rattle.file.specs.declared.block.BlockStep.{BlockStep}
 use Rattle.file.specs.declared.block.BlockStep.the-variants as BlockStep·is
 use Rattle.file.specs.Step.{blockOf}
 use Rattle.file.specs.Block.{BlockRead}
 use Rattle.file.specs.Layout.{Kept}
 use Rattle.file.proofs.PartLaws.{part-all}
-use Rattle.file.proofs.BlockLaws.{Starts, block-starts}
 
 -- b is read as block i where it begins
 record IsBlock (s : Bytes) (i : ℕ) (b : Block) : Type 0 where

@@ -1,7 +1,7 @@
 -- The chain of blocks and the tail behind the last of them.
 use Prim.Native.Nat.{ℕ, zero, suc, _+_}
 use mathlib.Core.Bool.{Bool, true, false, _||_}
-use mathlib.Core.List.{List, [], _∷_, map}
+use mathlib.Core.List.{List, [], _∷_}
 use lib.ListN.{drop}
 use Rattle.format.specs.declared.block.Block.{Block}
 use Rattle.format.specs.Bytes.{Bytes, begins, allZero}

@@ -1,8 +1,8 @@
 -- One file by itself, front to back.
 use Prim.Native.Nat.{ℕ, _-_}
-use mathlib.Core.Bool.{Bool, true, false, _||_, not}
+use mathlib.Core.Bool.{Bool, true}
 use mathlib.Core.List.{List, [], _∷_, _++_, map}
-use mathlib.Core.Option.{Option, none, some}
+use mathlib.Core.Option.{Option}
 use lib.ListN.{length, drop, replicate, getElem?}
 use lib.Dec.{leb}
 use Rattle.format.specs.declared.layout.Header.{Header}

@@ -1,7 +1,7 @@
 -- The outline: a row of sixteen bytes for each block. And the reader of stored outlines.
 use Prim.Native.Nat.{ℕ, zero, suc, _+_, _*_, _/_, _%_, _^_}
-use mathlib.Core.Bool.{Bool, true, false, _&&_, _||_, not}
-use mathlib.Core.List.{List, [], _∷_, _++_, map, flatMap}
+use mathlib.Core.Bool.{Bool, _&&_, not}
+use mathlib.Core.List.{List, [], _∷_, map, flatMap}
 use mathlib.Core.Option.{Option}
 use lib.ListN.{length, take, drop, getD, getElem?}
 use lib.Dec.{eqb, leb}

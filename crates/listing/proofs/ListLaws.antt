@@ -1,9 +1,9 @@
 -- The listing that is written: one law for each way out.
-use Prim.Native.Nat.{ℕ, _+_, _*_, _/_, _%_, _≤_, _<_}
+use Prim.Native.Nat.{ℕ, _/_, _≤_, _<_}
 use native.Mathlib.Omega.{arith}
 use mathlib.Core.Path.{_≡_, refl, sym, ap, _∙_}
 use mathlib.Core.Bool.{Bool, true, false, and-false}
-use mathlib.Core.List.{List, [], _∷_, _++_, flatMap}
+use mathlib.Core.List.{List, []}
 use lib.ListN.{length, take, getD, length-take}
 use lib.Dec.{leb}
 use borrow.Author.Tests.{le-leb, lt-leb, leb-true, leb-false}
@@ -22,18 +22,18 @@ use Rattle.format.specs.File.{File, file, layout, layoutOf}
 use Rattle.format.specs.Lent.{placed, writes, leaves}
 use Rattle.format.specs.Outcome.{Outcome, accepted, refused, refusal, _>>=_}
 use Rattle.format.specs.Outline.{outlineOf, rows, outline, stored}
-use Rattle.format.specs.Listing.{mostInput, sentence, treeText, rowText, listed, printed, listing}
+use Rattle.format.specs.Listing.{mostInput, sentence, listed, printed, listing}
 use Rattle.format.proofs.ByteLaws.{and-right}
-use Rattle.format.proofs.OutcomeLaws.{Accepts, accepted-holds, accepts-bind}
+use Rattle.format.proofs.OutcomeLaws.{accepted-holds, accepts-bind}
 use Rattle.format.proofs.OutlineLaws.{refused-no-rows, accepted-rows, read-back}
 use Rattle.format.specs.Written.{Written, OutlineWritten}
 use Rattle.put.proofs.PutLaws.{placed-none, placed-nothing}
 use Rattle.put.proofs.WrittenLaws.{written-short, written-placed, Taken, written-taken}
 use Rattle.outline.specs.Row.{rowsIn}
 use Rattle.outline.proofs.StoredLaws.{Read, read-stored}
-use Rattle.format.specs.Listed.{outlineBytes, outlineFor, bothFit, putIf, BothPut, lentBytes, Listed, ListedLent}
+use Rattle.format.specs.Listed.{outlineBytes, outlineFor, bothFit, BothPut, lentBytes, Listed, ListedLent}
 use Rattle.listing.specs.Listing.{mostOutline, BothShort, Short}
-use Rattle.listing.specs.Text.{fileText, verdictText, PutAt}
+use Rattle.listing.specs.Text.{fileText, PutAt}
 use Rattle.file.proofs.FewLaws.{rows-few}
 
 -- a text alone

@@ -3,8 +3,8 @@ use Prim.Native.Nat.{ℕ, zero, suc, _+_, _*_, _-_, _/_, _^_, _≤_, _<_}
 use native.Mathlib.Numerals.{add-one}
 use native.Mathlib.Omega.{arith}
 use mathlib.Core.Path.{_≡_, refl, sym, ap, _∙_}
-use mathlib.Core.Option.{Option, none, some}
-use mathlib.Core.List.{List, [], _∷_, _++_, map, flatMap, append-nil, append-assoc}
+use mathlib.Core.Option.{none, some}
+use mathlib.Core.List.{List, [], _∷_, _++_, map, flatMap, append-assoc}
 use lib.ListN.{length, take, drop, getD, length-drop}
 use lib.Seq.{length-take-le, take-suc, take-all, drop-drop}
 use borrow.Author.Tests.{le-leb}
@@ -22,7 +22,7 @@ use Rattle.format.specs.Bytes.{Bytes, text}
 use Rattle.format.specs.Fields.{rowFields}
 use Rattle.format.specs.Lent.{placed}
 use Rattle.format.specs.Numeral.{decimal}
-use Rattle.format.specs.Outcome.{Outcome, accepted, refused}
+use Rattle.format.specs.Outcome.{accepted, refused}
 use Rattle.format.specs.Outline.{decodeRow}
 use Rattle.format.specs.Listing.{sentence, treeText, rowText, verdictWord, printed}
 use Rattle.put.specs.Decimal.{DecimalLength}

@@ -2,7 +2,6 @@
 // short: what is put into an empty buffer is only measured. Each promise names the most bytes that the part can have: 21 for a
 // number and the space before it, 32 for words, 53 for the line of a row that is read from sixteen bytes.
 ghost use Prim.Native.Nat.{_+_, _*_, _/_, _^_, _≤_, _<_};
-ghost use mathlib.Core.Path.{_≡_};
 ghost use mathlib.Core.List.{_∷_, map};
 ghost use lib.ListN.{length, take, drop};
 ghost use Rattle.format.specs.Numeral.{decimal as Numeral·decimal};

@@ -19,12 +19,12 @@ use Rattle.format.specs.Nest.{inside}
 use Rattle.format.specs.File.{File, file}
 use Rattle.format.proofs.FileLaws.{blocksStart, file-parts, in-order}
 use Rattle.format.proofs.OutcomeLaws.{Accepts, accepted-holds, accepts-bind, accepts-need, choice}
+use Rattle.format.proofs.BlockLaws.{Starts, block-starts}
 use Rattle.file.specs.declared.block.BlockStep.{BlockStep}
 use Rattle.file.specs.declared.block.BlockStep.the-variants as BlockStep·is
 use Rattle.file.specs.Step.{blockOf}
 use Rattle.file.specs.Block.{BlockRead}
 use Rattle.file.proofs.PartLaws.{part-all}
-use Rattle.file.proofs.BlockLaws.{Starts, block-starts}
 use Rattle.nest.specs.Walk.{blocksFrom, BlockAt}
 
 -- the blocks of a chain are those that are read from offset n on, and there are not more than allowed

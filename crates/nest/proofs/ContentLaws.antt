@@ -18,7 +18,7 @@ use Rattle.format.specs.Bytes.{Bytes, begins}
 use Rattle.format.specs.Header.{token}
 use Rattle.format.specs.Outcome.{Outcome, accepted, refused, _>>=_}
 use Rattle.format.specs.File.{mostBytes, File, file, layout, layoutOf, firstBlock}
-use Rattle.format.specs.Nest.{deepest, closed, opened, isFile, walkFile, recordsFrom, records}
+use Rattle.format.specs.Nest.{deepest, closed, opened, isFile, walkFile, recordsFrom}
 use Rattle.format.proofs.FileLaws.{blocksStart, file-parts}
 use Rattle.format.proofs.OutcomeLaws.{accepted-holds, accepts-bind}
 use Rattle.nest.specs.Walk.{readsFor, reads, insideOf, recordsOf, IsOpen}

@@ -6,14 +6,13 @@ use mathlib.Core.List.{List, [], _∷_}
 use lib.ListN.{length, drop}
 use Rattle.format.specs.declared.block.Block.{Block}
 use Rattle.format.specs.declared.block.Record.{Record}
-use Rattle.format.specs.declared.block.Inner.{Inner}
 use Rattle.format.specs.declared.block.Inner.the-variants.{TooDeep, Plain, Opened}
 use Rattle.format.specs.declared.offset.OutermostOffset.{OutermostOffset}
 use Rattle.format.specs.Bytes.{Bytes}
-use Rattle.format.specs.Outcome.{Outcome, accepted, refused}
+use Rattle.format.specs.Outcome.{accepted, refused}
 use Rattle.format.specs.Block.{block}
 use Rattle.format.specs.Chain.{extent, mostBlocks}
-use Rattle.format.specs.Nest.{deepest, contentAt, contentOf, Inside, closed, opened, isFile, walk, recordsFrom, records}
+use Rattle.format.specs.Nest.{deepest, contentAt, Inside, closed, opened, isFile, walk, recordsFrom, records}
 use Rattle.nest.specs.declared.walk.NextStep.{NextStep}
 use Rattle.nest.specs.declared.walk.NextStep.the-variants as NextStep·is
 use Rattle.nest.specs.declared.walk.ContentStep.{ContentStep}

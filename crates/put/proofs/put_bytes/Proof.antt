@@ -1,6 +1,5 @@
 -- Eight bytes by halves, four at once, or any number.
 use borrow.Author.Needs.{needs}
-use lib.Seq.{length-sets}
 use Rattle.put.proofs.PutLaws.{eight-put, four-all}
 use Rattle.put.proofs.put_bytes.Statement.{statement}
 use Rattle.put.proofs.put_bytes.Tie as tie
