@@ -9,7 +9,7 @@ use Rattle.format.specs.Bytes.{Bytes, text}
 use Rattle.format.specs.Outcome.{accepted, refused, refusal}
 use Rattle.format.specs.Tree.{mark}
 use Rattle.format.specs.Edited.{treeAt}
-use Rattle.format.specs.Examples.{Example, Reads, Lists, States, Records, fileA, fileB, blockHeader, emptyBlock, indexWith, layoutWith}
+use Rattle.format.specs.Examples.{Example, Reads, Edits, Lists, States, Records, fileA, fileB, blockHeader, emptyBlock, indexWith, layoutWith}
 
 -- n copies, one behind another
 abbrev pub copies : ℕ → Bytes → Bytes
@@ -63,4 +63,7 @@ misreadings =
     -- 64 blocks, and the mark of one more
     ∷ Reads (fileA ++ copies 64 emptyBlock) (layoutWith NoTree 64 Absent)
     ∷ Reads (fileA ++ copies 64 emptyBlock ++ mark) (refused (refusal 16 3468))
+    -- an edit to an equal text turns the free space to spaces, and a text ends with its tree
+    ∷ Edits (fileA ++ text "%YAML 1.1\n---\n...\nxx") (text "%YAML 1.1\n---\n...\n") (accepted (fileA ++ text "%YAML 1.1\n---\n...\n  "))
+    ∷ Edits (fileA ++ text "%YAML 1.1\n---\n...\nxx") (text "%YAML 1.1\n---\n...\n ") (refused (refusal 19 0))
     ∷ []
