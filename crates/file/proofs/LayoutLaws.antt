@@ -8,7 +8,6 @@ use lib.Seq.{drop-cons}
 use borrow.Author.Tests.{le-leb, lt-leb, not-true, not-false}
 use Rattle.format.specs.declared.answer.LayoutAnswer.{LayoutAnswer}
 use Rattle.format.specs.declared.answer.LayoutAnswer.the-variants as LayoutAnswer·is
-use Rattle.format.specs.declared.answer.OffsetsAnswer.{OffsetsAnswer}
 use Rattle.format.specs.declared.answer.BlockAnswer.the-variants as BlockAnswer·is
 use Rattle.format.specs.declared.layout.Header.{Header}
 use Rattle.format.specs.declared.layout.Tree.{Tree}
@@ -43,24 +42,24 @@ use Rattle.file.specs.Layout.{fileWith, withBlocks, behindTree, behindCo
 use Rattle.file.proofs.PartLaws.{part-all}
 use Rattle.file.proofs.KeptLaws.{table-kept, enough-kept}
 
--- a refusal and a table of zeros answer for a refused file
-pub refused-judged : (r : Refusal) → Judged (refused r) (record { layout = LayoutAnswer·is.Refused r; offsets = replicate mostBlocks 0 })
-unfolding layoutAnswer offsetTable
-refused-judged r = record { is = refl; table = refl }
+-- a refused file is answered by its refusal
+refused-judged : (o : Outcome File) (out : Bytes) (r : Refusal) → o ≡ refused r → Judged o out (LayoutAnswer·is.Refused r)
+unfolding layoutAnswer
+refused-judged o out r h = record { is = rw h; kept = λ f e. cc }
 
--- a layout and the table of its blocks answer for an accepted file
+-- an accepted file is answered by its layout, where out is the table of its blocks
 accepted-judged : (o : Outcome File) (out : Bytes) (l : Layout) (f : File) → o ≡ accepted f → l ≡ layoutOf f → out ≡ table (f .blocks)
-    → Judged o (record { layout = LayoutAnswer·is.Accepted l; offsets = out })
-unfolding layoutAnswer offsetTable
-accepted-judged o out l f h e k = record { is = rw (h, e); table = rw (h, k) }
+    → Judged o out (LayoutAnswer·is.Accepted l)
+unfolding layoutAnswer
+accepted-judged o out l f h e k = record { is = rw (h, e); kept = λ g q. let same : f ≡ g = cc in rw same at k }
 
-module _ {A : Type 0} (o : Outcome File) (p : Outcome A) (then : A → Outcome File) (step : o ≡ _>>=_ p then) where
+module _ {A : Type 0} (o : Outcome File) (p : Outcome A) (then : A → Outcome File) (step : o ≡ _>>=_ p then) (out : Bytes) where
   -- a step that refuses
-  step-refused : (r : Refusal) → p ≡ refused r → (x : OffsetsAnswer) → Judged (refused r) x → Judged o x
-  step-refused r h x j = rw (step, h) j
+  step-refused : (r : Refusal) → p ≡ refused r → Judged o out (LayoutAnswer·is.Refused r)
+  step-refused r h = refused-judged o out r (rw (step, h))
 
   -- a step that accepts hands on to what comes after it
-  step-accepted : (a : A) → p ≡ accepted a → (x : OffsetsAnswer) → Judged (then a) x → Judged o x
+  step-accepted : (a : A) → p ≡ accepted a → (x : LayoutAnswer) → Judged (then a) out x → Judged o out x
   step-accepted a h x j = rw (step, h) j
 
 -- a file that is short enough is read from its header on
@@ -69,21 +68,21 @@ unfolding file behindHeader behindComments behindTree withBlocks
 file-begins s h = rw (le-leb (length s) mostBytes h, file)
 
 -- a file that is too long is refused
-pub file-long : (s : Bytes) → mostBytes < length s → (r : Refusal) → r ≡ refusal 1 0 → (x : OffsetsAnswer) → Judged (refused r) x → Judged (file s) x
+pub file-long : (s : Bytes) → mostBytes < length s → (r : Refusal) → r ≡ refusal 1 0 → (out : Bytes) → Judged (file s) out (LayoutAnswer·is.Refused r)
 unfolding file
-file-long s h r e x j = rw (lt-leb (length s) mostBytes h, file, ← e) j
+file-long s h r e out = refused-judged (file s) out r (rw (lt-leb (length s) mostBytes h, file, e))
 
 module _ (s : Bytes) (x : HeaderStep) (read : headerOf x ≡ header s) where
-  module _ (few : length s ≤ mostBytes) where
+  module _ (few : length s ≤ mostBytes) (out : Bytes) where
     -- the header is refused
-    pub header-refused : (r : Refusal) → x ≡ HeaderStep·is.Refused r → (a : OffsetsAnswer) → Judged (refused r) a → Judged (file s) a
+    pub header-refused : (r : Refusal) → x ≡ HeaderStep·is.Refused r → Judged (file s) out (LayoutAnswer·is.Refused r)
     unfolding headerOf
-    header-refused r e = step-refused (file s) (header s) (behindHeader s) (file-begins s few) r (sym read ∙ ap headerOf e)
+    header-refused r e = step-refused (file s) (header s) (behindHeader s) (file-begins s few) out r (sym read ∙ ap headerOf e)
 
     -- the header is read
-    pub header-read : (h : Header) → x ≡ HeaderStep·is.Read h → (a : OffsetsAnswer) → Judged (behindHeader s h) a → Judged (file s) a
+    pub header-read : (h : Header) → x ≡ HeaderStep·is.Read h → (a : LayoutAnswer) → Judged (behindHeader s h) out a → Judged (file s) out a
     unfolding headerOf
-    header-read h e = step-accepted (file s) (header s) (behindHeader s) (file-begins s few) h (sym read ∙ ap headerOf e)
+    header-read h e = step-accepted (file s) (header s) (behindHeader s) (file-begins s few) out h (sym read ∙ ap headerOf e)
 
   -- it ends inside
   pub header-inside : (h : Header) → x ≡ HeaderStep·is.Read h → h .end .0 ≤ length s
@@ -92,15 +91,15 @@ module _ (s : Bytes) (x : HeaderStep) (read : headerOf x ≡ header s) where
 
 module _ (s : Bytes) (h : Header) (x : EndStep) (read : endOf x ≡ comments (h .end .0) (lines (drop (h .end .0) s))) where
   -- the comments are refused
-  pub comments-refused : (r : Refusal) → x ≡ EndStep·is.Refused r → (a : OffsetsAnswer) → Judged (refused r) a → Judged (behindHeader s h) a
+  pub comments-refused : (out : Bytes) (r : Refusal) → x ≡ EndStep·is.Refused r → Judged (behindHeader s h) out (LayoutAnswer·is.Refused r)
   unfolding endOf behindHeader
-  comments-refused r e = step-refused (behindHeader s h) _ (behindComments s h) refl r (sym read ∙ ap endOf e)
+  comments-refused out r e = step-refused (behindHeader s h) _ (behindComments s h) refl out r (sym read ∙ ap endOf e)
 
   module _ (n : ℕ) (e : x ≡ EndStep·is.At n) where
     -- the comments are read
-    pub comments-read : (a : OffsetsAnswer) → Judged (behindComments s h n) a → Judged (behindHeader s h) a
+    pub comments-read : (out : Bytes) (a : LayoutAnswer) → Judged (behindComments s h n) out a → Judged (behindHeader s h) out a
     unfolding endOf behindHeader
-    comments-read = step-accepted (behindHeader s h) _ (behindComments s h) refl n (sym read ∙ ap endOf e)
+    comments-read out = step-accepted (behindHeader s h) _ (behindComments s h) refl out n (sym read ∙ ap endOf e)
 
     -- they end inside
     pub comments-inside : h .end .0 ≤ length s → n ≤ length s
@@ -110,15 +109,15 @@ module _ (s : Bytes) (h : Header) (x : EndStep) (read : endOf x ≡ comments (h 
 
 module _ (s : Bytes) (h : Header) (n : ℕ) (x : TreeStep) (read : treeOf x ≡ tree n s) where
   -- the tree is refused
-  pub tree-refused : (r : Refusal) → x ≡ TreeStep·is.Refused r → (a : OffsetsAnswer) → Judged (refused r) a → Judged (behindComments s h n) a
+  pub tree-refused : (out : Bytes) (r : Refusal) → x ≡ TreeStep·is.Refused r → Judged (behindComments s h n) out (LayoutAnswer·is.Refused r)
   unfolding treeOf behindComments
-  tree-refused r e = step-refused (behindComments s h n) _ (behindTree s h n) refl r (sym read ∙ ap treeOf e)
+  tree-refused out r e = step-refused (behindComments s h n) _ (behindTree s h n) refl out r (sym read ∙ ap treeOf e)
 
   module _ (t : Tree) (e : x ≡ TreeStep·is.Read t) where
     -- the tree is read
-    pub tree-read : (a : OffsetsAnswer) → Judged (behindTree s h n t) a → Judged (behindComments s h n) a
+    pub tree-read : (out : Bytes) (a : LayoutAnswer) → Judged (behindTree s h n t) out a → Judged (behindComments s h n) out a
     unfolding treeOf behindComments
-    tree-read = step-accepted (behindComments s h n) _ (behindTree s h n) refl t (sym read ∙ ap treeOf e)
+    tree-read out = step-accepted (behindComments s h n) _ (behindTree s h n) refl out t (sym read ∙ ap treeOf e)
 
     -- the blocks begin inside
     pub tree-inside : n ≤ length s → firstBlock n t ≤ length s
@@ -128,23 +127,23 @@ module _ (s : Bytes) (h : Header) (n : ℕ) (x : TreeStep) (read : treeOf x ≡ 
 module _ (s : Bytes) (h : Header) (n : ℕ) (t : Tree) where
   module _ (x y m : Offset) (e : t ≡ Found x y m) where
     -- the blocks begin behind the tree's room
-    pub blocks-behind : (a : OffsetsAnswer) → Judged (withBlocks s h n (Found x y m) (m .0)) a → Judged (behindTree s h n t) a
+    pub blocks-behind : (out : Bytes) (a : LayoutAnswer) → Judged (withBlocks s h n (Found x y m) (m .0)) out a → Judged (behindTree s h n t) out a
     unfolding behindTree goesOn firstBlock
-    blocks-behind a j = rw e j
+    blocks-behind out a j = rw e j
 
     -- the room ends inside
     pub room-inside : firstBlock n t ≤ length s → m .0 ≤ length s
     unfolding firstBlock
     room-inside q = rw e at q
 
-  module _ (e : t ≡ NoTree) (b : Bool) (goes : b ≡ goesOn NoTree (drop n s)) where
+  module _ (e : t ≡ NoTree) (b : Bool) (goes : b ≡ goesOn NoTree (drop n s)) (out : Bytes) where
     -- something else stands where no tree begins
-    pub blocks-none : not b ≡ true → (r : Refusal) → r ≡ refusal 7 n → (a : OffsetsAnswer) → Judged (refused r) a → Judged (behindTree s h n t) a
+    pub blocks-none : not b ≡ true → (r : Refusal) → r ≡ refusal 7 n → Judged (behindTree s h n t) out (LayoutAnswer·is.Refused r)
     unfolding behindTree
-    blocks-none q r i a j = rw (e, behindTree, sym goes ∙ not-true b q, ← i) j
+    blocks-none q r i = refused-judged _ out r (rw (e, behindTree, sym goes ∙ not-true b q, i))
 
     -- the blocks begin there, or the file ends
-    pub blocks-here : not b ≡ false → (a : OffsetsAnswer) → Judged (withBlocks s h n t n) a → Judged (behindTree s h n t) a
+    pub blocks-here : not b ≡ false → (a : LayoutAnswer) → Judged (withBlocks s h n t n) out a → Judged (behindTree s h n t) out a
     unfolding behindTree firstBlock
     blocks-here q a j = rw (e, behindTree, sym goes ∙ not-false b q) (rw e at j)
 
@@ -166,15 +165,15 @@ goes-mark s at h b e = rw (drop-cons s at 0 h) (rw (drop-cons s at 0 h) at e)
 module _ (s : Bytes) (h : Header) (n : ℕ) (t : Tree) (first : ℕ) (out : Bytes) where
   -- the chain c was walked, and v is the verdict on its tail
   chain-judged : (c : Chain) (k : ℕ) → Chained (chain mostBlocks 0 first (drop first s)) out k c → (v : Verdict) → v ≡ verdict (offsets (c .blocks)) (c .tail)
-      → (l : Layout) → l ≡ layoutWith h n t k v → Judged (withBlocks s h n t first) (record { layout = LayoutAnswer·is.Accepted l; offsets = out })
+      → (l : Layout) → l ≡ layoutWith h n t k v → Judged (withBlocks s h n t first) out (LayoutAnswer·is.Accepted l)
   unfolding withBlocks layoutOf
   chain-judged c k w v q l e = accepted-judged _ out l (fileWith h n t c) (rw (w .is, withBlocks)) (rw (e, w .count, q)) (w .kept)
 
   module _ (x : ChainStep) (walked : Walked s (chain mostBlocks 0 first (drop first s)) out x) where
     -- the chain is refused
-    pub walk-refused : (r : Refusal) → x ≡ ChainStep·is.Refused r → (a : OffsetsAnswer) → Judged (refused r) a → Judged (withBlocks s h n t first) a
+    pub walk-refused : (r : Refusal) → x ≡ ChainStep·is.Refused r → Judged (withBlocks s h n t first) out (LayoutAnswer·is.Refused r)
     unfolding withBlocks
-    walk-refused r e = step-refused (withBlocks s h n t first) (chain mostBlocks 0 first (drop first s)) _ refl r (rw e at walked)
+    walk-refused r e = step-refused (withBlocks s h n t first) (chain mostBlocks 0 first (drop first s)) _ refl out r (rw e at walked)
 
     module _ (k : ℕ) (e : x ≡ ChainStep·is.Walked k) where
       -- the walk ended at zeros, or at the end
@@ -186,8 +185,7 @@ module _ (s : Bytes) (h : Header) (n : ℕ) (t : Tree) (first : ℕ) (out : Byte
       alone-few = walked-alone .chained .few
 
       -- no index stands behind the blocks
-      pub alone-judged : (l : Layout) → l ≡ layoutWith h n t k Absent
-          → Judged (withBlocks s h n t first) (record { layout = LayoutAnswer·is.Accepted l; offsets = out })
+      pub alone-judged : (l : Layout) → l ≡ layoutWith h n t k Absent → Judged (withBlocks s h n t first) out (LayoutAnswer·is.Accepted l)
       unfolding verdict
       alone-judged = let w = walked-alone in chain-judged (w .c) k (w .chained) Absent (rw (verdict, w .zeros))
 
@@ -214,21 +212,17 @@ module _ (s : Bytes) (h : Header) (n : ℕ) (t : Tree) (first : ℕ) (out : Byte
 
       -- the tail is judged
       pub to-judged : (v : Verdict) → v ≡ judged (take k out) (indexed (lines (take (length s - m) (drop m s))))
-          → (l : Layout) → l ≡ layoutWith h n t k v → Judged (withBlocks s h n t first) (record { layout = LayoutAnswer·is.Accepted l; offsets = out })
+          → (l : Layout) → l ≡ layoutWith h n t k v → Judged (withBlocks s h n t first) out (LayoutAnswer·is.Accepted l)
       unfolding verdict
       to-judged v q =
           let w = walked-to in
           chain-judged (w .c) k (w .chained) v (q ∙ rw (part-all s m, verdict, w .zeros, to-begin, w .tail))
 
-module _ (s : Bytes) (x : OffsetsAnswer) (judged : Judged (file s) x) where
+module _ (s out : Bytes) (a : LayoutAnswer) (judged : Judged (file s) out a) where
   -- the answer is the layout
-  pub layout-judged : layoutAnswer (x .layout) ≡ layout s
+  pub layout-judged : layoutAnswer a ≡ layout s
   unfolding layout
   layout-judged = judged .is
-
-  -- and the offsets are the file's
-  pub table-judged : x .offsets ≡ offsetTable (file s)
-  table-judged = judged .table
 
 module _ (s : Bytes) (a : LayoutAnswer) (judged : layoutAnswer a ≡ layout s) where
   -- a refusal is the file's
@@ -259,3 +253,25 @@ module _ (s : Bytes) (a : LayoutAnswer) (judged : layoutAnswer a ≡ layout s) w
           let clash : accepted l ≡ refused q = sym (ap layoutAnswer e) ∙ rw (layout, h) at judged in
           let z : _≡_ {A = ℕ} 0 1 = cc in
           absurd (omega arith)
+
+module _ (s out : Bytes) (a : LayoutAnswer) (judged : Judged (file s) out a) where
+  -- the answer that was judged is told again
+  pub layout-again : (x : LayoutAnswer) → a ≡ x → layoutAnswer x ≡ layout s
+  layout-again x e = sym (ap layoutAnswer e) ∙ layout-judged s out a judged
+
+  -- the table of an accepted file is the one that was kept
+  pub table-accepted : (l : Layout) → a ≡ LayoutAnswer·is.Accepted l → out ≡ offsetTable (file s)
+  unfolding layoutAnswer offsetTable
+  table-accepted l e = go (file s) refl
+    where
+      go : (o : Outcome File) → file s ≡ o → out ≡ offsetTable o
+      go (accepted f) h = judged .kept f h
+      go (refused q) h =
+          let clash : accepted l ≡ refused q = sym (ap layoutAnswer e) ∙ rw h at (judged .is) in
+          let z : _≡_ {A = ℕ} 0 1 = cc in
+          absurd (omega arith)
+
+  -- that of a refused one has only zeros
+  pub table-refused : (r : Refusal) → a ≡ LayoutAnswer·is.Refused r → replicate mostBlocks 0 ≡ offsetTable (file s)
+  unfolding offsetTable
+  table-refused r e = rw (file-refused s a (layout-judged s out a judged) r e)

@@ -2,7 +2,7 @@
 use Prim.Native.Nat.{ℕ}
 use mathlib.Core.Path.{_≡_}
 use lib.ListN.{length, take, drop}
-use Rattle.format.specs.declared.answer.OffsetsAnswer.{OffsetsAnswer}
+use Rattle.format.specs.declared.answer.LayoutAnswer.{LayoutAnswer}
 use Rattle.format.specs.declared.layout.Header.{Header}
 use Rattle.format.specs.declared.layout.Tree.{Tree}
 use Rattle.format.specs.declared.layout.Verdict.{Verdict}
@@ -14,7 +14,7 @@ use Rattle.format.specs.Comments.{comments}
 use Rattle.format.specs.Tree.{tree}
 use Rattle.format.specs.Chain.{Chain, chain, mostBlocks}
 use Rattle.format.specs.Index.{verdict}
-use Rattle.format.specs.File.{File, file, firstBlock, goesOn, offsets, offsetTable, layoutOf}
+use Rattle.format.specs.File.{File, file, firstBlock, goesOn, offsets, table, layoutOf}
 use Rattle.format.specs.Answer.{layoutAnswer}
 
 -- the file that has these parts and this chain
@@ -49,10 +49,10 @@ behindHeader s h = do
 abbrev pub layoutWith : Header → ℕ → Tree → ℕ → Verdict → Layout
 layoutWith h n t blocks v = record { header = h; «comments_end» = record { 0 = n }; tree = t; blocks = blocks; verdict = v }
 
--- r answers for the outcome o, with the table of its offsets
-pub record Judged (o : Outcome File) (r : OffsetsAnswer) : Type 0 where
-  pub is : layoutAnswer (r .layout) ≡ _>>=_ o (λ f. accepted (layoutOf f))
-  pub table : r .offsets ≡ offsetTable o
+-- r answers for the outcome o, and out is the table of an accepted file's blocks
+pub record Judged (o : Outcome File) (out : Bytes) (r : LayoutAnswer) : Type 0 where
+  pub is : layoutAnswer r ≡ _>>=_ o (λ f. accepted (layoutOf f))
+  pub kept : (f : File) → o ≡ accepted f → out ≡ table (f .blocks)
 
 -- s is an accepted file of so many blocks, which begin at the first of out
 pub record Kept (s : Bytes) (out : Bytes) (blocks : ℕ) : Type 0 where

@@ -2,9 +2,9 @@
 ghost use mathlib.Core.Path.{_≡_};
 ghost use Rattle.format.specs.Answer.{layoutAnswer, blockAnswer};
 ghost use Prim.Native.Nat.{_≤_};
-ghost use lib.ListN.{length, drop};
+ghost use lib.ListN.{length, drop, replicate};
 ghost use Rattle.format.specs.File.{file, offsetTable, layout, blockAt, firstBlock, goesOn};
-ghost use Rattle.format.specs.Outcome.{refused as Outcome·refused};
+ghost use Rattle.format.specs.Chain.{mostBlocks};
 ghost use Rattle.format.specs.declared.layout.Tree.the-variants.{NoTree};
 ghost use Rattle.file.specs.Layout.{behindHeader, behindComments, behindTree, withBlocks, layoutWith, Judged, Kept};
 use crate::block::BlockStep;
@@ -27,28 +27,32 @@ use format::layout::Layout;
 use format::layout::Tree;
 use format::layout::Verdict;
 use format::offset::Offset;
-use format::refusal::Refusal;
 use scan::mark;
 
 // The layout of a file, or its refusal.
 pub fn read(s: &[u8]) -> LayoutAnswer
     ensures { λ r. ⌜ layoutAnswer r ≡ layout (now (s .entry)) ⌝ }
 {
-    let found = read_with_offsets(s);
-    found.layout
+    let mut offsets = [0u64; 64];
+    judge(s, &mut offsets)
 }
 
-// The same, and where the blocks begin. The offsets after the last block's are 0, and so are all of a refused file.
+// The same, and where the blocks begin. The offsets after the last block's are 0, and so are all of a refused file: what the
+// walk had kept before the refusal is not handed on.
 pub fn read_with_offsets(s: &[u8]) -> OffsetsAnswer
     ensures { λ r. ⌜ layoutAnswer (r .layout) ≡ layout (now (s .entry)) ⌝ }
     ensures { λ r. ⌜ r .offsets ≡ offsetTable (file (now (s .entry))) ⌝ }
 {
-    if 4294967295 < s.len() {
-        return refused(refusal(1, 0));
-    }
-    match header::read_header(s) {
-        HeaderStep::Refused(r) => refused(r),
-        HeaderStep::Read(h) => behind_header(s, h),
+    let mut offsets = [0u64; 64];
+    match judge(s, &mut offsets) {
+        LayoutAnswer::Accepted(l) => OffsetsAnswer {
+            layout: LayoutAnswer::Accepted(l),
+            offsets,
+        },
+        LayoutAnswer::Refused(r) => OffsetsAnswer {
+            layout: LayoutAnswer::Refused(r),
+            offsets: [0u64; 64],
+        },
     }
 }
 
@@ -82,41 +86,58 @@ fn kept_block(s: &[u8], offsets: [u64; 64], blocks: u8, ordinal: u64) -> BlockAn
     }
 }
 
-fn behind_header(s: &[u8], h: Header) -> OffsetsAnswer
+// Judges a file. The offsets are all 0 before; of an accepted file they are the table of its blocks then.
+fn judge(s: &[u8], offsets: &mut [u64; 64]) -> LayoutAnswer
+    requires { ⌜ now offsets ≡ replicate mostBlocks 0 ⌝ }
+    ensures { λ r. ⌜ Judged (file (now (s .entry))) (now (offsets .exit)) r ⌝ }
+{
+    if 4294967295 < s.len() {
+        return LayoutAnswer::Refused(refusal(1, 0));
+    }
+    match header::read_header(s) {
+        HeaderStep::Refused(r) => LayoutAnswer::Refused(r),
+        HeaderStep::Read(h) => behind_header(s, h, offsets),
+    }
+}
+
+fn behind_header(s: &[u8], h: Header, offsets: &mut [u64; 64]) -> LayoutAnswer
     requires { ⌜ h .end .0 ≤ length (now s) ⌝ }
-    ensures { λ r. ⌜ Judged (behindHeader (now (s .entry)) h) r ⌝ }
+    requires { ⌜ now offsets ≡ replicate mostBlocks 0 ⌝ }
+    ensures { λ r. ⌜ Judged (behindHeader (now (s .entry)) h) (now (offsets .exit)) r ⌝ }
 {
     match comments::comments_end(s, h.end.0 as usize) {
-        EndStep::Refused(r) => refused(r),
-        EndStep::At(n) => behind_comments(s, h, n),
+        EndStep::Refused(r) => LayoutAnswer::Refused(r),
+        EndStep::At(n) => behind_comments(s, h, n, offsets),
     }
 }
 
-fn behind_comments(s: &[u8], h: Header, n: usize) -> OffsetsAnswer
+fn behind_comments(s: &[u8], h: Header, n: usize, offsets: &mut [u64; 64]) -> LayoutAnswer
     requires { ⌜ n ≤ length (now s) ⌝ }
-    ensures { λ r. ⌜ Judged (behindComments (now (s .entry)) h n) r ⌝ }
+    requires { ⌜ now offsets ≡ replicate mostBlocks 0 ⌝ }
+    ensures { λ r. ⌜ Judged (behindComments (now (s .entry)) h n) (now (offsets .exit)) r ⌝ }
 {
     match tree::read_tree(s, n) {
-        TreeStep::Refused(r) => refused(r),
-        TreeStep::Read(t) => behind_tree(s, h, n, t),
+        TreeStep::Refused(r) => LayoutAnswer::Refused(r),
+        TreeStep::Read(t) => behind_tree(s, h, n, t, offsets),
     }
 }
 
-fn behind_tree(s: &[u8], h: Header, n: usize, t: Tree) -> OffsetsAnswer
+fn behind_tree(s: &[u8], h: Header, n: usize, t: Tree, offsets: &mut [u64; 64]) -> LayoutAnswer
     requires { ⌜ firstBlock n t ≤ length (now s) ⌝ }
-    ensures { λ r. ⌜ Judged (behindTree (now (s .entry)) h n t) r ⌝ }
+    requires { ⌜ now offsets ≡ replicate mostBlocks 0 ⌝ }
+    ensures { λ r. ⌜ Judged (behindTree (now (s .entry)) h n t) (now (offsets .exit)) r ⌝ }
 {
     match t {
         Tree::Found {
             start: _,
             end: _,
             room_end,
-        } => with_blocks(s, h, n, t, room_end.0 as usize),
+        } => with_blocks(s, h, n, t, room_end.0 as usize, offsets),
         Tree::NoTree => {
             if !goes_on(s, n) {
-                return refused(refusal(7, n));
+                return LayoutAnswer::Refused(refusal(7, n));
             }
-            with_blocks(s, h, n, t, n)
+            with_blocks(s, h, n, t, n, offsets)
         }
     }
 }
@@ -131,39 +152,31 @@ fn goes_on(s: &[u8], at: usize) -> bool
     mark::is_mark(s, at)
 }
 
-fn with_blocks(s: &[u8], h: Header, n: usize, t: Tree, first: usize) -> OffsetsAnswer
+fn with_blocks(
+    s: &[u8],
+    h: Header,
+    n: usize,
+    t: Tree,
+    first: usize,
+    offsets: &mut [u64; 64],
+) -> LayoutAnswer
     requires { ⌜ first ≤ length (now s) ⌝ }
-    ensures { λ r. ⌜ Judged (withBlocks (now (s .entry)) h n t first) r ⌝ }
+    requires { ⌜ now offsets ≡ replicate mostBlocks 0 ⌝ }
+    ensures { λ r. ⌜ Judged (withBlocks (now (s .entry)) h n t first) (now (offsets .exit)) r ⌝ }
 {
-    let mut offsets = [0u64; 64];
-    match chain::walk(s, first, &mut offsets) {
-        ChainStep::Refused(r) => refused(r),
-        ChainStep::Walked(blocks) => {
-            let l = layout_with(h, n, t, blocks, Verdict::Absent);
-            OffsetsAnswer {
-                layout: LayoutAnswer::Accepted(l),
-                offsets,
-            }
-        }
+    match chain::walk(s, first, offsets) {
+        ChainStep::Refused(r) => LayoutAnswer::Refused(r),
+        ChainStep::Walked(blocks) => LayoutAnswer::Accepted(layout_with(
+            h,
+            n,
+            t,
+            blocks,
+            Verdict::Absent,
+        )),
         ChainStep::Indexed { blocks, tail } => {
-            let v = index::verdict(&s[tail..], &offsets, blocks);
-            let l = layout_with(h, n, t, blocks, v);
-            OffsetsAnswer {
-                layout: LayoutAnswer::Accepted(l),
-                offsets,
-            }
+            let v = index::verdict(&s[tail..], offsets, blocks);
+            LayoutAnswer::Accepted(layout_with(h, n, t, blocks, v))
         }
-    }
-}
-
-// The answer for a refused file, whose offsets are all 0.
-fn refused(r: Refusal) -> OffsetsAnswer
-    ensures { λ x. ⌜ Judged (Outcome·refused r) x ⌝ }
-{
-    let offsets = [0u64; 64];
-    OffsetsAnswer {
-        layout: LayoutAnswer::Refused(r),
-        offsets,
     }
 }
 

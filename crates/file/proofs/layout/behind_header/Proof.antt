@@ -10,7 +10,6 @@ behind-header-spec =
     (tie.spec
     (λ c κs. search needs)
     (λ c. search needs)
-    (λ c κs. search needs)
     (λ c. search needs)
     (λ c κs. search (comments-inside, needs))
     (λ c. search (comments-refused, needs))

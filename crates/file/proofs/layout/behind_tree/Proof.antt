@@ -13,7 +13,6 @@ behind-tree-spec =
     (λ c. search needs)
     (λ c κs. search needs)
     (λ c κs. search needs)
-    (λ c κs. search needs)
     (λ c. search (blocks-none, needs))
     (λ c κs. search (here-inside, needs))
     (λ c. search (blocks-behind, needs))

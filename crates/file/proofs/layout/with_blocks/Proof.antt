@@ -10,7 +10,6 @@ with-blocks-spec =
     (tie.spec
     (λ c κs. search needs)
     (λ c. search needs)
-    (λ c κs. search needs)
     (λ c. search needs)
     (λ c κs. search (alone-few, needs))
     (λ c. search needs)
