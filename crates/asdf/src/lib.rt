@@ -1,7 +1,6 @@
 // The functions that C and Rust call. Each returns one number: how many bytes it put at the start of the lent buffer, or the
 // count that was asked for, or a refusal, its number in the top byte and its place below. A refusal changes no byte. Where all
 // that is lent is shorter than 2^56 bytes, the number can be read in one way only.
-mod fields;
 mod word;
 
 ghost use lib.ListN.{length};
@@ -37,7 +36,7 @@ pub extern "C" fn asdf_block(file: &[u8], ordinal: u64, out: &mut [u8]) -> u64
         BlockAnswer::Refused(r) => word::refused(r),
         BlockAnswer::NoSuchBlock => 0,
         BlockAnswer::Found(b) => {
-            let numbers = put::fields::block_fields(b);
+            let numbers = fields::block_fields(b);
             word::counted(word::put_numbers(out, &numbers))
         }
     }
@@ -100,7 +99,7 @@ pub extern "C" fn asdf_stored_row(stored: &[u8], k: u64, out: &mut [u8]) -> u64
         RowAnswer::Refused(r) => word::refused(r),
         RowAnswer::NoSuchRow => 0,
         RowAnswer::Found(r) => {
-            let numbers = put::fields::row_fields(r);
+            let numbers = fields::row_fields(r);
             word::counted(word::put_numbers(out, &numbers))
         }
     }

@@ -17,7 +17,6 @@ use format::refusal::Refusal;
 use format::row::Row;
 use outline::row;
 use put::decimal;
-use put::fields;
 use put::text;
 
 // A space and a number.

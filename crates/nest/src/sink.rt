@@ -7,7 +7,6 @@ ghost use Rattle.format.specs.Lent.{placed};
 ghost use Rattle.nest.specs.Sink.{Delivered, entry, width};
 use format::block::Record;
 use outline::row;
-use put::fields;
 
 pub(crate) enum Form {
     // They are only counted.

@@ -7,14 +7,14 @@ ghost use Rattle.format.specs.Lent.{placed};
 ghost use Rattle.format.specs.Outcome.{accepted};
 ghost use Rattle.format.specs.Outline.{encodeRow, decodeRow, rowOf};
 ghost use Rattle.outline.specs.Row.{hasChecksum, stateOf, frontOf, Field, rowAt};
+use fields::bit;
+use fields::inner_number;
 use format::answer::RowAnswer;
 use format::block::Block;
 use format::block::Record;
 use format::offset::Offset;
 use format::offset::OutermostOffset;
 use format::row::Row;
-use put::fields::bit;
-use put::fields::inner_number;
 use scan::number;
 
 // The row of a block.

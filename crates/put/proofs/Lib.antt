@@ -1,7 +1,6 @@
 -- Laws of buffers that bytes are put into.
 pub mod PutLaws
 pub mod NumberLaws
-pub mod FieldLaws
 pub mod DecimalLaws
 pub mod TextLaws
 pub mod WrittenLaws

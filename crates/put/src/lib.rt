@@ -1,6 +1,5 @@
 // Numbers and texts put into a lent buffer.
 pub mod decimal;
-pub mod fields;
 pub mod text;
 
 ghost use Prim.Native.Nat.{_+_, _≤_};

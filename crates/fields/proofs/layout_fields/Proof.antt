@@ -1,8 +1,8 @@
 -- The tree's four numbers stand among the layout's.
 use borrow.Author.Needs.{needs}
-use Rattle.asdf.proofs.FieldLaws.{layout-four}
-use Rattle.asdf.proofs.fields.layout_fields.Statement.{statement}
-use Rattle.asdf.proofs.fields.layout_fields.Tie as tie
+use Rattle.fields.proofs.FieldLaws.{layout-four}
+use Rattle.fields.proofs.layout_fields.Statement.{statement}
+use Rattle.fields.proofs.layout_fields.Tie as tie
 
 pub layout-fields-spec : {M : Type 1} → statement M
 layout-fields-spec =

@@ -1,8 +1,8 @@
 -- Each state has its number.
 use borrow.Author.Needs.{needs}
 use Rattle.format.specs.Outline.{innerNumber}
-use Rattle.put.proofs.fields.inner_number.Statement.{statement}
-use Rattle.put.proofs.fields.inner_number.Tie as tie
+use Rattle.fields.proofs.inner_number.Statement.{statement}
+use Rattle.fields.proofs.inner_number.Tie as tie
 
 pub inner-number-spec : {M : Type 1} → statement M
 unfolding innerNumber

@@ -1,8 +1,8 @@
 -- Only a refused state has numbers to give.
 use borrow.Author.Needs.{needs}
-use Rattle.put.proofs.FieldLaws.{fields-refused}
-use Rattle.put.proofs.fields.refusal_fields.Statement.{statement}
-use Rattle.put.proofs.fields.refusal_fields.Tie as tie
+use Rattle.fields.proofs.FieldLaws.{fields-refused}
+use Rattle.fields.proofs.refusal_fields.Statement.{statement}
+use Rattle.fields.proofs.refusal_fields.Tie as tie
 
 pub refusal-fields-spec : {M : Type 1} → statement M
 refusal-fields-spec =

@@ -1,8 +1,8 @@
 -- The offset and the flags stand among the row's numbers.
 use borrow.Author.Needs.{needs}
-use Rattle.put.proofs.FieldLaws.{row-numbers}
-use Rattle.put.proofs.fields.row_fields.Statement.{statement}
-use Rattle.put.proofs.fields.row_fields.Tie as tie
+use Rattle.fields.proofs.FieldLaws.{row-numbers}
+use Rattle.fields.proofs.row_fields.Statement.{statement}
+use Rattle.fields.proofs.row_fields.Tie as tie
 
 pub row-fields-spec : {M : Type 1} → statement M
 row-fields-spec =
