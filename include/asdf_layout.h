@@ -3,8 +3,8 @@
  * Every function returns one number:
  *   - how many bytes it put at the start of `out`, or the count that was asked for, below 2^56;
  *   - or a refusal, at least 2^56: ASDF_REFUSAL_NUMBER says why (one of the constants below), ASDF_REFUSAL_PLACE where.
- * That the two never meet, and that number and place are those that are meant, is proved for all that is shorter than 2^56
- * bytes.
+ * That the two never meet, and that number and place are those that are meant, is proved for calls that are lent fewer than
+ * 2^56 bytes in all.
  * A refusal changes no byte that was lent. Behind a result, `out` is unchanged. Nothing is kept between calls and nothing
  * is allocated; calls on different bytes may run at the same time.
  *

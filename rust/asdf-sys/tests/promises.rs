@@ -37,15 +37,20 @@ fn files(folder: &Path, suffix: &str) -> Vec<PathBuf> {
         .collect()
 }
 
-/// The public functions of a source, methods too: a promise ends where the body's brace stands alone.
+/// The public functions of a source, methods too. A promise ends where the body begins, and there is none where the body's
+/// brace stands on the signature's own line.
 fn public_functions(source: &str) -> Vec<Function> {
     let mut found = Vec::new();
     let mut lines = source.lines().map(str::trim);
     while let Some(line) = lines.next() {
         let public = ["pub fn ", "pub extern \"C\" fn "];
         if public.iter().any(|start| line.starts_with(start)) {
-            let promise = lines.by_ref().take_while(|line| *line != "{");
-            let promise = promise.map(str::to_string).collect();
+            let mut promise = Vec::new();
+            let mut last = line;
+            while !last.ends_with('{') {
+                last = lines.next().expect("a function has a body");
+                promise.push(last.to_string());
+            }
             let name = line.to_string();
             found.push(Function { name, promise });
         }
@@ -68,6 +73,14 @@ fn imported(source: &str) -> BTreeMap<String, String> {
         })
     })
     .collect()
+}
+
+#[test]
+fn a_function_without_a_promise_is_seen() {
+    let source = "pub fn bare() -> u8 {\n}\npub fn kept() -> u8\n    ensures { fact }\n{\n}\n";
+    let functions = public_functions(source);
+    let promises: Vec<usize> = functions.iter().map(|f| f.promise.len()).collect();
+    assert_eq!(promises, [0, 2]);
 }
 
 #[test]
