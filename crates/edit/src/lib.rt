@@ -10,12 +10,12 @@ ghost use Rattle.format.specs.Outcome.{refusal};
 ghost use Rattle.format.specs.Edited.{Done};
 ghost use Rattle.edit.specs.Tree.{HasTree};
 use file::layout;
-use file::tree::is_one_tree;
 use format::answer::EditAnswer;
 use format::answer::LayoutAnswer;
 use format::layout::Tree;
 use format::offset::Offset;
 use format::refusal::Refusal;
+use front::tree::is_one_tree;
 
 // Replaces a file's tree by a text that is exactly one tree, and the rest of the tree's room by spaces.
 pub fn edit(file: &mut [u8], text: &[u8]) -> EditAnswer

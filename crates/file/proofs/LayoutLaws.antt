@@ -28,15 +28,15 @@ use Rattle.format.specs.Index.{indexed, judged, verdict}
 use Rattle.format.specs.File.{File, mostBytes, firstBlock, goesOn, offsets, table, file, offsetTable, layoutOf, layout, blockAt}
 use Rattle.format.specs.Answer.{layoutAnswer, blockAnswer}
 use Rattle.format.proofs.ReadLaws.{header-bounds, comments-bounds, first-block-bounds}
-use Rattle.file.specs.declared.step.HeaderStep.{HeaderStep}
-use Rattle.file.specs.declared.step.HeaderStep.the-variants as HeaderStep·is
-use Rattle.file.specs.declared.step.EndStep.{EndStep}
-use Rattle.file.specs.declared.step.EndStep.the-variants as EndStep·is
-use Rattle.file.specs.declared.step.TreeStep.{TreeStep}
-use Rattle.file.specs.declared.step.TreeStep.the-variants as TreeStep·is
+use Rattle.front.specs.declared.step.HeaderStep.{HeaderStep}
+use Rattle.front.specs.declared.step.HeaderStep.the-variants as HeaderStep·is
+use Rattle.front.specs.declared.step.EndStep.{EndStep}
+use Rattle.front.specs.declared.step.EndStep.the-variants as EndStep·is
+use Rattle.front.specs.declared.step.TreeStep.{TreeStep}
+use Rattle.front.specs.declared.step.TreeStep.the-variants as TreeStep·is
 use Rattle.file.specs.declared.step.ChainStep.{ChainStep}
 use Rattle.file.specs.declared.step.ChainStep.the-variants as ChainStep·is
-use Rattle.file.specs.Step.{headerOf, endOf, treeOf}
+use Rattle.front.specs.Step.{headerOf, endOf, treeOf}
 use Rattle.file.specs.Chain.{Chained, WalkedAlone, WalkedTo, Walked}
 use Rattle.file.specs.Layout.{fileWith, withBlocks, behindTree, behindComments, behindHeader, layoutWith, Judged, Kept}
 use Rattle.file.proofs.PartLaws.{part-all}

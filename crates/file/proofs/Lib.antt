@@ -1,9 +1,5 @@
 -- Laws that the proofs of the steps cite.
 pub mod PartLaws
-pub mod SplitLaws
-pub mod HeaderLaws
-pub mod CommentsLaws
-pub mod TreeLaws
 pub mod BlockLaws
 pub mod ChainLaws
 pub mod FewLaws

@@ -21,7 +21,7 @@ use Rattle.scan.specs.declared.number.Number.{Number}
 use Rattle.scan.specs.declared.number.Number.the-variants.{Value, Malformed}
 use Rattle.scan.specs.Number.{numberOf, NumeralRead}
 use Rattle.file.specs.Index.{agreesAt, goodIf}
-use Rattle.file.proofs.SplitLaws.{others, split-found, others-none, others-some}
+use Rattle.scan.proofs.SplitLaws.{others, split-found, others-none, others-some}
 
 module _ (agree : Bool) (offsets : List ℕ) (count k x : ℕ) where
   -- numbers that do not agree do not with one more

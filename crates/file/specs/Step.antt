@@ -1,37 +1,8 @@
--- What the steps of reading a file answer one another, as outcomes.
-use Prim.Native.Nat.{ℕ}
-use mathlib.Core.Option.{Option, none, some}
+-- What the reader of a block answers, as an outcome.
 use Rattle.format.specs.Outcome.{Outcome, accepted, refused}
-use Rattle.format.specs.declared.layout.Version.{Version}
-use Rattle.format.specs.declared.layout.Header.{Header}
-use Rattle.format.specs.declared.layout.Tree.{Tree}
 use Rattle.format.specs.declared.block.Block.{Block}
-use Rattle.file.specs.declared.step.VersionStep.{VersionStep}
-use Rattle.file.specs.declared.step.VersionStep.the-variants as VersionStep·is
-use Rattle.file.specs.declared.step.HeaderStep.{HeaderStep}
-use Rattle.file.specs.declared.step.HeaderStep.the-variants as HeaderStep·is
-use Rattle.file.specs.declared.step.EndStep.{EndStep}
-use Rattle.file.specs.declared.step.EndStep.the-variants as EndStep·is
-use Rattle.file.specs.declared.step.TreeStep.{TreeStep}
-use Rattle.file.specs.declared.step.TreeStep.the-variants as TreeStep·is
 use Rattle.file.specs.declared.block.BlockStep.{BlockStep}
 use Rattle.file.specs.declared.block.BlockStep.the-variants as BlockStep·is
-
-unfoldable pub versionOf : VersionStep → Option Version
-versionOf (VersionStep·is.Read v) = some v
-versionOf VersionStep·is.Malformed = none
-
-unfoldable pub headerOf : HeaderStep → Outcome Header
-headerOf (HeaderStep·is.Read h) = accepted h
-headerOf (HeaderStep·is.Refused r) = refused r
-
-unfoldable pub endOf : EndStep → Outcome ℕ
-endOf (EndStep·is.At n) = accepted n
-endOf (EndStep·is.Refused r) = refused r
-
-unfoldable pub treeOf : TreeStep → Outcome Tree
-treeOf (TreeStep·is.Read t) = accepted t
-treeOf (TreeStep·is.Refused r) = refused r
 
 unfoldable pub blockOf : BlockStep → Outcome Block
 blockOf (BlockStep·is.Read b) = accepted b

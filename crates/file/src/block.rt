@@ -7,7 +7,6 @@ ghost use lib.Dec.{eqb};
 ghost use Rattle.format.specs.Block.{blockWith};
 ghost use Rattle.file.specs.Block.{IsField, FieldRead, HeaderRead, Fault, Sound, BlockRead, soundBlock, soundLink};
 use crate::step::LinkStep;
-use crate::step::refusal;
 use format::block::Block;
 use format::offset::Offset;
 use format::refusal::Refusal;
@@ -25,7 +24,7 @@ pub fn read_block(t: &[u8], ordinal: u8, at: usize) -> BlockStep
 {
     let number = fault(t);
     if number != 0 {
-        return BlockStep::Refused(refusal(number, at));
+        return BlockStep::Refused(Refusal::new(number, at));
     }
     BlockStep::Read(sound_block(t, ordinal, at))
 }

@@ -10,8 +10,7 @@ ghost use Rattle.file.specs.Chain.{LinkIs, Walked};
 use crate::block;
 use crate::step::ChainStep;
 use crate::step::LinkStep;
-use crate::step::refusal;
-use scan::mark;
+use format::refusal::Refusal;
 use scan::text;
 
 // Walks the blocks from an offset on, and keeps where each begins. The offsets are all 0 before, and those after the last
@@ -72,7 +71,7 @@ fn link(s: &[u8], at: usize, i: usize) -> LinkStep
     if text::only_zeros(&s[at..]) {
         return LinkStep::Zeros;
     }
-    LinkStep::Refused(refusal(17, at))
+    LinkStep::Refused(Refusal::new(17, at))
 }
 
 // What the mark at an offset begins, where block i may begin.
@@ -81,11 +80,11 @@ fn link_at_mark(s: &[u8], at: usize, i: usize) -> LinkStep
     ensures { λ r. ⌜ LinkIs (now (s .entry)) i at r ⌝ }
 {
     if 64 <= i {
-        return LinkStep::Refused(refusal(16, at));
+        return LinkStep::Refused(Refusal::new(16, at));
     }
     let number = block::fault(&s[at..]);
     if number != 0 {
-        return LinkStep::Refused(refusal(number, at));
+        return LinkStep::Refused(Refusal::new(number, at));
     }
     block::sound_link(&s[at..])
 }

@@ -10,15 +10,8 @@ ghost use Rattle.file.specs.Layout.{behindHeader, behindComments, behind
 use crate::block::BlockStep;
 use crate::block::read_block;
 use crate::chain;
-use crate::comments;
-use crate::header;
 use crate::index;
 use crate::step::ChainStep;
-use crate::step::EndStep;
-use crate::step::HeaderStep;
-use crate::step::TreeStep;
-use crate::step::refusal;
-use crate::tree;
 use format::answer::BlockAnswer;
 use format::answer::LayoutAnswer;
 use format::answer::OffsetsAnswer;
@@ -27,7 +20,13 @@ use format::layout::Layout;
 use format::layout::Tree;
 use format::layout::Verdict;
 use format::offset::Offset;
-use scan::mark;
+use format::refusal::Refusal;
+use front::comments;
+use front::header;
+use front::step::EndStep;
+use front::step::HeaderStep;
+use front::step::TreeStep;
+use front::tree;
 
 // The layout of a file, or its refusal.
 pub fn read(s: &[u8]) -> LayoutAnswer
@@ -92,7 +91,7 @@ fn judge(s: &[u8], offsets: &mut [u64; 64]) -> LayoutAnswer
     ensures { λ r. ⌜ Judged (file (now (s .entry))) (now (offsets .exit)) r ⌝ }
 {
     if 4294967295 < s.len() {
-        return LayoutAnswer::Refused(refusal(1, 0));
+        return LayoutAnswer::Refused(Refusal::new(1, 0));
     }
     match header::read_header(s) {
         HeaderStep::Refused(r) => LayoutAnswer::Refused(r),
@@ -135,7 +134,7 @@ fn behind_tree(s: &[u8], h: Header, n: usize, t: Tree, offsets: &mut [u64; 64]) 
         } => with_blocks(s, h, n, t, room_end.0 as usize, offsets),
         Tree::NoTree => {
             if !goes_on(s, n) {
-                return LayoutAnswer::Refused(refusal(7, n));
+                return LayoutAnswer::Refused(Refusal::new(7, n));
             }
             with_blocks(s, h, n, t, n, offsets)
         }

@@ -1,32 +1,5 @@
 // What the steps of reading a file answer one another.
-ghost use mathlib.Core.Path.{_≡_};
-ghost use Rattle.format.specs.Outcome.{refusal as Outcome·refusal};
-use format::layout::Header;
-use format::layout::Tree;
-use format::layout::Version;
-use format::offset::Offset;
 use format::refusal::Refusal;
-
-pub enum VersionStep {
-    Read(Version),
-    Malformed,
-}
-
-pub enum HeaderStep {
-    Read(Header),
-    Refused(Refusal),
-}
-
-// Where something ends.
-pub enum EndStep {
-    At(usize),
-    Refused(Refusal),
-}
-
-pub enum TreeStep {
-    Read(Tree),
-    Refused(Refusal),
-}
 
 // What stands where a block may begin.
 pub enum LinkStep {
@@ -54,13 +27,4 @@ pub enum ChainStep {
 pub enum ListStep {
     Between { from: usize, to: usize },
     Nowhere,
-}
-
-pub(crate) fn refusal(number: u8, place: usize) -> Refusal
-    ensures { λ r. ⌜ r ≡ Outcome·refusal number place ⌝ }
-{
-    Refusal {
-        number,
-        place: Offset(place as u64),
-    }
 }

@@ -1,7 +1,7 @@
 -- Laws that the proofs of the leaves and of their callers cite.
 pub mod TextLaws
-pub mod MarkLaws
 pub mod NumberLaws
 pub mod FindLaws
 pub mod LineLaws
 pub mod ExactLaws
+pub mod SplitLaws

@@ -1,5 +1,4 @@
 -- What the contracts of the leaves cite: the meaning, and bounds beside it.
 pub mod Find
 pub mod Line
-pub mod Mark
 pub mod Number

@@ -1,0 +1,48 @@
+-- Comments: one law for each way out of the walk over them. Where they end from here on is where they end from the start on.
+use Prim.Native.Nat.{ℕ, _-_}
+use mathlib.Core.Path.{_≡_, refl, sym, ap, _∙_}
+use mathlib.Core.Bool.{Bool, true, false}
+use lib.ListN.{take, drop}
+use Rattle.format.specs.declared.refusal.Refusal.{Refusal}
+use Rattle.format.specs.Bytes.{Bytes, text, begins, same}
+use Rattle.format.specs.Outcome.{Outcome, refused, refusal}
+use Rattle.format.specs.Line.{lines}
+use Rattle.format.specs.Comments.{indexLine, comments}
+use Rattle.format.proofs.ReadLaws.{no-comments}
+use Rattle.scan.specs.declared.line.Line.{Line}
+use Rattle.scan.specs.declared.line.Line.the-variants.{Ended, Unended}
+use Rattle.scan.specs.Line.{LineRead}
+use Rattle.scan.proofs.LineLaws.{FirstLine, unended-lines, ended-first, first-byte}
+use Rattle.front.specs.declared.step.EndStep.the-variants.{At, Refused}
+use Rattle.front.specs.Step.{endOf}
+
+module _ (s : Bytes) (at : ℕ) (x : Outcome ℕ) (left : comments at (lines (drop at s)) ≡ x) (b : Bool) (h : b ≡ begins (text "#") (drop at s)) where
+  -- no comment begins here
+  pub comments-done : b ≡ false → endOf (At at) ≡ x
+  unfolding endOf
+  comments-done p = sym (no-comments at (drop at s) (sym h ∙ p)) ∙ left
+
+  module _ (p : b ≡ true) (r : Line) (read : LineRead s at r) where
+    -- a comment begins here and does not end
+    pub comments-unended : (y : Refusal) → r ≡ Unended → y ≡ refusal 5 at → endOf (Refused y) ≡ x
+    unfolding endOf comments
+    comments-unended y e q = ap refused q ∙ rw (unended-lines s at r read e, comments, sym h ∙ p) at left
+
+    module _ (m next : ℕ) (e : r ≡ Ended m next) (d : Bool) (k : d ≡ same (take (m - at) (drop at s)) indexLine) where
+      -- the line that was read is the first from here on
+      first : FirstLine s at (take (m - at) (drop at s)) next
+      first = ended-first s at r read m next e
+
+      -- its text begins with `#`
+      hash : begins (text "#") (take (m - at) (drop at s)) ≡ true
+      hash = first-byte 35 s at _ next first refl refl ∙ sym h ∙ p
+
+      -- it is the first line of an index
+      pub comments-index : (y : Refusal) → d ≡ true → y ≡ refusal 6 at → endOf (Refused y) ≡ x
+      unfolding endOf comments
+      comments-index y z q = ap refused q ∙ rw (first .cut, comments, hash, sym k ∙ z) at left
+
+      -- it is a comment
+      pub comments-step : d ≡ false → comments next (lines (drop next s)) ≡ x
+      unfolding comments
+      comments-step z = rw (first .cut, comments, hash, sym k ∙ z, ← first .next-is) at left

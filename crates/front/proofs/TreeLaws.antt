@@ -1,0 +1,137 @@
+-- The tree: one law for each way out of the tests on a line, of the walks over lines and of the reading of the tree.
+use Prim.Native.Nat.{ℕ, _-_}
+use mathlib.Core.Path.{_≡_, refl, sym, ap, _∙_}
+use mathlib.Core.Bool.{Bool, true, false, _||_, not}
+use mathlib.Core.Option.{none, some}
+use lib.ListN.{length, take, drop}
+use lib.Dec.{eqb}
+use borrow.Author.Tests.{not-true, not-false}
+use Rattle.format.specs.declared.refusal.Refusal.{Refusal}
+use Rattle.format.specs.declared.layout.Tree.the-variants.{NoTree, Found}
+use Rattle.format.specs.Bytes.{Bytes, same}
+use Rattle.format.specs.Outcome.{Outcome, accepted, refused, refusal, _>>=_}
+use Rattle.format.specs.Line.{Lines, unended, line, lines}
+use Rattle.format.specs.Tree.{yamlLine, endLine, isStart, isDirective, content, directives, treeEnd, withRoom, tree}
+use Rattle.format.specs.Edit.{endsAt, isOneTree}
+use Rattle.scan.specs.declared.line.Line.{Line}
+use Rattle.scan.specs.declared.line.Line.the-variants.{Ended, Unended}
+use Rattle.scan.specs.declared.line.Exact.{Exact}
+use Rattle.scan.specs.declared.line.Exact.the-variants.{Behind, Other}
+use Rattle.scan.specs.Line.{LineRead, ExactRead}
+use Rattle.mark.specs.Mark.{MarkFound}
+use Rattle.scan.proofs.LineLaws.{FirstLine, unended-lines, ended-first}
+use Rattle.scan.proofs.ExactLaws.{other-text, behind-first}
+use Rattle.front.specs.declared.step.EndStep.{EndStep}
+use Rattle.front.specs.declared.step.EndStep.the-variants as End
+use Rattle.front.specs.declared.step.TreeStep.the-variants.{Read, Refused}
+use Rattle.front.specs.Step.{endOf, treeOf}
+
+module _ (a b x : Bool) (h : x ≡ a) where
+  -- where the first of two tests holds, one of them does
+  pub either-first : x ≡ true → true ≡ (a || b)
+  either-first p = rw (sym h ∙ p)
+
+  -- where it does not, the second decides
+  pub either-second : (y : Bool) → x ≡ false → y ≡ b → y ≡ (a || b)
+  either-second y p k = rw (sym h ∙ p) k
+
+module _ (s : Bytes) (at : ℕ) (r : Line) (read : LineRead s at r) (x : Outcome ℕ) where
+  -- no line is left to end the tree, behind its start line
+  pub content-unended : content at (lines (drop at s)) ≡ x → (y : Refusal) → r ≡ Unended → y ≡ refusal 10 at → endOf (End.Refused y) ≡ x
+  unfolding endOf content
+  content-unended left y e q = ap refused q ∙ rw (unended-lines s at r read e) at left
+
+  -- no line is left to end the tree, before its start line
+  pub directives-unended : directives at (lines (drop at s)) ≡ x → (y : Refusal) → r ≡ Unended → y ≡ refusal 10 at → endOf (End.Refused y) ≡ x
+  unfolding endOf directives
+  directives-unended left y e q = ap refused q ∙ rw (unended-lines s at r read e) at left
+
+  module _ (m next : ℕ) (e : r ≡ Ended m next) where
+    -- the line that was read is the first from here on
+    first : FirstLine s at (take (m - at) (drop at s)) next
+    first = ended-first s at r read m next e
+
+    module _ (left : content at (lines (drop at s)) ≡ x) (b : Bool) (h : b ≡ same (take (m - at) (drop at s)) endLine) where
+      -- it ends the tree
+      pub content-done : b ≡ true → endOf (End.At next) ≡ x
+      unfolding endOf content
+      content-done p = rw (first .cut, content, sym h ∙ p, ← first .next-is) at left
+
+      module _ (p : b ≡ false) (d : Bool) (k : d ≡ isStart (take (m - at) (drop at s))) where
+        -- it would start a second tree
+        pub content-start : (y : Refusal) → d ≡ true → y ≡ refusal 9 at → endOf (End.Refused y) ≡ x
+        unfolding endOf content
+        content-start y z q = ap refused q ∙ rw (first .cut, content, sym h ∙ p, sym k ∙ z) at left
+
+        -- it is content
+        pub content-step : d ≡ false → content next (lines (drop next s)) ≡ x
+        unfolding content
+        content-step z = rw (first .cut, content, sym h ∙ p, sym k ∙ z, ← first .next-is) at left
+
+    module _ (left : directives at (lines (drop at s)) ≡ x) (b : Bool) (h : b ≡ isStart (take (m - at) (drop at s))) where
+      -- it starts the content
+      pub directives-done : (y : EndStep) → b ≡ true → endOf y ≡ content next (lines (drop next s)) → endOf y ≡ x
+      unfolding directives
+      directives-done y p q = q ∙ rw (first .cut, directives, sym h ∙ p, ← first .next-is) at left
+
+      module _ (p : b ≡ false) (d : Bool) (k : d ≡ isDirective (take (m - at) (drop at s))) where
+        -- it is neither a start line nor a directive
+        pub directives-other : (y : Refusal) → not d ≡ true → y ≡ refusal 8 at → endOf (End.Refused y) ≡ x
+        unfolding endOf directives
+        directives-other y z q = ap refused q ∙ rw (first .cut, directives, sym h ∙ p, sym k ∙ not-true d z) at left
+
+        -- it is a directive
+        pub directives-step : not d ≡ false → directives next (lines (drop next s)) ≡ x
+        unfolding directives
+        directives-step z = rw (first .cut, directives, sym h ∙ p, sym k ∙ not-false d z, ← first .next-is) at left
+
+module _ (s : Bytes) (at : ℕ) (r : Exact) (read : ExactRead s yamlLine at r) where
+  -- where the first line is another, there is no tree to end
+  no-end : r ≡ Other → treeEnd at (lines (drop at s)) ≡ accepted none
+  unfolding treeEnd
+  no-end p = go (lines (drop at s)) refl
+    where
+      go : (l : Lines) → lines (drop at s) ≡ l → treeEnd at l ≡ accepted none
+      go (unended t) h = refl
+      go (line t e l) h = rw (other-text s yamlLine at r read t e l p h, treeEnd)
+
+  -- no tree begins here
+  pub tree-none : r ≡ Other → treeOf (Read NoTree) ≡ tree at s
+  unfolding treeOf tree withRoom
+  tree-none p = rw (no-end p)
+
+  module _ (next : ℕ) (p : r ≡ Behind next) (z : EndStep) (h : endOf z ≡ directives next (lines (drop next s))) where
+    -- the walk over the lines behind the first says where the tree ends, if it does
+    tree-end : treeEnd at (lines (drop at s)) ≡ (do m ← endOf z; accepted (some m))
+    unfolding treeEnd
+    tree-end =
+        let first = behind-first s yamlLine at r read next p in
+        rw (first .cut, treeEnd, ← first .next-is, h)
+
+    -- it does not end
+    pub tree-refused : (y : Refusal) → z ≡ End.Refused y → treeOf (Refused y) ≡ tree at s
+    unfolding endOf treeOf tree
+    tree-refused y e = rw (tree-end, e)
+
+    -- it ends, and free space follows up to a mark
+    pub tree-read : (end room : ℕ) → z ≡ End.At end → MarkFound s end room
+        → treeOf (Read (Found (record { 0 = at }) (record { 0 = end }) (record { 0 = room }))) ≡ tree at s
+    unfolding endOf treeOf tree withRoom
+    tree-read end room e f = rw (f .is, tree-end, e)
+
+module _ (t : Bytes) (r : Exact) (read : ExactRead t yamlLine 0 r) where
+  -- a text that begins with another line is no tree
+  pub one-tree-none : r ≡ Other → false ≡ isOneTree t
+  unfolding isOneTree endsAt
+  one-tree-none p = rw (no-end t 0 r read p)
+
+  module _ (next : ℕ) (p : r ≡ Behind next) (z : EndStep) (h : endOf z ≡ directives next (lines (drop next t))) where
+    -- nor is one that does not end
+    pub one-tree-refused : (y : Refusal) → z ≡ End.Refused y → false ≡ isOneTree t
+    unfolding isOneTree endsAt endOf
+    one-tree-refused y e = rw (tree-end t 0 r read next p z h, e)
+
+    -- one that ends is a tree if the text ends there
+    pub one-tree-read : (end : ℕ) → z ≡ End.At end → eqb end (length t) ≡ isOneTree t
+    unfolding isOneTree endsAt endOf
+    one-tree-read end e = rw (tree-end t 0 r read next p z h, e)

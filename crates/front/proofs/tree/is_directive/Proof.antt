@@ -1,0 +1,16 @@
+-- The first test decides, or else the second.
+use borrow.Author.Needs.{needs}
+use Rattle.front.proofs.TreeLaws.{either-first, either-second}
+use Rattle.front.proofs.tree.is_directive.Statement.{statement}
+use Rattle.front.proofs.tree.is_directive.Tie as tie
+
+pub is-directive-spec : {M : Type 1} → statement M
+is-directive-spec =
+    tie.close
+    (tie.spec
+    (λ c. search needs)
+    (λ c κs. search needs)
+    (λ c. search (either-first, needs))
+    (λ c. search needs)
+    (λ c κs. search needs)
+    (λ c. search (either-second, needs)))

@@ -1,0 +1,2 @@
+-- What the contracts of the front cite.
+pub mod Step

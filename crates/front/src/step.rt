@@ -1,0 +1,26 @@
+// What the readers of the front answer.
+use format::layout::Header;
+use format::layout::Tree;
+use format::layout::Version;
+use format::refusal::Refusal;
+
+pub enum VersionStep {
+    Read(Version),
+    Malformed,
+}
+
+pub enum HeaderStep {
+    Read(Header),
+    Refused(Refusal),
+}
+
+// Where something ends.
+pub enum EndStep {
+    At(usize),
+    Refused(Refusal),
+}
+
+pub enum TreeStep {
+    Read(Tree),
+    Refused(Refusal),
+}

@@ -1,0 +1,103 @@
+// The tree and the free space behind it.
+ghost use mathlib.Core.Path.{_≡_};
+ghost use lib.ListN.{drop};
+ghost use Rattle.format.specs.Line.{lines};
+ghost use Rattle.format.specs.Tree.{isStart, isDirective, content, directives, tree};
+ghost use Rattle.format.specs.Edit.{isOneTree};
+ghost use Rattle.front.specs.Step.{endOf, treeOf};
+use crate::step::EndStep;
+use crate::step::TreeStep;
+use format::layout::Tree;
+use format::offset::Offset;
+use format::refusal::Refusal;
+use scan::line;
+use scan::line::Exact;
+use scan::line::Line;
+use scan::text;
+
+// What stands at an offset: no tree, or one, with its room.
+pub fn read_tree(s: &[u8], at: usize) -> TreeStep
+    ensures { λ r. ⌜ treeOf r ≡ tree at (now (s .entry)) ⌝ }
+{
+    let Exact::Behind(next) = line::yaml_line(s, at) else {
+        return TreeStep::Read(Tree::NoTree);
+    };
+    match directives_end(s, next) {
+        EndStep::Refused(r) => TreeStep::Refused(r),
+        EndStep::At(end) => TreeStep::Read(Tree::Found {
+            start: Offset(at as u64),
+            end: Offset(end as u64),
+            room_end: Offset(mark::find_plain(s, end) as u64),
+        }),
+    }
+}
+
+// Whether a text is exactly one tree, with nothing before or after.
+pub fn is_one_tree(t: &[u8]) -> bool
+    ensures { λ r. ⌜ r ≡ isOneTree (now (t .entry)) ⌝ }
+{
+    let Exact::Behind(next) = line::yaml_line(t, 0) else {
+        return false;
+    };
+    match directives_end(t, next) {
+        EndStep::Refused(_) => false,
+        EndStep::At(end) => end == t.len(),
+    }
+}
+
+// Where a tree ends, from the line behind its first on.
+fn directives_end(s: &[u8], from: usize) -> EndStep
+    ensures { λ r. ⌜ endOf r ≡ directives from (lines (drop from (now (s .entry)))) ⌝ }
+{
+    let mut at = from;
+    loop {
+        let Line::Ended { text_end, next } = line::line_at(s, at) else {
+            return EndStep::Refused(Refusal::new(10, at));
+        };
+        if is_start(&s[at..text_end]) {
+            return content_end(s, next);
+        }
+        if !is_directive(&s[at..text_end]) {
+            return EndStep::Refused(Refusal::new(8, at));
+        }
+        at = next;
+    }
+}
+
+// Where a tree ends, from the line behind its start line on.
+fn content_end(s: &[u8], from: usize) -> EndStep
+    ensures { λ r. ⌜ endOf r ≡ content from (lines (drop from (now (s .entry)))) ⌝ }
+{
+    let mut at = from;
+    loop {
+        let Line::Ended { text_end, next } = line::line_at(s, at) else {
+            return EndStep::Refused(Refusal::new(10, at));
+        };
+        if text::is(&s[at..text_end], b"...") {
+            return EndStep::At(next);
+        }
+        if is_start(&s[at..text_end]) {
+            return EndStep::Refused(Refusal::new(9, at));
+        }
+        at = next;
+    }
+}
+
+// `---` alone, or `---` and a space and anything.
+fn is_start(t: &[u8]) -> bool
+    ensures { λ r. ⌜ r ≡ isStart (now (t .entry)) ⌝ }
+{
+    if text::is(t, b"---") {
+        return true;
+    }
+    text::begins_at(t, 0, b"--- ")
+}
+
+fn is_directive(t: &[u8]) -> bool
+    ensures { λ r. ⌜ r ≡ isDirective (now (t .entry)) ⌝ }
+{
+    if text::begins_at(t, 0, b"%") {
+        return true;
+    }
+    text::begins_at(t, 0, b"#")
+}

@@ -1,0 +1,2 @@
+-- Laws that the proofs of both searches cite.
+pub mod MarkLaws
