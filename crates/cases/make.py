@@ -64,6 +64,9 @@ CASES = {
     "streamed-empty": A + block(flags=1),
     "sizes-of-all-ff": A + block(allocated=ALL_FF, used=ALL_FF, data_size=ALL_FF),
     "streamed-sizes-of-all-ff": A + block(b"ab", flags=1, allocated=ALL_FF, used=ALL_FF, data_size=ALL_FF),
+    # free space that is searched in blocks of 64
+    "mark-over-64-bytes": A + TREE + b"\xd3BL" * 21 + block(),
+    "part-of-a-mark-at-the-end": A + TREE + b" " * 128 + b"\xd3BL",
 }
 
 

@@ -27,7 +27,7 @@ pub fn read_tree(s: &[u8], at: usize) -> TreeStep
         EndStep::At(end) => TreeStep::Read(Tree::Found {
             start: Offset(at as u64),
             end: Offset(end as u64),
-            room_end: Offset(mark::find_plain(s, end) as u64),
+            room_end: Offset(mark::find(s, end) as u64),
         }),
     }
 }

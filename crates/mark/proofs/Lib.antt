@@ -1,2 +1,4 @@
--- Laws that the proofs of both searches cite.
+-- Laws that the proofs of the searches cite.
 pub mod MarkLaws
+pub mod PlainLaws
+pub mod FoursLaws

@@ -1,4 +1,5 @@
-// The search for a block's mark.
+// The search for a block's mark, by fours; and the plain one, which has the same promise and which the other is compared with.
+mod fours;
 mod plain;
 
 ghost use mathlib.Core.Path.{_≡_};
@@ -15,7 +16,17 @@ pub fn is_mark(s: &[u8], at: usize) -> bool
     text::begins_at(s, at, b"\xD3BLK")
 }
 
-// The first mark at or behind an offset, or the end, looking at every byte.
+// The first mark at or after an offset, or the end.
+pub fn find(s: &[u8], at: usize) -> usize
+    ensures { λ r. ⌜ MarkFound (now (s .entry)) at r ⌝ }
+{
+    if s.len() <= at {
+        return at;
+    }
+    at + fours::free_space(&s[at..])
+}
+
+// The same, looking at every byte.
 pub fn find_plain(s: &[u8], at: usize) -> usize
     ensures { λ r. ⌜ MarkFound (now (s .entry)) at r ⌝ }
 {

@@ -4,7 +4,7 @@ use mathlib.Core.Path.{_≡_}
 use lib.ListN.{length, drop}
 use borrow.Author.Needs.{needs}
 use Rattle.format.specs.Tree.{freeSpace}
-use Rattle.mark.proofs.MarkLaws.{mark-none, mark-here, mark-step}
+use Rattle.mark.proofs.PlainLaws.{mark-none, mark-here, mark-step}
 use Rattle.mark.proofs.plain.free_space.Statement.{statement}
 use Rattle.mark.proofs.plain.free_space.Tie as tie
 

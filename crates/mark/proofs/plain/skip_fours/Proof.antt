@@ -3,7 +3,8 @@ use Prim.Native.Nat.{_-_}
 use lib.ListN.{length}
 use borrow.Author.Needs.{needs}
 use Rattle.mark.specs.Mark.{Skipped}
-use Rattle.mark.proofs.MarkLaws.{skip-none, skip-four}
+use Rattle.mark.proofs.MarkLaws.{skip-none}
+use Rattle.mark.proofs.PlainLaws.{skip-four}
 use Rattle.mark.proofs.plain.skip_fours.Statement.{statement}
 use Rattle.mark.proofs.plain.skip_fours.Tie as tie
 

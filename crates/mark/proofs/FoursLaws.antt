@@ -1,0 +1,272 @@
+-- One law for each way out of the search by fours. What it rests on: the four bytes of a mark differ, so that a byte tells how
+-- far it is from the beginning of a mark that has it.
+use Prim.Native.Nat.{ℕ, zero, suc, _+_, _-_, _*_, _/_, _%_, _≤_, _<_}
+use native.Mathlib.Nat.{add-zero}
+use native.Mathlib.Omega.{arith}
+use mathlib.Core.Path.{_≡_, refl, sym, ap, subst, _∙_}
+use mathlib.Core.Bool.{Bool, true, false, not, _&&_, _||_, or-true, true≢false}
+use mathlib.Core.List.{_++_}
+use lib.ListN.{length, drop, getD, drop-of-length-le}
+use lib.Seq.{getD-drop}
+use lib.Bits.{bitOr, or-add-and, and-le-l, and-le-r}
+use lib.Dec.{eqb}
+use borrow.Author.Tests.{eqb-true, eqb-false, not-true}
+use Rattle.bytes.specs.Bytes.{indexOf, indexAfter, slice}
+use Rattle.format.specs.Bytes.{Bytes, begins}
+use Rattle.format.specs.Tree.{mark, freeSpace}
+use Rattle.format.proofs.ByteLaws.{begins-true}
+use Rattle.scan.proofs.TextLaws.{begins-inside}
+use Rattle.mark.specs.Mark.{Skipped}
+use Rattle.mark.specs.Fours.{FirstIn, FourthsUpTo, IsOfMark, Told, InMark, MarkAt, fourthOfMark, beginsMark}
+use Rattle.mark.proofs.MarkLaws.{space-mark, mark-none-here, skip-none}
+
+-- what holds of the four places in a mark holds of each
+four-places : (p : ℕ → Type 0) → p 0 → p 1 → p 2 → p 3 → (j : ℕ) → j < 4 → p j
+four-places p a b c d zero q = a
+four-places p a b c d (suc zero) q = b
+four-places p a b c d (suc (suc zero)) q = c
+four-places p a b c d (suc (suc (suc zero))) q = d
+four-places p a b c d (suc (suc (suc (suc j)))) q = absurd (omega arith)
+
+-- none of its bytes is below 42
+mark-high : (j : ℕ) → j < 4 → 0x42 ≤ getD mark j 0
+mark-high = four-places (λ j. 0x42 ≤ getD mark j 0) (omega arith) (omega arith) (omega arith) (omega arith)
+
+-- each stands in one place of a mark only
+mark-place : (j : ℕ) → j < 4 → indexOf (getD mark j 0) mark ≡ j
+unfolding indexOf indexAfter
+mark-place = four-places (λ j. indexOf (getD mark j 0) mark ≡ j) refl refl refl refl
+
+-- the bytes of a mark stand where it does
+mark-byte : (t : Bytes) (p : ℕ) → begins mark (drop p t) ≡ true → (j : ℕ) → j < 4 → getD t (p + j) 0 ≡ getD mark j 0
+mark-byte t p h j q =
+    sym (getD-drop p t j 0)
+    ∙ ap (λ (l : Bytes). getD l j 0) (begins-true mark (drop p t) h)
+    ∙ four-places (λ j. getD (mark ++ drop 4 (drop p t)) j 0 ≡ getD mark j 0) refl refl refl refl j q
+
+-- so a byte that stands so far after the beginning of a mark is one of it
+byte-of-mark : (t : Bytes) (p q : ℕ) → begins mark (drop p t) ≡ true → p ≤ q → q < p + 4 → IsOfMark (getD t q 0)
+byte-of-mark t p q h a b =
+    let there : p + (q - p) ≡ q = omega arith in
+    record { place = q - p; few = omega arith; is = rw there at (mark-byte t p h (q - p) (omega arith)) }
+
+-- no mark begins at p, if one cannot
+no-mark : (t : Bytes) (p : ℕ) → (begins mark (drop p t) ≡ true → ⊥) → begins mark (drop p t) ≡ false
+no-mark t p never = go (begins mark (drop p t)) refl
+  where
+    go : (x : Bool) → begins mark (drop p t) ≡ x → begins mark (drop p t) ≡ false
+    go true e = absurd (never e)
+    go false e = e
+
+-- k bytes at which no mark begins are skipped
+skip-run : (t : Bytes) (n k : ℕ) → n + k ≤ length t → ((p : ℕ) → n ≤ p → p < n + k → begins mark (drop p t) ≡ false) → Skipped t n (n + k)
+skip-run t n zero h none = rw add-zero (skip-none t n (omega arith))
+skip-run t n (suc k) h none =
+    let before = skip-run t n k (omega arith) (λ p a b. none p a (omega arith)) in
+    let one = mark-none-here t (n + k) _ (before .is) (none (n + k) (omega arith) (omega arith)) (omega arith) in
+    let e : n + suc k ≡ n + k + 1 = omega arith in
+    rw e (record { is = one; behind = omega arith; inside = omega arith })
+
+-- and so up to m
+first-none : (t : Bytes) (n m : ℕ) → n ≤ m → m ≤ length t → ((p : ℕ) → n ≤ p → p < m → begins mark (drop p t) ≡ false) → FirstIn t n m m
+first-none t n m h q none =
+    let e : n + (m - n) ≡ m = omega arith in
+    record {
+      skipped = subst (Skipped t n) e (skip-run t n (m - n) (omega arith) (λ p a b. none p a (omega arith)));
+      order = omega arith;
+      here = λ p. absurd (omega arith);
+    }
+
+-- what was skipped before a part that is looked at
+module _ (t : Bytes) (from i m r : ℕ) (before : Skipped t from i) (first : FirstIn t i m r) where
+  -- is skipped with what was skipped in it
+  skip-on : Skipped t from r
+  skip-on = record {
+    is = first .skipped .is ∙ before .is;
+    behind = omega (arith, before .behind, first .skipped .behind);
+    inside = first .skipped .inside;
+  }
+
+  -- none was found
+  first-on : m ≤ r → Skipped t from m
+  first-on n = let e : r ≡ m = omega (arith, first .order) in subst (Skipped t from) e skip-on
+
+  -- a mark that was found is the first
+  found-here : r < m → r ≡ from + freeSpace (drop from t)
+  found-here h = omega (arith, skip-on .is, space-mark (drop r t) (first .here h))
+
+-- four bytes in which no mark begins are skipped
+pub fours-on : (t : Bytes) (from i r : ℕ) → Skipped t from i → FirstIn t i (i + 4) r → i + 4 ≤ r → Skipped t from (i + 4)
+fours-on t from i r before first q = first-on t from i (i + 4) r before first q
+
+-- fours are looked at one after another
+module _ (t : Bytes) (from count i k : ℕ) (before : Skipped t from i) (at : i ≡ from + 4 * k) where
+  -- a mark begins in the next
+  pub fours-here : (r : ℕ) → k < count → FirstIn t i (i + 4) r → r < i + 4 → FirstIn t from (from + 4 * count) r
+  fours-here r h first q = record { skipped = skip-on t from i (i + 4) r before first; order = omega arith; here = λ p. first .here q }
+
+  -- none is left
+  pub fours-done : k ≤ count → count ≤ k → FirstIn t from (from + 4 * count) i
+  fours-done h q = record { skipped = before; order = omega arith; here = λ p. absurd (omega arith) }
+
+-- fewer than four bytes are left, so no mark
+rest-none : (t : Bytes) (i end : ℕ) → Skipped t i end → length t < end + 4 → length t ≡ i + freeSpace (drop i t)
+unfolding freeSpace
+rest-none t i end h q =
+    let none = first-none t end (length t) (h .inside) (omega arith) (λ p a b. no-mark t p (λ m. omega (arith, begins-inside mark p t m (omega arith)))) in
+    let all : length t ≤ length t = omega arith in
+    omega (arith, h .is, none .skipped .is, ap freeSpace (drop-of-length-le t all))
+
+-- what is left has so many fours
+module _ (t : Bytes) (i n r : ℕ) (inside : i ≤ length t) (whole : n ≡ (length t - i) / 4) (first : FirstIn t i (i + 4 * n) r) where
+  -- a mark begins in one of them
+  pub rest-here : r < i + 4 * n → r ≡ i + freeSpace (drop i t)
+  rest-here h = found-here t i i (i + 4 * n) r (skip-none t i inside) first h
+
+  -- none does
+  pub rest-end : i + 4 * n ≤ r → length t ≡ i + freeSpace (drop i t)
+  rest-end h = rest-none t i (i + 4 * n) (first-on t i i (i + 4 * n) r (skip-none t i inside) first h) (omega arith)
+
+-- the search along blocks
+module _ (t : Bytes) (i : ℕ) (before : Skipped t 0 i) where
+  module _ (r : ℕ) (first : FirstIn t i (i + 64) r) where
+    -- a mark begins in this one
+    pub block-here : r < i + 64 → r ≡ freeSpace t
+    block-here h = omega (arith, found-here t 0 i (i + 64) r before first h)
+
+    -- none does
+    pub block-on : i + 64 ≤ r → Skipped t 0 (i + 64)
+    block-on h = first-on t 0 i (i + 64) r before first h
+
+  -- no block is left
+  pub block-rest : (r : ℕ) → r ≡ i + freeSpace (drop i t) → r ≡ freeSpace t
+  block-rest r e = omega (arith, before .is)
+
+-- the last of four bytes, and its place in a mark
+module _ (t : Bytes) (i back : ℕ) (room : i + 4 ≤ length t) (is : back ≡ 0 + indexOf (getD t (i + 3) 0) (slice 0 4 mark)) where
+  place : back ≡ indexOf (getD t (i + 3) 0) mark
+  unfolding slice
+  place = omega (arith, is)
+
+  -- a mark can begin only so far before it
+  other-start : (p : ℕ) → i ≤ p → p < i + 4 → (p + back ≡ i + 3 → ⊥) → begins mark (drop p t) ≡ false
+  other-start p a b n = no-mark t p λ h.
+      let there : p + (i + 3 - p) ≡ i + 3 = omega arith in
+      let byte : getD t (i + 3) 0 ≡ getD mark (i + 3 - p) 0 = rw there at (mark-byte t p h (i + 3 - p) (omega arith)) in
+      let only : back ≡ i + 3 - p = place ∙ ap (λ (x : ℕ). indexOf x mark) byte ∙ mark-place (i + 3 - p) (omega arith) in
+      n (omega arith)
+
+  -- it belongs to no mark
+  pub four-none : back ≡ 4 → FirstIn t i (i + 4) (i + 4)
+  four-none e = first-none t i (i + 4) (omega arith) room (λ p a b. other-start p a b (λ q. omega arith))
+
+  module _ (most : back ≤ 4) (n : back ≡ 4 → ⊥) (m : Bool) (mark-is : m ≡ begins mark (drop (i + 3 - back) t)) where
+    -- it belongs to a mark
+    pub four-here : m ≡ true → FirstIn t i (i + 4) (i + 3 - back)
+    four-here e = record {
+      skipped = first-none t i (i + 3 - back) (omega arith) (omega arith) (λ p a b. other-start p a (omega arith) (λ q. omega arith)) .skipped;
+      order = omega arith;
+      here = λ p. sym mark-is ∙ e;
+    }
+
+    -- it could, but does not
+    pub four-other : m ≡ false → FirstIn t i (i + 4) (i + 4)
+    four-other e = first-none t i (i + 4) (omega arith) room (λ p a b. go p a b (eqb p (i + 3 - back)) refl)
+      where
+        go : (p : ℕ) → i ≤ p → p < i + 4 → (x : Bool) → eqb p (i + 3 - back) ≡ x → begins mark (drop p t) ≡ false
+        go p a b true q = rw (eqb-true p (i + 3 - back) q) (sym mark-is ∙ e)
+        go p a b false q = other-start p a b (λ h. eqb-false p (i + 3 - back) q (omega arith))
+
+-- the last of four bytes belongs to no mark
+pub four-unmarked : (t : Bytes) (i : ℕ) (x : Bool) → i + 4 ≤ length t → InMark (getD t (i + 3) 0) x → not x ≡ true → FirstIn t i (i + 4) (i + 4)
+four-unmarked t i x room is none-seen = first-none t i (i + 4) (omega arith) room λ p a b. no-mark t p λ h.
+    true≢false (sym (is .tells (byte-of-mark t p (i + 3) h (omega arith) (omega arith))) ∙ not-true x none-seen)
+
+-- all four bytes of a mark are compared
+pub in-mark : (b : ℕ) → InMark b (eqb b 0xD3 || eqb b 0x42 || eqb b 0x4C || eqb b 0x4B)
+in-mark b = record { tells = λ m. rw (m .is) (each (m .place) (m .few)) }
+  where
+    compared : ℕ → Bool
+    compared b = eqb b 0xD3 || eqb b 0x42 || eqb b 0x4C || eqb b 0x4B
+
+    each : (j : ℕ) → j < 4 → compared (getD mark j 0) ≡ true
+    each = four-places (λ j. compared (getD mark j 0) ≡ true) refl refl refl refl
+
+-- and so with four bytes from an offset on
+pub mark-at : (t : Bytes) (p : ℕ)
+    → MarkAt t p (eqb (getD t p 0) 0xD3 && eqb (getD t (p + 1) 0) 0x42 && eqb (getD t (p + 2) 0) 0x4C && eqb (getD t (p + 3) 0) 0x4B)
+mark-at t p = record {
+  tells = λ h.
+      let byte = mark-byte t p h in
+      let first : getD t p 0 ≡ 0xD3 = rw add-zero at (byte 0 (omega arith)) in
+      rw (first, byte 1 (omega arith), byte 2 (omega arith), byte 3 (omega arith)) refl;
+}
+
+-- of nothing is it told yet
+pub told-none : (p : ℕ → Type 0) → Told p 0 false
+told-none p = record { tells = λ i h. absurd (omega arith) }
+
+-- of one more it is
+told-step : (p : ℕ → Type 0) (k : ℕ) (seen x : Bool) → Told p k seen → (p k → x ≡ true) → Told p (k + 1) (seen || x)
+told-step p k seen x h one = record { tells = λ i q. go i q (eqb i k) refl }
+  where
+    go : (i : ℕ) → i < k + 1 → (y : Bool) → eqb i k ≡ y → p i → (seen || x) ≡ true
+    go i q true e f = ap (λ (y : Bool). seen || y) (one (subst p (eqb-true i k e) f)) ∙ or-true seen
+    go i q false e f = ap (λ (y : Bool). y || x) (h .tells i (omega (arith, eqb-false i k e)) f)
+
+-- of all it is
+pub told-all : (p : ℕ → Type 0) (k : ℕ) (seen : Bool) → Told p k seen → k ≤ 64 → 64 ≤ k → Told p 64 seen
+told-all p k seen h a b = record { tells = λ i l. h .tells i (omega arith) }
+
+-- one more byte is a fourth one of a mark or not
+pub fourth-step : (t : Bytes) (n k : ℕ) (seen x : Bool) → Told (fourthOfMark t n) k seen → InMark (getD t (n + k) 0) x
+    → Told (fourthOfMark t n) (k + 1) (seen || (eqb (k % 4) 3 && x))
+fourth-step t n k seen x h one = told-step (fourthOfMark t n) k seen _ h (λ f. rw (f .0, one .tells (f .1)) refl)
+
+-- at one more byte a mark begins or not
+pub begin-step : (t : Bytes) (n k : ℕ) (seen x : Bool) → Told (beginsMark t n) k seen → MarkAt t (n + k) x
+    → Told (beginsMark t n) (k + 1) (seen || x)
+begin-step t n k seen x h one = told-step (beginsMark t n) k seen x h (one .tells)
+
+-- no byte is looked at yet
+pub fourths-begin : (t : Bytes) (n : ℕ) → FourthsUpTo t n 0 0
+fourths-begin t n = record { most = λ j h. absurd (omega arith) }
+
+-- one more is
+pub fourths-step : (t : Bytes) (n k seen : ℕ) → FourthsUpTo t n k seen → FourthsUpTo t n (k + 1) (bitOr seen (getD t (n + 4 * k + 3) 0))
+fourths-step t n k seen h = record { most = λ j q. go j q (eqb j k) refl }
+  where
+    b : ℕ
+    b = getD t (n + 4 * k + 3) 0
+
+    go : (j : ℕ) → j < k + 1 → (x : Bool) → eqb j k ≡ x → getD t (n + 4 * j + 3) 0 ≤ bitOr seen b
+    go j q true e = rw (eqb-true j k e) (omega (arith, or-add-and seen b, and-le-l seen b))
+    go j q false e =
+        let less : j < k = omega (arith, eqb-false j k e) in
+        omega (arith, h .most j less, or-add-and seen b, and-le-r seen b)
+
+-- all are
+pub fourths-done : (t : Bytes) (n k seen : ℕ) → FourthsUpTo t n k seen → k ≤ 16 → 16 ≤ k → FourthsUpTo t n 16 seen
+fourths-done t n k seen h p q = record { most = λ j l. h .most j (omega arith) }
+
+-- no mark begins among 64 bytes of which no fourth byte belongs to one
+unmarked : (t : Bytes) (n : ℕ) → n + 67 ≤ length t → ((i : ℕ) → i < 64 → i % 4 ≡ 3 → IsOfMark (getD t (n + i) 0) → ⊥) → FirstIn t n (n + 64) (n + 64)
+unmarked t n room never = first-none t n (n + 64) (omega arith) (omega arith) λ p a b. no-mark t p λ m.
+    let i = 4 * ((p - n) / 4) + 3 in
+    never i (omega arith) (omega arith) (byte-of-mark t p (n + i) m (omega arith) (omega arith))
+
+-- for none of the 16 is as high as a byte of a mark
+pub fourths-none : (t : Bytes) (n x : ℕ) → FourthsUpTo t n 16 x → n + 67 ≤ length t → x < 0x42 → FirstIn t n (n + 64) (n + 64)
+fourths-none t n x h room low = unmarked t n room λ i l f m.
+    let there : n + 4 * (i / 4) + 3 ≡ n + i = omega arith in
+    omega (arith, m .is, mark-high (m .place) (m .few), rw there at (h .most (i / 4) (omega arith)))
+
+-- for none of them is one
+pub fourth-none : (t : Bytes) (n : ℕ) (x : Bool) → Told (fourthOfMark t n) 64 x → n + 67 ≤ length t → not x ≡ true → FirstIn t n (n + 64) (n + 64)
+fourth-none t n x h room none-seen = unmarked t n room λ i l f m. true≢false (sym (h .tells i l (f, m)) ∙ not-true x none-seen)
+
+-- none begins there
+pub begin-none : (t : Bytes) (n : ℕ) (x : Bool) → Told (beginsMark t n) 64 x → n + 67 ≤ length t → not x ≡ true → FirstIn t n (n + 64) (n + 64)
+begin-none t n x h room none-seen = first-none t n (n + 64) (omega arith) (omega arith) λ p a b. no-mark t p λ m.
+    let there : n + (p - n) ≡ p = omega arith in
+    true≢false (sym (h .tells (p - n) (omega arith) (rw there m)) ∙ not-true x none-seen)

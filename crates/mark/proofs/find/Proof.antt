@@ -1,0 +1,17 @@
+-- `mark::find` meets its contract: the first mark of the part from the offset on.
+use borrow.Author.Needs.{needs}
+use Rattle.mark.proofs.MarkLaws.{found-behind, found-fits, found-part}
+use Rattle.mark.proofs.find.Statement.{statement}
+use Rattle.mark.proofs.find.Tie as tie
+
+pub find-spec : {M : Type 1} → statement M
+find-spec =
+    tie.close
+    (tie.spec
+    (λ c. search (found-behind, needs))
+    (λ c. search needs)
+    (λ c. search needs)
+    (λ c. search needs)
+    (λ c κs. search needs)
+    (λ c. search (found-fits, needs))
+    (λ c. search (found-part, needs)))

@@ -1,0 +1,149 @@
+// The search by fours. A mark is four bytes long, so one of every four bytes belongs to it: every fourth byte is looked at first,
+// and the search steps back only from one that belongs to a mark.
+// The tests of 64 bytes have no early exit, no branch and no table, so that the compiler tests many bytes at once.
+ghost use Prim.Native.Nat.{_+_, _*_, _≤_};
+ghost use mathlib.Core.Path.{_≡_};
+ghost use lib.ListN.{length, drop};
+ghost use Rattle.format.specs.Tree.{freeSpace};
+ghost use Rattle.mark.specs.Fours.{FirstIn, FourthsUpTo, Told, InMark, MarkAt, fourthOfMark, beginsMark};
+use crate::is_mark;
+
+// How many bytes stand before the first mark, or before the end. Blocks of 64 are tested for the marks that begin in them, so
+// three more bytes have to be there.
+pub(crate) fn free_space(t: &[u8]) -> usize
+    ensures { λ r. ⌜ (r ≡ freeSpace (now (t .entry))) × (r ≤ length (now (t .entry))) ⌝ }
+{
+    let mut i = 0;
+    while 67 <= t.len() - i {
+        let r = in_block(t, i);
+        if r < i + 64 {
+            return r;
+        }
+        i += 64;
+    }
+    in_rest(t, i)
+}
+
+// The first mark from an offset on, or the end. Fewer than four bytes hold no mark.
+fn in_rest(t: &[u8], i: usize) -> usize
+    requires { ⌜ i ≤ length (now t) ⌝ }
+    ensures { λ r. ⌜ (r ≡ i + freeSpace (drop i (now (t .entry)))) × (r ≤ length (now (t .entry))) ⌝ }
+{
+    let fours = (t.len() - i) / 4;
+    let end = i + 4 * fours;
+    let r = in_fours(t, i, fours);
+    if r < end {
+        return r;
+    }
+    t.len()
+}
+
+// Where the first mark begins among the next 64 bytes, or the byte after them. No byte of a mark is below 42: that is told fastest,
+// and passes spaces and zeros. Then it is told whether a fourth byte belongs to a mark, and only where one does, whether a mark
+// begins here. So no content, however it was made, is gone through four by four before the first mark.
+fn in_block(t: &[u8], i: usize) -> usize
+    requires { ⌜ i + 67 ≤ length (now t) ⌝ }
+    ensures { λ r. ⌜ FirstIn (now (t .entry)) i (i + 64) r ⌝ }
+{
+    if fourths(t, i) < 0x42 {
+        return i + 64;
+    }
+    if !marked_fourths(t, i) {
+        return i + 64;
+    }
+    if !has_mark(t, i) {
+        return i + 64;
+    }
+    in_fours(t, i, 16)
+}
+
+// No fourth byte of the next 64 is above this.
+fn fourths(t: &[u8], from: usize) -> u8
+    requires { ⌜ from + 64 ≤ length (now t) ⌝ }
+    ensures { λ r. ⌜ FourthsUpTo (now (t .entry)) from 16 r ⌝ }
+{
+    let mut seen = 0u8;
+    for k in 0..16 {
+        seen = seen | t[from + 4 * k + 3];
+    }
+    seen
+}
+
+// Whether a fourth byte of the next 64 belongs to a mark. The loop goes through all 64, since the compiler tests many bytes at once
+// only if they stand side by side, but only every fourth counts.
+fn marked_fourths(t: &[u8], from: usize) -> bool
+    requires { ⌜ from + 64 ≤ length (now t) ⌝ }
+    ensures { λ r. ⌜ Told (fourthOfMark (now (t .entry)) from) 64 r ⌝ }
+{
+    let mut seen = false;
+    for j in 0..64 {
+        seen = seen | ((j % 4 == 3) & in_mark(t[from + j]));
+    }
+    seen
+}
+
+// Whether a mark begins at one of the next 64 bytes.
+fn has_mark(t: &[u8], from: usize) -> bool
+    requires { ⌜ from + 67 ≤ length (now t) ⌝ }
+    ensures { λ r. ⌜ Told (beginsMark (now (t .entry)) from) 64 r ⌝ }
+{
+    let mut seen = false;
+    for j in 0..64 {
+        seen = seen | mark_at(t, from + j);
+    }
+    seen
+}
+
+// Whether a mark begins at an offset: all four bytes are compared, with no branch.
+fn mark_at(t: &[u8], at: usize) -> bool
+    requires { ⌜ at + 4 ≤ length (now t) ⌝ }
+    ensures { λ r. ⌜ MarkAt (now (t .entry)) at r ⌝ }
+{
+    (t[at] == 0xD3) & (t[at + 1] == 0x42) & (t[at + 2] == 0x4C) & (t[at + 3] == 0x4B)
+}
+
+// Whether a byte belongs to a mark: all four are compared, with no branch that some bytes could mislead.
+fn in_mark(b: u8) -> bool
+    ensures { λ r. ⌜ InMark b r ⌝ }
+{
+    (b == 0xD3) | (b == 0x42) | (b == 0x4C) | (b == 0x4B)
+}
+
+// Where the first mark begins in so many fours of bytes, or the byte after them.
+fn in_fours(t: &[u8], from: usize, count: usize) -> usize
+    requires { ⌜ from + 4 * count ≤ length (now t) ⌝ }
+    ensures { λ r. ⌜ FirstIn (now (t .entry)) from (from + 4 * count) r ⌝ }
+{
+    let mut i = from;
+    let mut k = 0;
+    while k < count {
+        let r = in_four(t, i);
+        if r < i + 4 {
+            return r;
+        }
+        i += 4;
+        k += 1;
+    }
+    i
+}
+
+// Where a mark begins among the next four bytes, or the byte after them. The bytes of a mark differ, so the last of the four tells
+// the only place.
+fn in_four(t: &[u8], i: usize) -> usize
+    requires { ⌜ i + 4 ≤ length (now t) ⌝ }
+    ensures { λ r. ⌜ FirstIn (now (t .entry)) i (i + 4) r ⌝ }
+{
+    let last = t[i + 3];
+    if !in_mark(last) {
+        return i + 4;
+    }
+    let back = bytes::scan::find(b"\xD3BLK", 0, 4, last);
+    if back == 4 {
+        return i + 4;
+    }
+    let start = i + 3 - back;
+    if is_mark(t, start) {
+        return start;
+    }
+    i + 4
+}
