@@ -11,6 +11,8 @@ use std::io;
 use std::ops::Deref;
 
 extern "C" {
+    fn bench_find_mark(bytes: *const u8, length: usize, at: usize) -> usize;
+    fn bench_find_mark_plain(bytes: *const u8, length: usize, at: usize) -> usize;
     fn memchr(bytes: *const c_void, byte: c_int, length: usize) -> *mut c_void;
     fn memmem(
         bytes: *const c_void,
@@ -18,6 +20,25 @@ extern "C" {
         wanted: *const c_void,
         wanted_length: usize,
     ) -> *mut c_void;
+}
+
+/// A proved search for a mark.
+type Search = unsafe extern "C" fn(*const u8, usize, usize) -> usize;
+
+/// Where the first mark at or after an offset begins, or the end: the search of the core.
+pub fn find_mark(bytes: &[u8], at: usize) -> usize {
+    searched(bench_find_mark, bytes, at)
+}
+
+/// The same by the plain search, which looks at every byte.
+pub fn find_mark_plain(bytes: &[u8], at: usize) -> usize {
+    searched(bench_find_mark_plain, bytes, at)
+}
+
+/// What a proved search finds.
+fn searched(search: Search, bytes: &[u8], at: usize) -> usize {
+    // SAFETY: the pointer comes from a slice with this length, and lives through the call.
+    unsafe { search(bytes.as_ptr(), bytes.len(), at) }
 }
 
 /// Where libc finds a byte first.

@@ -4,6 +4,7 @@ use crate::answers::Answers;
 use crate::generate::{places_of, MARK};
 use crate::limits::limits;
 use crate::nest_goals::nest_goals;
+use crate::searches::BLOCK;
 use asdf_second::{Block, Record, Verdict};
 
 /// All verdicts.
@@ -139,6 +140,13 @@ fn parts() -> Vec<Goal> {
         Goal::of_file("tree with free space", |_, answers| {
             answers.tree().is_some_and(|tree| tree.end < tree.room_end)
         }),
+        Goal::of_file("free space of 64 bytes and more", |_, answers| {
+            free_space(answers).is_some_and(|length| length >= BLOCK)
+        }),
+        Goal::of_file("first mark over two blocks of 64", |_, answers| {
+            let over = |length: usize| length % BLOCK > BLOCK - MARK.len();
+            !answers.blocks().is_empty() && free_space(answers).is_some_and(over)
+        }),
         Goal::of_file("tree with a mark inside", |file, answers| {
             answers.tree().is_some_and(|tree| {
                 let bytes = &file[tree.start.0 as usize..tree.end.0 as usize];
@@ -150,6 +158,12 @@ fn parts() -> Vec<Goal> {
         }),
         Goal::of_file("header ended by 0D 0A", ends_with_0d_0a),
     ]
+}
+
+/// The length of the free space behind a tree.
+fn free_space(answers: &Answers) -> Option<usize> {
+    let tree = answers.tree()?;
+    Some((tree.room_end.0 - tree.end.0) as usize)
 }
 
 /// Whether an accepted file has comments.

@@ -16,6 +16,7 @@ use crate::long_edits::{LongEdit, LONG_EDITS};
 use crate::long_files::{long_files, LongFile};
 use crate::nests;
 use crate::same::same;
+use crate::searches::{compare_in_file, compare_strings, search_goals, Search};
 use crate::self_check;
 use crate::stored_answers::StoredAnswers;
 use crate::stored_goals::stored_goals;
@@ -73,6 +74,8 @@ struct Outcome {
     coverage: Coverage,
     stored_coverage: Coverage<StoredAnswers>,
     edit_coverage: Coverage<EditAnswers>,
+    search_coverage: Coverage<Search>,
+    searches: u64,
     calls: Calls,
     bytes: u64,
     longest: usize,
@@ -87,10 +90,11 @@ pub fn run(seed: u64, count: u64) -> io::Result<bool> {
     let outcome = check_files(seed, count)?;
     let missing = outcome.missing(count);
     print!("{}{}", outcome.coverage, outcome.stored_coverage);
-    print!("{}", outcome.edit_coverage);
+    print!("{}{}", outcome.edit_coverage, outcome.search_coverage);
     print!("{}", outcome.calls);
     println!("{} bytes, longest file {}", outcome.bytes, outcome.longest);
     println!("{} files with files inside", outcome.nests);
+    println!("{} searches for a mark", outcome.searches);
     for name in &missing {
         println!("never reached: {name}");
     }
@@ -105,6 +109,8 @@ pub fn run(seed: u64, count: u64) -> io::Result<bool> {
 /// Checks the long files, then generates and checks others.
 fn check_files(seed: u64, count: u64) -> io::Result<Outcome> {
     let mut outcome = Outcome::new();
+    let checked = outcome.check_searches(seed);
+    outcome.tell("searches for a mark", checked);
     for long in long_files()? {
         let checked = outcome.check_long_file(&long);
         outcome.tell(long.name, checked);
@@ -132,6 +138,8 @@ impl Outcome {
             coverage: Coverage::new(goals()),
             stored_coverage: Coverage::new(stored_goals()),
             edit_coverage: Coverage::new(edit_goals()),
+            search_coverage: Coverage::new(search_goals()),
+            searches: 0,
             calls: Calls::new(),
             bytes: 0,
             longest: 0,
@@ -145,6 +153,7 @@ impl Outcome {
         let mut missing = self.coverage.missing();
         missing.extend(self.stored_coverage.missing());
         missing.extend(self.edit_coverage.missing());
+        missing.extend(self.search_coverage.missing());
         missing.extend(self.calls.missing());
         if self.nests < least_nests {
             missing.push(format!("{least_nests} files with files inside"));
@@ -177,6 +186,12 @@ impl Outcome {
         report(name, &generated.parts(), &reason)
     }
 
+    /// Compares the searches for a mark on short strings.
+    fn check_searches(&mut self, seed: u64) -> Result<(), String> {
+        self.searches += compare_strings(seed, &mut self.search_coverage)?;
+        Ok(())
+    }
+
     /// Puts a generated file through all checks.
     fn check_file(&mut self, file: &[u8]) -> Result<(), String> {
         self.bytes += file.len() as u64;
@@ -185,6 +200,7 @@ impl Outcome {
         let answers = self.compare_file(&lent)?;
         self.nests += u64::from(answers.records().iter().any(holds_a_file));
         without_panic(|| read_back(&lent, &answers, &mut self.calls))??;
+        self.searches += compare_in_file(&lent)?;
         same("the file after all calls", &lent[..], file)?;
         without_panic(|| self_check::check(file, &answers))?
     }
@@ -218,6 +234,7 @@ impl Outcome {
         let outcome = expected.as_ref().map(|_| ()).map_err(|&refusal| refusal);
         let answers = without_panic(|| EditAnswers::to(&edit.file, &edit.text, outcome))?;
         self.edit_coverage.count(&edit.file, &answers);
+        self.searches += compare_in_file(&edit.file)?;
         without_panic(|| compare_edit(edit, &expected, exports::edit, &mut self.calls))?
     }
 

@@ -106,3 +106,62 @@ fn p13_edit_with_one_byte_too_many_is_refused_with_20() {
     assert_eq!(exports::edit(&mut file, text), 20 << 56);
     assert_eq!(file, one_tree());
 }
+
+/// The smallest tree: it stands from 12 to 30.
+const LEAST_TREE: &[u8] = b"%YAML 1.1\n---\n...\n";
+/// Where it ends.
+const TREE_END: usize = 30;
+
+/// Where the room of the smallest tree ends, with this behind it up to the end of the file. By the layout, if the file is
+/// accepted; both proved searches have to find the same.
+fn room_end(behind: &[u8]) -> usize {
+    let file = [HEADER_LINE, LEAST_TREE, behind].concat();
+    let found = exports::find_mark(&file, TREE_END);
+    assert_eq!(exports::find_mark_plain(&file, TREE_END), found);
+    let mut layout = [0; 88];
+    if exports::read(&file, &mut layout) == 88 {
+        assert_eq!(layout[64..72], (found as u64).to_be_bytes());
+    }
+    found
+}
+
+/// Where the room ends if these bytes and an empty block stand behind the tree.
+fn room_end_before_a_block(space: &[u8]) -> usize {
+    room_end(&[space, &block_header(0, 0)].concat())
+}
+
+#[test]
+fn mark_is_found_after_any_number_of_spaces() {
+    for spaces in 0..=200 {
+        let found = room_end_before_a_block(&vec![b' '; spaces]);
+        assert_eq!(found, TREE_END + spaces);
+    }
+}
+
+#[test]
+fn mark_is_found_after_parts_of_one() {
+    let cases: [(&[u8], usize); 4] = [
+        (b"\xD3", 31),
+        (b"KKKKKKKK", 38),
+        (b"\xD3BL", 33),
+        (b"\xD3BLK", 30),
+    ];
+    for (space, expected) in cases {
+        assert_eq!(room_end_before_a_block(space), expected);
+    }
+}
+
+#[test]
+fn first_of_two_marks_in_reach_is_found() {
+    assert_eq!(room_end_before_a_block(b"x\xD3BLK"), 31);
+    let file = [HEADER_LINE, LEAST_TREE, b"x\xD3BLK", &block_header(0, 0)].concat();
+    let cut_header_at_31 = (11 << 56) + 31;
+    assert_eq!(exports::read(&file, &mut [0; 88]), cut_header_at_31);
+}
+
+#[test]
+fn room_without_a_mark_ends_with_the_file() {
+    for behind in [&b""[..], b"\xD3", b"\xD3B", b"\xD3BL", b"  \xD3", b"K"] {
+        assert_eq!(room_end(behind), TREE_END + behind.len());
+    }
+}

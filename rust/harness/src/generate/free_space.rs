@@ -18,6 +18,10 @@ const MEANINGLESS: &[&[u8]] = &[
     b"\0\0\0\0\0\0\0\0",
 ];
 
+/// The longest free space of most files, and of some.
+const SHORT: usize = 40;
+const LONG: usize = 300;
+
 /// Free space, none in half of the files; wrong one holds a mark that begins no good block.
 pub fn free_space(rng: &mut Rng, wrong: bool) -> Vec<u8> {
     let mut space = any_space(rng);
@@ -30,9 +34,10 @@ pub fn free_space(rng: &mut Rng, wrong: bool) -> Vec<u8> {
     space
 }
 
-/// Free space with a mark at most by accident.
+/// Free space with a mark at most by accident; one in four may be longer than the blocks in which a mark is searched.
 fn any_space(rng: &mut Rng) -> Vec<u8> {
-    let length = rng.between(1, 40);
+    let longest = if rng.chance(4) { LONG } else { SHORT };
+    let length = rng.between(1, longest);
     match rng.below(12) {
         0 | 1 => vec![b' '; length],
         2 => rng.bytes(length),

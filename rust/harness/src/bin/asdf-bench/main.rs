@@ -6,6 +6,7 @@ mod edit;
 mod measure;
 mod outline;
 mod read;
+mod search;
 
 use measure::RUNS;
 use std::io;
@@ -18,5 +19,8 @@ fn main() -> io::Result<()> {
     outline::print_table()?;
     println!();
     println!("edits in place");
-    edit::print_table()
+    edit::print_table()?;
+    println!();
+    println!("the search for a mark over 1 MiB without one");
+    search::print_table()
 }

@@ -1,0 +1,19 @@
+// Shared by the build scripts: links a static library of proved functions.
+
+use std::path::Path;
+
+/// The repository's root, from a package's folder.
+const ROOT: &str = concat!(env!("CARGO_MANIFEST_DIR"), "/../..");
+
+/// Links `target/staticlib/libNAME.a`, or says how to get it.
+fn link(name: &str) {
+    let folder = Path::new(ROOT).join("target/staticlib");
+    let library = folder.join(format!("lib{name}.a"));
+    println!("cargo::rerun-if-changed={}", library.display());
+    if library.exists() {
+        println!("cargo::rustc-link-search=native={}", folder.display());
+        println!("cargo::rustc-link-lib=static={name}");
+    } else {
+        println!("cargo::error=there is no target/staticlib/lib{name}.a: run ./test, or rt staticlib {name}, first");
+    }
+}
