@@ -21,15 +21,6 @@ use Rattle.format.specs.Export.{leastRefusal, word, Returned, Exported, Outline
 use Rattle.format.proofs.NumberedLaws.{Numbered, numbered-more, numbered-writes, numbered-done, numbered-outline, numbered-rewritten, numbered-index, numbered-edit}
 use Rattle.format.proofs.WordLaws.{word-large, Counts, returned, returned-writes}
 
--- a count, or a refusal
-pub word-counted : (a : CountAnswer) (n : ℕ) → a ≡ CountAnswer·is.Counted n → n ≡ word (countAnswer a)
-unfolding countAnswer
-word-counted a n e = rw e
-
-pub word-refused : (a : CountAnswer) (r : Refusal) → a ≡ CountAnswer·is.Refused r → (w : ℕ) → w ≡ word (refused r) → w ≡ word (countAnswer a)
-unfolding countAnswer
-word-refused a r e w h = rw e h
-
 -- 0, or a refusal
 pub word-edited : (a : EditAnswer) → a ≡ EditAnswer·is.Edited → 0 ≡ word (_>>_ (editAnswer a) (accepted 0))
 unfolding editAnswer

@@ -1,15 +1,17 @@
 // The functions that C and Rust call. Each returns one number: how many bytes it put at the start of the lent buffer, or the
 // count that was asked for, or a refusal, its number in the top byte and its place below. A refusal changes no byte. Where all
 // that is lent is shorter than 2^56 bytes, the number can be read in one way only.
-mod word;
-
+ghost use mathlib.Core.Path.{_≡_};
 ghost use lib.ListN.{length};
-ghost use Rattle.format.specs.Export.{Returned, Exported, OutlineExported, RewriteExported, IndexExported, EditExported};
+ghost use Rattle.format.specs.Outcome.{accepted, _>>_ as Outcome·then};
+ghost use Rattle.format.specs.Answer.{editAnswer};
+ghost use Rattle.format.specs.Export.{word as Export·word, Returned, Exported, OutlineExported, RewriteExported, IndexExported, EditExported};
 ghost use Rattle.format.specs.Fields.{layoutBytes, blockFields, recordFields, rowFields, foundBytes, recordTable};
 ghost use Rattle.format.specs.File.{blockAt};
 ghost use Rattle.format.specs.Nest.{recordCount, recordAt};
 ghost use Rattle.format.specs.Outline.{storedCount, storedAt};
 use format::answer::BlockAnswer;
+use format::answer::EditAnswer;
 use format::answer::LayoutAnswer;
 use format::answer::RowAnswer;
 
@@ -118,5 +120,15 @@ pub extern "C" fn asdf_rewrite(stored: &[u8], out: &mut [u8]) -> u64
 pub extern "C" fn asdf_edit(file: &mut [u8], text: &[u8]) -> u64
     ensures { λ r. ⌜ EditExported (now (file .entry)) (now (text .entry)) (now (file .exit)) r ⌝ }
 {
-    word::edited(edit::edit(file, text))
+    edited(edit::edit(file, text))
+}
+
+// 0 where it was edited, or the refusal.
+fn edited(a: EditAnswer) -> u64
+    ensures { λ w. ⌜ w ≡ Export·word (Outcome·then (editAnswer a) (accepted 0)) ⌝ }
+{
+    match a {
+        EditAnswer::Edited => 0,
+        EditAnswer::Refused(r) => word::refused(r),
+    }
 }

@@ -1,24 +1,22 @@
-// Answers as one number, and numbers in the lent buffer.
+// The one number that an exported function returns, and numbers in the lent buffer.
 ghost use mathlib.Core.Path.{_≡_};
-ghost use Rattle.format.specs.Outcome.{accepted, refused as Outcome·refused, _>>_ as Outcome·then};
-ghost use Rattle.format.specs.Answer.{countAnswer, editAnswer};
+ghost use Rattle.format.specs.Outcome.{accepted, refused as Outcome·refused};
+ghost use Rattle.format.specs.Answer.{countAnswer};
 ghost use Rattle.format.specs.Export.{word};
 ghost use Rattle.format.specs.Fields.{numberBytes};
 ghost use Rattle.format.specs.Written.{Written};
 use format::answer::CountAnswer;
-use format::answer::EditAnswer;
-use format::offset::Offset;
 use format::refusal::Refusal;
 
 // A refusal: its number in the top byte, and the place below.
-pub(crate) fn refused(r: Refusal) -> u64
+pub fn refused(r: Refusal) -> u64
     ensures { λ w. ⌜ w ≡ word (Outcome·refused r) ⌝ }
 {
     r.number as u64 * 72057594037927936 + r.place.0 % 72057594037927936
 }
 
 // A count, or the refusal.
-pub(crate) fn counted(a: CountAnswer) -> u64
+pub fn counted(a: CountAnswer) -> u64
     ensures { λ w. ⌜ w ≡ word (countAnswer a) ⌝ }
 {
     match a {
@@ -27,26 +25,13 @@ pub(crate) fn counted(a: CountAnswer) -> u64
     }
 }
 
-// 0 where it was edited, or the refusal.
-pub(crate) fn edited(a: EditAnswer) -> u64
-    ensures { λ w. ⌜ w ≡ word (Outcome·then (editAnswer a) (accepted 0)) ⌝ }
-{
-    match a {
-        EditAnswer::Edited => 0,
-        EditAnswer::Refused(r) => refused(r),
-    }
-}
-
 // Puts numbers at the buffer's start, each in eight bytes, and answers how many bytes that are; refuses a buffer that is too
 // short.
-pub(crate) fn put_numbers(out: &mut [u8], numbers: &[u64]) -> CountAnswer
+pub fn put_numbers(out: &mut [u8], numbers: &[u64]) -> CountAnswer
     ensures { λ r. ⌜ Written (accepted (numberBytes (now (numbers .entry)))) (now (out .entry)) (now (out .exit)) r ⌝ }
 {
     if out.len() / 8 < numbers.len() {
-        return CountAnswer::Refused(Refusal {
-            number: 21,
-            place: Offset(0),
-        });
+        return CountAnswer::Refused(Refusal::new(21, 0));
     }
     put::put_numbers(out, 0, numbers);
     CountAnswer::Counted(8 * numbers.len() as u64)

@@ -1,8 +1,8 @@
 -- Of an edit 0 is returned, and a refusal as its number.
 use borrow.Author.Needs.{needs}
 use Rattle.asdf.proofs.WordLaws.{word-edited, word-unedited}
-use Rattle.asdf.proofs.word.edited.Statement.{statement}
-use Rattle.asdf.proofs.word.edited.Tie as tie
+use Rattle.asdf.proofs.edited.Statement.{statement}
+use Rattle.asdf.proofs.edited.Tie as tie
 
 pub edited-spec : {M : Type 1} → statement M
 edited-spec =

@@ -1,8 +1,8 @@
 -- A count is returned as it is, and a refusal as its number.
 use borrow.Author.Needs.{needs}
-use Rattle.asdf.proofs.WordLaws.{word-counted, word-refused}
-use Rattle.asdf.proofs.word.counted.Statement.{statement}
-use Rattle.asdf.proofs.word.counted.Tie as tie
+use Rattle.word.proofs.WordLaws.{word-counted, word-refused}
+use Rattle.word.proofs.counted.Statement.{statement}
+use Rattle.word.proofs.counted.Tie as tie
 
 pub counted-spec : {M : Type 1} → statement M
 counted-spec =
