@@ -6,6 +6,7 @@ use native.Mathlib.Omega.{arith}
 use mathlib.Core.Path.{_≡_, refl, sym, ap, subst, _∙_}
 use mathlib.Core.Bool.{Bool, true, false, not, _&&_, _||_, or-true, true≢false}
 use mathlib.Core.List.{_++_}
+use mathlib.Mathlib.Data.Bool.Basic.{eq-false-of-not-eq-true}
 use lib.ListN.{length, drop, getD, drop-of-length-le}
 use lib.Seq.{getD-drop}
 use lib.Bits.{bitOr, or-add-and, and-le-l, and-le-r}
@@ -50,95 +51,56 @@ byte-of-mark t p q h a b =
     let there : p + (q - p) ≡ q = omega arith in
     record { place = q - p; few = omega arith; is = rw there at (mark-byte t p h (q - p) (omega arith)) }
 
--- no mark begins at p, if one cannot
-no-mark : (t : Bytes) (p : ℕ) → (begins mark (drop p t) ≡ true → ⊥) → begins mark (drop p t) ≡ false
-no-mark t p never = go (begins mark (drop p t)) refl
-  where
-    go : (x : Bool) → begins mark (drop p t) ≡ x → begins mark (drop p t) ≡ false
-    go true e = absurd (never e)
-    go false e = e
+-- k bytes more are skipped, if no mark begins at them
+skip-on : (t : Bytes) (from i k : ℕ) → Skipped t from i → i + k ≤ length t → ((p : ℕ) → i ≤ p → p < i + k → begins mark (drop p t) ≡ true → ⊥)
+    → Skipped t from (i + k)
+skip-on t from i zero before h never = rw add-zero before
+skip-on t from i (suc k) before h never =
+    let less = skip-on t from i k before (omega arith) (λ p a b. never p a (omega arith)) in
+    let none = eq-false-of-not-eq-true (never (i + k) (omega arith) (omega arith)) in
+    let one = mark-none-here t (i + k) _ (less .is) none (omega arith) in
+    let e : i + suc k ≡ i + k + 1 = omega arith in
+    rw e (record { is = one; behind = omega (arith, before .behind); inside = omega arith })
 
--- k bytes at which no mark begins are skipped
-skip-run : (t : Bytes) (n k : ℕ) → n + k ≤ length t → ((p : ℕ) → n ≤ p → p < n + k → begins mark (drop p t) ≡ false) → Skipped t n (n + k)
-skip-run t n zero h none = rw add-zero (skip-none t n (omega arith))
-skip-run t n (suc k) h none =
-    let before = skip-run t n k (omega arith) (λ p a b. none p a (omega arith)) in
-    let one = mark-none-here t (n + k) _ (before .is) (none (n + k) (omega arith) (omega arith)) (omega arith) in
-    let e : n + suc k ≡ n + k + 1 = omega arith in
-    rw e (record { is = one; behind = omega arith; inside = omega arith })
+-- no mark begins in four bytes
+first-none : (t : Bytes) (i : ℕ) → i + 4 ≤ length t → ((p : ℕ) → i ≤ p → p < i + 4 → begins mark (drop p t) ≡ true → ⊥) → FirstIn t i (i + 4)
+first-none t i room never =
+    record { skipped = skip-on t i i 4 (skip-none t i (omega arith)) room never; order = omega arith; here = λ p. absurd (omega arith) }
 
--- and so up to m
-first-none : (t : Bytes) (n m : ℕ) → n ≤ m → m ≤ length t → ((p : ℕ) → n ≤ p → p < m → begins mark (drop p t) ≡ false) → FirstIn t n m m
-first-none t n m h q none =
-    let e : n + (m - n) ≡ m = omega arith in
-    record {
-      skipped = subst (Skipped t n) e (skip-run t n (m - n) (omega arith) (λ p a b. none p a (omega arith)));
-      order = omega arith;
-      here = λ p. absurd (omega arith);
-    }
+-- four by four: what is before i is skipped
+module _ (t : Bytes) (from i : ℕ) (before : Skipped t from i) where
+  module _ (r : ℕ) (first : FirstIn t i r) where
+    together : r + freeSpace (drop r t) ≡ from + freeSpace (drop from t)
+    together = first .skipped .is ∙ before .is
 
--- what was skipped before a part that is looked at
-module _ (t : Bytes) (from i m r : ℕ) (before : Skipped t from i) (first : FirstIn t i m r) where
-  -- is skipped with what was skipped in it
-  skip-on : Skipped t from r
-  skip-on = record {
-    is = first .skipped .is ∙ before .is;
-    behind = omega (arith, before .behind, first .skipped .behind);
-    inside = first .skipped .inside;
-  }
-
-  -- none was found
-  first-on : m ≤ r → Skipped t from m
-  first-on n = let e : r ≡ m = omega (arith, first .order) in subst (Skipped t from) e skip-on
-
-  -- a mark that was found is the first
-  found-here : r < m → r ≡ from + freeSpace (drop from t)
-  found-here h = omega (arith, skip-on .is, space-mark (drop r t) (first .here h))
-
--- four bytes in which no mark begins are skipped
-pub fours-on : (t : Bytes) (from i r : ℕ) → Skipped t from i → FirstIn t i (i + 4) r → i + 4 ≤ r → Skipped t from (i + 4)
-fours-on t from i r before first q = first-on t from i (i + 4) r before first q
-
--- fours are looked at one after another
-module _ (t : Bytes) (from count i k : ℕ) (before : Skipped t from i) (at : i ≡ from + 4 * k) where
-  -- a mark begins in the next
-  pub fours-here : (r : ℕ) → k < count → FirstIn t i (i + 4) r → r < i + 4 → FirstIn t from (from + 4 * count) r
-  fours-here r h first q = record { skipped = skip-on t from i (i + 4) r before first; order = omega arith; here = λ p. first .here q }
-
-  -- none is left
-  pub fours-done : k ≤ count → count ≤ k → FirstIn t from (from + 4 * count) i
-  fours-done h q = record { skipped = before; order = omega arith; here = λ p. absurd (omega arith) }
-
--- fewer than four bytes are left, so no mark
-rest-none : (t : Bytes) (i end : ℕ) → Skipped t i end → length t < end + 4 → length t ≡ i + freeSpace (drop i t)
-unfolding freeSpace
-rest-none t i end h q =
-    let none = first-none t end (length t) (h .inside) (omega arith) (λ p a b. no-mark t p (λ m. omega (arith, begins-inside mark p t m (omega arith)))) in
-    let all : length t ≤ length t = omega arith in
-    omega (arith, h .is, none .skipped .is, ap freeSpace (drop-of-length-le t all))
-
--- what is left has so many fours
-module _ (t : Bytes) (i n r : ℕ) (inside : i ≤ length t) (whole : n ≡ (length t - i) / 4) (first : FirstIn t i (i + 4 * n) r) where
-  -- a mark begins in one of them
-  pub rest-here : r < i + 4 * n → r ≡ i + freeSpace (drop i t)
-  rest-here h = found-here t i i (i + 4 * n) r (skip-none t i inside) first h
-
-  -- none does
-  pub rest-end : i + 4 * n ≤ r → length t ≡ i + freeSpace (drop i t)
-  rest-end h = rest-none t i (i + 4 * n) (first-on t i i (i + 4 * n) r (skip-none t i inside) first h) (omega arith)
-
--- the search along blocks
-module _ (t : Bytes) (i : ℕ) (before : Skipped t 0 i) where
-  module _ (r : ℕ) (first : FirstIn t i (i + 64) r) where
-    -- a mark begins in this one
-    pub block-here : r < i + 64 → r ≡ freeSpace t
-    block-here h = omega (arith, found-here t 0 i (i + 64) r before first h)
+    -- a mark begins in the next four
+    pub fours-here : r < i + 4 → r ≡ from + freeSpace (drop from t)
+    fours-here h = omega (arith, together, space-mark (drop r t) (first .here h))
 
     -- none does
-    pub block-on : i + 64 ≤ r → Skipped t 0 (i + 64)
-    block-on h = first-on t 0 i (i + 64) r before first h
+    pub fours-on : i + 4 ≤ r → Skipped t from (i + 4)
+    fours-on h =
+        let e : r ≡ i + 4 = omega (arith, first .order) in
+        record { is = rw e at together; behind = omega (arith, before .behind); inside = omega (arith, first .skipped .inside) }
 
-  -- no block is left
+  -- fewer than four bytes are left, so no mark
+  pub fours-end : length t - i < 4 → length t ≡ from + freeSpace (drop from t)
+  unfolding freeSpace
+  fours-end h =
+      let none = skip-on t from i (length t - i) before (omega (arith, before .inside)) (λ p a b m. omega (arith, begins-inside mark p t m (omega arith))) in
+      let e : i + (length t - i) ≡ length t = omega (arith, before .inside) in
+      let all : length t ≤ i + (length t - i) = omega arith in
+      omega (arith, e, none .is, ap freeSpace (drop-of-length-le t all))
+
+-- the search along blocks: what is before i is skipped
+module _ (t : Bytes) (i : ℕ) (before : Skipped t 0 i) where
+  -- no mark begins in this one
+  pub block-on : (x : Bool) → Told (beginsMark t i) 64 x → 67 ≤ length t - i → x ≡ false → Skipped t 0 (i + 64)
+  block-on x told room none = skip-on t 0 i 64 before (omega arith) λ p a b m.
+      let there : i + (p - i) ≡ p = omega arith in
+      true≢false (sym (told .tells (p - i) (omega arith) (rw there m)) ∙ none)
+
+  -- the first mark from here on is the first of all
   pub block-rest : (r : ℕ) → r ≡ i + freeSpace (drop i t) → r ≡ freeSpace t
   block-rest r e = omega (arith, before .is)
 
@@ -149,38 +111,32 @@ module _ (t : Bytes) (i back : ℕ) (room : i + 4 ≤ length t) (is : back ≡ 0
   place = omega (arith, is)
 
   -- a mark can begin only so far before it
-  other-start : (p : ℕ) → i ≤ p → p < i + 4 → (p + back ≡ i + 3 → ⊥) → begins mark (drop p t) ≡ false
-  other-start p a b n = no-mark t p λ h.
+  other-start : (p : ℕ) → i ≤ p → p < i + 4 → (p + back ≡ i + 3 → ⊥) → begins mark (drop p t) ≡ true → ⊥
+  other-start p a b n h =
       let there : p + (i + 3 - p) ≡ i + 3 = omega arith in
       let byte : getD t (i + 3) 0 ≡ getD mark (i + 3 - p) 0 = rw there at (mark-byte t p h (i + 3 - p) (omega arith)) in
       let only : back ≡ i + 3 - p = place ∙ ap (λ (x : ℕ). indexOf x mark) byte ∙ mark-place (i + 3 - p) (omega arith) in
       n (omega arith)
 
   -- it belongs to no mark
-  pub four-none : back ≡ 4 → FirstIn t i (i + 4) (i + 4)
-  four-none e = first-none t i (i + 4) (omega arith) room (λ p a b. other-start p a b (λ q. omega arith))
+  pub four-none : back ≡ 4 → FirstIn t i (i + 4)
+  four-none e = first-none t i room (λ p a b. other-start p a b (λ q. omega arith))
 
   module _ (most : back ≤ 4) (n : back ≡ 4 → ⊥) (m : Bool) (mark-is : m ≡ begins mark (drop (i + 3 - back) t)) where
     -- it belongs to a mark
-    pub four-here : m ≡ true → FirstIn t i (i + 4) (i + 3 - back)
-    four-here e = record {
-      skipped = first-none t i (i + 3 - back) (omega arith) (omega arith) (λ p a b. other-start p a (omega arith) (λ q. omega arith)) .skipped;
-      order = omega arith;
-      here = λ p. sym mark-is ∙ e;
-    }
+    pub four-here : m ≡ true → FirstIn t i (i + 3 - back)
+    four-here e =
+        let there : i + (3 - back) ≡ i + 3 - back = omega arith in
+        let none = skip-on t i i (3 - back) (skip-none t i (omega arith)) (omega arith) (λ p a b. other-start p a (omega arith) (λ q. omega arith)) in
+        record { skipped = rw there at none; order = omega arith; here = λ p. sym mark-is ∙ e }
 
     -- it could, but does not
-    pub four-other : m ≡ false → FirstIn t i (i + 4) (i + 4)
-    four-other e = first-none t i (i + 4) (omega arith) room (λ p a b. go p a b (eqb p (i + 3 - back)) refl)
+    pub four-other : m ≡ false → FirstIn t i (i + 4)
+    four-other e = first-none t i room (λ p a b. go p a b (eqb p (i + 3 - back)) refl)
       where
-        go : (p : ℕ) → i ≤ p → p < i + 4 → (x : Bool) → eqb p (i + 3 - back) ≡ x → begins mark (drop p t) ≡ false
-        go p a b true q = rw (eqb-true p (i + 3 - back) q) (sym mark-is ∙ e)
-        go p a b false q = other-start p a b (λ h. eqb-false p (i + 3 - back) q (omega arith))
-
--- the last of four bytes belongs to no mark
-pub four-unmarked : (t : Bytes) (i : ℕ) (x : Bool) → i + 4 ≤ length t → InMark (getD t (i + 3) 0) x → not x ≡ true → FirstIn t i (i + 4) (i + 4)
-four-unmarked t i x room is none-seen = first-none t i (i + 4) (omega arith) room λ p a b. no-mark t p λ h.
-    true≢false (sym (is .tells (byte-of-mark t p (i + 3) h (omega arith) (omega arith))) ∙ not-true x none-seen)
+        go : (p : ℕ) → i ≤ p → p < i + 4 → (x : Bool) → eqb p (i + 3 - back) ≡ x → begins mark (drop p t) ≡ true → ⊥
+        go p a b true q h = true≢false (sym (rw (eqb-true p (i + 3 - back) q) at h) ∙ sym mark-is ∙ e)
+        go p a b false q h = other-start p a b (λ s. eqb-false p (i + 3 - back) q (omega arith)) h
 
 -- all four bytes of a mark are compared
 pub in-mark : (b : ℕ) → InMark b (eqb b 0xD3 || eqb b 0x42 || eqb b 0x4C || eqb b 0x4B)
@@ -250,23 +206,19 @@ pub fourths-done : (t : Bytes) (n k seen : ℕ) → FourthsUpTo t n k seen → k
 fourths-done t n k seen h p q = record { most = λ j l. h .most j (omega arith) }
 
 -- no mark begins among 64 bytes of which no fourth byte belongs to one
-unmarked : (t : Bytes) (n : ℕ) → n + 67 ≤ length t → ((i : ℕ) → i < 64 → i % 4 ≡ 3 → IsOfMark (getD t (n + i) 0) → ⊥) → FirstIn t n (n + 64) (n + 64)
-unmarked t n room never = first-none t n (n + 64) (omega arith) (omega arith) λ p a b. no-mark t p λ m.
-    let i = 4 * ((p - n) / 4) + 3 in
-    never i (omega arith) (omega arith) (byte-of-mark t p (n + i) m (omega arith) (omega arith))
+unmarked : (t : Bytes) (n : ℕ) → ((i : ℕ) → i < 64 → i % 4 ≡ 3 → IsOfMark (getD t (n + i) 0) → ⊥) → Told (beginsMark t n) 64 false
+unmarked t n never = record {
+  tells = λ j l m.
+      let i = 4 * (j / 4) + 3 in
+      absurd (never i (omega arith) (omega arith) (byte-of-mark t (n + j) (n + i) m (omega arith) (omega arith)));
+}
 
 -- for none of the 16 is as high as a byte of a mark
-pub fourths-none : (t : Bytes) (n x : ℕ) → FourthsUpTo t n 16 x → n + 67 ≤ length t → x < 0x42 → FirstIn t n (n + 64) (n + 64)
-fourths-none t n x h room low = unmarked t n room λ i l f m.
+pub fourths-none : (t : Bytes) (n x : ℕ) → FourthsUpTo t n 16 x → x < 0x42 → Told (beginsMark t n) 64 false
+fourths-none t n x h low = unmarked t n λ i l f m.
     let there : n + 4 * (i / 4) + 3 ≡ n + i = omega arith in
     omega (arith, m .is, mark-high (m .place) (m .few), rw there at (h .most (i / 4) (omega arith)))
 
 -- for none of them is one
-pub fourth-none : (t : Bytes) (n : ℕ) (x : Bool) → Told (fourthOfMark t n) 64 x → n + 67 ≤ length t → not x ≡ true → FirstIn t n (n + 64) (n + 64)
-fourth-none t n x h room none-seen = unmarked t n room λ i l f m. true≢false (sym (h .tells i l (f, m)) ∙ not-true x none-seen)
-
--- none begins there
-pub begin-none : (t : Bytes) (n : ℕ) (x : Bool) → Told (beginsMark t n) 64 x → n + 67 ≤ length t → not x ≡ true → FirstIn t n (n + 64) (n + 64)
-begin-none t n x h room none-seen = first-none t n (n + 64) (omega arith) (omega arith) λ p a b. no-mark t p λ m.
-    let there : n + (p - n) ≡ p = omega arith in
-    true≢false (sym (h .tells (p - n) (omega arith) (rw there m)) ∙ not-true x none-seen)
+pub fourth-none : (t : Bytes) (n : ℕ) (x : Bool) → Told (fourthOfMark t n) 64 x → not x ≡ true → Told (beginsMark t n) 64 false
+fourth-none t n x h none-seen = unmarked t n λ i l f m. true≢false (sym (h .tells i l (f, m)) ∙ not-true x none-seen)

@@ -7,11 +7,11 @@ use Rattle.format.specs.Bytes.{Bytes, begins}
 use Rattle.format.specs.Tree.{mark as Tree·mark}
 use Rattle.mark.specs.Mark.{Skipped}
 
--- r is where the first mark from n on begins, if it begins before m, and else m
-pub record FirstIn (t : Bytes) (n m r : ℕ) : Type 0 where
+-- r is where the first mark begins among four bytes from n on, or the byte after them
+pub record FirstIn (t : Bytes) (n r : ℕ) : Type 0 where
   pub skipped : Skipped t n r
-  pub order : r ≤ m
-  pub here : r < m → begins Tree·mark (drop r t) ≡ true
+  pub order : r ≤ n + 4
+  pub here : r < n + 4 → begins Tree·mark (drop r t) ≡ true
 
 -- no fourth byte of k fours from n on is above r
 pub record FourthsUpTo (t : Bytes) (n k r : ℕ) : Type 0 where

@@ -1,7 +1,7 @@
 // The search by fours. A mark is four bytes long, so one of every four bytes belongs to it: every fourth byte is looked at first,
 // and the search steps back only from one that belongs to a mark.
 // The tests of 64 bytes have no early exit, no branch and no table, so that the compiler tests many bytes at once.
-ghost use Prim.Native.Nat.{_+_, _*_, _≤_};
+ghost use Prim.Native.Nat.{_+_, _≤_};
 ghost use mathlib.Core.Path.{_≡_};
 ghost use lib.ListN.{length, drop};
 ghost use Rattle.format.specs.Tree.{freeSpace};
@@ -15,46 +15,28 @@ pub(crate) fn free_space(t: &[u8]) -> usize
 {
     let mut i = 0;
     while 67 <= t.len() - i {
-        let r = in_block(t, i);
-        if r < i + 64 {
-            return r;
+        if block_has_mark(t, i) {
+            return four_by_four(t, i);
         }
         i += 64;
     }
-    in_rest(t, i)
+    four_by_four(t, i)
 }
 
-// The first mark from an offset on, or the end. Fewer than four bytes hold no mark.
-fn in_rest(t: &[u8], i: usize) -> usize
-    requires { ⌜ i ≤ length (now t) ⌝ }
-    ensures { λ r. ⌜ (r ≡ i + freeSpace (drop i (now (t .entry)))) × (r ≤ length (now (t .entry))) ⌝ }
-{
-    let fours = (t.len() - i) / 4;
-    let end = i + 4 * fours;
-    let r = in_fours(t, i, fours);
-    if r < end {
-        return r;
-    }
-    t.len()
-}
-
-// Where the first mark begins among the next 64 bytes, or the byte after them. No byte of a mark is below 42: that is told fastest,
-// and passes spaces and zeros. Then it is told whether a fourth byte belongs to a mark, and only where one does, whether a mark
-// begins here. So no content, however it was made, is gone through four by four before the first mark.
-fn in_block(t: &[u8], i: usize) -> usize
+// Whether a mark begins at one of the next 64 bytes. No byte of a mark is below 42: that is told fastest, and passes spaces and
+// zeros. Then it is told whether a fourth byte belongs to a mark; and only where one does, the other bytes are looked at too. So no
+// content, however it was made, is gone through four by four before the first mark.
+fn block_has_mark(t: &[u8], i: usize) -> bool
     requires { ⌜ i + 67 ≤ length (now t) ⌝ }
-    ensures { λ r. ⌜ FirstIn (now (t .entry)) i (i + 64) r ⌝ }
+    ensures { λ r. ⌜ Told (beginsMark (now (t .entry)) i) 64 r ⌝ }
 {
     if fourths(t, i) < 0x42 {
-        return i + 64;
+        return false;
     }
     if !marked_fourths(t, i) {
-        return i + 64;
+        return false;
     }
-    if !has_mark(t, i) {
-        return i + 64;
-    }
-    in_fours(t, i, 16)
+    any_is_mark(t, i)
 }
 
 // No fourth byte of the next 64 is above this.
@@ -82,8 +64,8 @@ fn marked_fourths(t: &[u8], from: usize) -> bool
     seen
 }
 
-// Whether a mark begins at one of the next 64 bytes.
-fn has_mark(t: &[u8], from: usize) -> bool
+// Whether a mark begins at one of the next 64 bytes: each is tried.
+fn any_is_mark(t: &[u8], from: usize) -> bool
     requires { ⌜ from + 67 ≤ length (now t) ⌝ }
     ensures { λ r. ⌜ Told (beginsMark (now (t .entry)) from) 64 r ⌝ }
 {
@@ -109,35 +91,29 @@ fn in_mark(b: u8) -> bool
     (b == 0xD3) | (b == 0x42) | (b == 0x4C) | (b == 0x4B)
 }
 
-// Where the first mark begins in so many fours of bytes, or the byte after them.
-fn in_fours(t: &[u8], from: usize, count: usize) -> usize
-    requires { ⌜ from + 4 * count ≤ length (now t) ⌝ }
-    ensures { λ r. ⌜ FirstIn (now (t .entry)) from (from + 4 * count) r ⌝ }
+// The first mark from an offset on, or the end. Fewer than four bytes hold no mark.
+fn four_by_four(t: &[u8], from: usize) -> usize
+    requires { ⌜ from ≤ length (now t) ⌝ }
+    ensures { λ r. ⌜ (r ≡ from + freeSpace (drop from (now (t .entry)))) × (r ≤ length (now (t .entry))) ⌝ }
 {
     let mut i = from;
-    let mut k = 0;
-    while k < count {
+    while 4 <= t.len() - i {
         let r = in_four(t, i);
         if r < i + 4 {
             return r;
         }
         i += 4;
-        k += 1;
     }
-    i
+    t.len()
 }
 
 // Where a mark begins among the next four bytes, or the byte after them. The bytes of a mark differ, so the last of the four tells
-// the only place.
+// the only place: how far to step back.
 fn in_four(t: &[u8], i: usize) -> usize
     requires { ⌜ i + 4 ≤ length (now t) ⌝ }
-    ensures { λ r. ⌜ FirstIn (now (t .entry)) i (i + 4) r ⌝ }
+    ensures { λ r. ⌜ FirstIn (now (t .entry)) i r ⌝ }
 {
-    let last = t[i + 3];
-    if !in_mark(last) {
-        return i + 4;
-    }
-    let back = bytes::scan::find(b"\xD3BLK", 0, 4, last);
+    let back = bytes::scan::find(b"\xD3BLK", 0, 4, t[i + 3]);
     if back == 4 {
         return i + 4;
     }

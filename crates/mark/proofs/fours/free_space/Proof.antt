@@ -4,7 +4,7 @@ use lib.ListN.{length}
 use borrow.Author.Needs.{needs}
 use Rattle.mark.specs.Mark.{Skipped}
 use Rattle.mark.proofs.MarkLaws.{skip-none}
-use Rattle.mark.proofs.FoursLaws.{block-here, block-on, block-rest}
+use Rattle.mark.proofs.FoursLaws.{block-on, block-rest}
 use Rattle.mark.proofs.fours.free_space.Statement.{statement}
 use Rattle.mark.proofs.fours.free_space.Tie as tie
 
@@ -23,8 +23,8 @@ free-space-spec =
     (λ c. search (skip-none, needs))
     (λ c. search needs)
     (λ c κs. search needs)
-    (λ c. search needs)
-    (λ c. search (block-here, needs))
+    (λ c κs. search needs)
+    (λ c. search (block-rest, needs))
     (λ c. search needs)
     (λ c. search needs)
     (λ c. search (block-on, needs))

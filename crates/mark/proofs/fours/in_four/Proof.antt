@@ -1,6 +1,6 @@
 -- The last of the four bytes tells the only place where a mark may begin.
 use borrow.Author.Needs.{needs}
-use Rattle.mark.proofs.FoursLaws.{four-unmarked, four-none, four-here, four-other}
+use Rattle.mark.proofs.FoursLaws.{four-none, four-here, four-other}
 use Rattle.mark.proofs.fours.in_four.Statement.{statement}
 use Rattle.mark.proofs.fours.in_four.Tie as tie
 
@@ -10,9 +10,6 @@ in-four-spec =
     (tie.spec
     (λ c. search needs)
     (λ c. search needs)
-    (λ c κs. search needs)
-    (λ c. search needs)
-    (λ c. search (four-unmarked, needs))
     (λ c. search needs)
     (λ c κs. search needs)
     (λ c. search needs)

@@ -3,8 +3,8 @@ use Prim.Native.Nat.{_-_, _≤_}
 use borrow.Author.Needs.{needs}
 use Rattle.mark.specs.Fours.{Told, beginsMark}
 use Rattle.mark.proofs.FoursLaws.{told-none, begin-step, told-all}
-use Rattle.mark.proofs.fours.has_mark.Statement.{statement}
-use Rattle.mark.proofs.fours.has_mark.Tie as tie
+use Rattle.mark.proofs.fours.any_is_mark.Statement.{statement}
+use Rattle.mark.proofs.fours.any_is_mark.Tie as tie
 
 abbrev Inv-loop : tie.InvT-loop
 Inv-loop t from seen₀ j₀ seen j = Told (beginsMark t from) j seen × (j ≤ 64)
@@ -12,8 +12,8 @@ Inv-loop t from seen₀ j₀ seen j = Told (beginsMark t from) j seen × (j ≤ 
 abbrev μ-loop : tie.MeasureT-loop
 μ-loop t from seen₀ j₀ seen j = 64 - j
 
-pub has-mark-spec : {M : Type 1} → statement M
-has-mark-spec =
+pub any-is-mark-spec : {M : Type 1} → statement M
+any-is-mark-spec =
     tie.close
     (tie.spec
     Inv-loop
