@@ -3,9 +3,5 @@ pub mod PartLaws
 pub mod BlockLaws
 pub mod ChainLaws
 pub mod FewLaws
-pub mod TrimLaws
-pub mod ListLaws
-pub mod BracketLaws
-pub mod IndexLaws
 pub mod KeptLaws
 pub mod LayoutLaws

@@ -2,5 +2,4 @@
 pub mod Step
 pub mod Block
 pub mod Chain
-pub mod Index
 pub mod Layout

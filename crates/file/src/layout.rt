@@ -2,15 +2,16 @@
 ghost use mathlib.Core.Path.{_≡_};
 ghost use Rattle.format.specs.Answer.{layoutAnswer, blockAnswer};
 ghost use Prim.Native.Nat.{_≤_};
-ghost use lib.ListN.{length, drop, replicate};
+ghost use lib.ListN.{length, take, drop, replicate};
 ghost use Rattle.format.specs.File.{file, offsetTable, layout, blockAt, firstBlock, goesOn};
+ghost use Rattle.format.specs.Line.{lines};
 ghost use Rattle.format.specs.Chain.{mostBlocks};
+ghost use Rattle.format.specs.Index.{judged, indexed};
 ghost use Rattle.format.specs.declared.layout.Tree.the-variants.{NoTree};
 ghost use Rattle.file.specs.Layout.{behindHeader, behindComments, behindTree, withBlocks, layoutWith, Judged, Kept};
 use crate::block::BlockStep;
 use crate::block::read_block;
 use crate::chain;
-use crate::index;
 use crate::step::ChainStep;
 use format::answer::BlockAnswer;
 use format::answer::LayoutAnswer;
@@ -173,10 +174,19 @@ fn with_blocks(
             Verdict::Absent,
         )),
         ChainStep::Indexed { blocks, tail } => {
-            let v = index::verdict(&s[tail..], offsets, blocks);
+            let v = judge_tail(&s[tail..], offsets, blocks);
             LayoutAnswer::Accepted(layout_with(h, n, t, blocks, v))
         }
     }
+}
+
+// What to think of the tail t of a file whose blocks begin at the first `count` offsets. They come as a slice, since no part of
+// an array can be taken through a reference to it.
+fn judge_tail(t: &[u8], offsets: &[u64], count: usize) -> Verdict
+    requires { ⌜ count ≤ length (now offsets) ⌝ }
+    ensures { λ r. ⌜ r ≡ judged (take count (now (offsets .entry))) (indexed (lines (now (t .entry)))) ⌝ }
+{
+    verdict::judge(t, &offsets[..count])
 }
 
 fn layout_with(h: Header, n: usize, t: Tree, blocks: usize, v: Verdict) -> Layout

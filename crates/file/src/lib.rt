@@ -1,6 +1,5 @@
 // One file by itself: its layout, and its blocks one by one.
 pub mod block;
 mod chain;
-mod index;
 pub mod layout;
 mod step;

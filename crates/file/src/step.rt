@@ -22,9 +22,3 @@ pub enum ChainStep {
     Indexed { blocks: usize, tail: usize },
     Refused(Refusal),
 }
-
-// Where the list of an index stands.
-pub enum ListStep {
-    Between { from: usize, to: usize },
-    Nowhere,
-}

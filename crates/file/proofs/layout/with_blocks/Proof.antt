@@ -16,7 +16,7 @@ with-blocks-spec =
     (λ c. search (to-inside, needs))
     (λ c. search (to-inside, needs))
     (λ c. search needs)
-    (λ c κs. search (to-few, to-kept, needs))
+    (λ c κs. search (to-kept, needs))
     (λ c κs. search (to-few, needs))
     (λ c. search (walk-refused, needs))
     (λ c. search (alone-judged, needs))

@@ -1,0 +1,19 @@
+-- The verdict on a list is that on the lines around it.
+use borrow.Author.Needs.{needs}
+use Rattle.verdict.proofs.IndexLaws.{between-order, between-end, verdict-nowhere, verdict-between}
+use Rattle.verdict.proofs.judge.Statement.{statement}
+use Rattle.verdict.proofs.judge.Tie as tie
+
+pub judge-spec : {M : Type 1} → statement M
+judge-spec =
+    tie.close
+    (tie.spec
+    (λ c κs. search needs)
+    (λ c. search needs)
+    (λ c. search needs)
+    (λ c. search (between-order, needs))
+    (λ c. search (between-order, needs))
+    (λ c. search (between-end, needs))
+    (λ c κs. search needs)
+    (λ c. search (verdict-nowhere, needs))
+    (λ c. search (verdict-between, needs)))

@@ -1,0 +1,59 @@
+// The form of an index around its list.
+ghost use Prim.Native.Nat.{_-_, _≤_};
+ghost use lib.ListN.{length, take, drop};
+ghost use Rattle.format.specs.Line.{lines};
+ghost use Rattle.format.specs.Index.{indexed, listed, inBrackets};
+ghost use Rattle.verdict.specs.Index.{ListRead};
+use scan::line;
+use scan::line::Exact;
+use scan::line::Line;
+use scan::text;
+
+// Where the list of an index stands.
+pub enum ListStep {
+    Between { from: usize, to: usize },
+    Nowhere,
+}
+
+// Where the list stands in a tail that has the form of an index around it.
+pub(crate) fn index_list(t: &[u8]) -> ListStep
+    ensures { λ r. ⌜ ListRead (now (t .entry)) (indexed (lines (now (t .entry)))) r ⌝ }
+{
+    let Exact::Behind(second) = line::exact_line(t, 0, b"#ASDF BLOCK INDEX") else {
+        return ListStep::Nowhere;
+    };
+    let Exact::Behind(third) = line::exact_line(t, second, b"%YAML 1.1") else {
+        return ListStep::Nowhere;
+    };
+    let Line::Ended { text_end, next } = line::line_at(t, third) else {
+        return ListStep::Nowhere;
+    };
+    let Exact::Behind(end) = line::exact_line(t, next, b"...") else {
+        return ListStep::Nowhere;
+    };
+    if !text::only_zeros(&t[end..]) {
+        return ListStep::Nowhere;
+    }
+    in_brackets(t, third, text_end)
+}
+
+// What stands between `--- [` and the `]` at the end of a line.
+fn in_brackets(t: &[u8], from: usize, to: usize) -> ListStep
+    requires { ⌜ (from ≤ to) × (to ≤ length (now t)) ⌝ }
+    ensures { λ r. ⌜ ListRead (now (t .entry)) (listed (inBrackets (take (to - from) (drop from (now (t .entry)))))) r ⌝ }
+{
+    let n = to - from;
+    if n < 6 {
+        return ListStep::Nowhere;
+    }
+    if !text::begins_at(t, from, b"--- [") {
+        return ListStep::Nowhere;
+    }
+    if t[to - 1] != b']' {
+        return ListStep::Nowhere;
+    }
+    ListStep::Between {
+        from: from + 5,
+        to: to - 1,
+    }
+}
