@@ -4,7 +4,7 @@ use native.Mathlib.Omega.{arith}
 use mathlib.Core.Path.{_≡_, refl, sym, ap, subst, _∙_}
 use mathlib.Core.Bool.{Bool, true, false}
 use mathlib.Core.List.{List, [], _∷_, _++_, append-nil, map-append}
-use lib.ListN.{length, take, drop, set, replicate, length-append, length-drop, length-map}
+use lib.ListN.{length, take, drop, set, replicate, length-append, length-drop, length-map, drop-of-length-le}
 use lib.Seq.{set-at, append-snoc, drop-drop}
 use mir.Syntax.{w64}
 use mir.Val.{Fits}
@@ -13,99 +13,146 @@ use Rattle.format.specs.declared.refusal.Refusal.{Refusal}
 use Rattle.format.specs.Bytes.{Bytes, begins, allZero}
 use Rattle.format.specs.Outcome.{Outcome, accepted, refused, refusal, _>>=_}
 use Rattle.format.specs.Comments.{indexLine}
-use Rattle.format.specs.Tree.{mark}
+use Rattle.format.specs.Tree.{mark, freeSpace}
 use Rattle.format.specs.Block.{flags, allocatedSize, isStreamed, contentStart, block}
-use Rattle.format.specs.Chain.{Chain, mostBlocks, ended, linked, tail, chain}
+use Rattle.format.specs.Chain.{Chain, mostBlocks, ended, linked, follows, tail, linkedAt, chain}
 use Rattle.format.specs.File.{offsets, table}
 use Rattle.format.proofs.ByteLaws.{begins-true}
+use Rattle.format.proofs.LocalLaws.{free-space-mark, free-space-stops}
 use Rattle.format.proofs.BlockLaws.{Starts}
+use Rattle.format.proofs.ChainLaws.{chain-follows}
+use Rattle.mark.specs.Mark.{MarkFound}
 use Rattle.file.specs.declared.step.LinkStep.{LinkStep}
 use Rattle.file.specs.declared.step.LinkStep.the-variants as LinkStep·is
 use Rattle.file.proofs.PartLaws.{part-all}
 use Rattle.file.specs.Block.{Fault, soundBlock, soundLink}
-use Rattle.file.specs.Chain.{onward, TailBegins, BlockBegins, LinkIs, Chained, WalkedAlone, WalkedTo}
+use Rattle.file.specs.Chain.{onward, TailBegins, Follows, NextMark, BlockBegins, LinkIs, Chained, WalkedAlone, WalkedTo}
 use Rattle.file.proofs.BlockLaws.{sound-flags, sound-extent, sound-starts}
+
+-- what begins with a mark begins no index
+mark-unindexed : (t : Bytes) → begins mark t ≡ true → begins indexLine t ≡ false
+mark-unindexed t h = ap (begins indexLine) (begins-true mark t h)
+
+module _ (s : Bytes) (n : ℕ) where
+  -- a mark stands there
+  pub next-at-once : (y : Bool) → y ≡ begins mark (drop n s) → y ≡ true → NextMark s n n
+  unfolding freeSpace
+  next-at-once y mark-is h =
+      let marked = sym mark-is ∙ h in
+      let free = free-space-mark (drop n s) marked in
+      record {
+        some-block = λ l. record { follows = rw (mark-unindexed (drop n s) marked, free, marked); at = omega (arith, free); inside = omega arith };
+        no-block = λ l. rw (drop-of-length-le s l);
+      }
+
+  module _ (x : Bool) (index-is : x ≡ begins indexLine (drop n s)) where
+    -- what begins like an index stands there
+    pub next-index : x ≡ true → NextMark s n (length s)
+    next-index h = record { some-block = λ l. absurd (omega arith); no-block = λ l. rw (sym index-is ∙ h) }
+
+    -- neither does, so the first mark is searched
+    pub next-found : x ≡ false → (m : ℕ) → MarkFound s n m → n ≤ length s → NextMark s n m
+    next-found h m found l =
+        let unindexed = sym index-is ∙ h in
+        record {
+          some-block = λ p.
+              let stops = free-space-stops (drop n s) (simp length-drop (omega (arith, found .is))) in
+              record { follows = rw (unindexed, stops); at = found .is; inside = omega arith };
+          no-block = λ p.
+              let all : length (drop n s) ≤ freeSpace (drop n s) = simp length-drop (omega (arith, found .is)) in
+              rw (unindexed, drop-of-length-le (drop n s) all);
+        }
 
 -- what begins like an index is not zeros only
 index-other : (t : Bytes) → begins indexLine t ≡ true → allZero t ≡ false
 index-other t h = ap allZero (begins-true indexLine t h)
 
-module _ (s : Bytes) (i n : ℕ) (m : Bool) (mark-is : m ≡ begins mark (drop n s)) (unmarked : m ≡ false) where
-  -- where no mark stands, no block begins
-  onward-tail : onward s i n ≡ tail n (drop n s)
-  unfolding chain
-  onward-tail = go (mostBlocks - i)
-    where
-      go : (k : ℕ) → chain k i n (drop n s) ≡ tail n (drop n s)
-      go zero = rw (chain, sym mark-is ∙ unmarked)
-      go (suc k) = rw (chain, sym mark-is ∙ unmarked)
+module _ (s : Bytes) (i n m : ℕ) (next : NextMark s n m) where
+  -- where a mark stands, a block follows
+  pub link-follows : m < length s → Follows s n m
+  link-follows h = next .some-block h
 
-  module _ (x : Bool) (index-is : x ≡ begins indexLine (drop n s)) where
-    -- what begins like an index stands there
-    pub link-index : x ≡ true → TailBegins s i n false
-    unfolding tail
-    link-index h = record {
-      is = onward-tail ∙ rw (tail, index-other (drop n s) (sym index-is ∙ h), sym index-is ∙ h);
-      tail = index-other (drop n s) (sym index-is ∙ h);
-    }
+  module _ (none : length s ≤ m) where
+    -- where none stands, the tail begins
+    onward-tail : onward s i n ≡ tail n (drop n s)
+    unfolding chain
+    onward-tail = go (mostBlocks - i)
+      where
+        go : (k : ℕ) → chain k i n (drop n s) ≡ tail n (drop n s)
+        go zero = rw (next .no-block none, chain)
+        go (suc k) = rw (next .no-block none, chain)
 
-    module _ (z : Bool) (zeros-is : z ≡ allZero (take (length s - n) (drop n s))) where
-      -- whether zeros only stand there
-      zeros-on : allZero (drop n s) ≡ z
-      zeros-on = sym (zeros-is ∙ ap allZero (part-all s n))
-
-      -- nothing or zeros only stand there
-      pub link-zeros : z ≡ true → TailBegins s i n true
+    module _ (x : Bool) (index-is : x ≡ begins indexLine (drop n s)) where
+      -- what begins like an index stands there
+      pub link-index : x ≡ true → TailBegins s i n false
       unfolding tail
-      link-zeros h = record { is = onward-tail ∙ rw (tail, zeros-on ∙ h); tail = zeros-on ∙ h }
+      link-index h =
+          let index = sym index-is ∙ h in
+          record { is = onward-tail ∙ rw (tail, index-other (drop n s) index, index); tail = index-other (drop n s) index }
 
-      -- something else stands there
-      pub link-other : (r : Refusal) → r ≡ refusal 17 n → x ≡ false → z ≡ false → onward s i n ≡ refused r
-      unfolding tail
-      link-other r e h k = onward-tail ∙ rw (tail, zeros-on ∙ k, sym index-is ∙ h, e)
+      module _ (z : Bool) (zeros-is : z ≡ allZero (take (length s - n) (drop n s))) where
+        -- whether zeros only stand there
+        zeros-on : allZero (drop n s) ≡ z
+        zeros-on = sym (zeros-is ∙ ap allZero (part-all s n))
 
-module _ (s : Bytes) (i n : ℕ) (marked : begins mark (drop n s) ≡ true) where
+        -- nothing or zeros only stand there
+        pub link-zeros : z ≡ true → TailBegins s i n true
+        unfolding tail
+        link-zeros h = record { is = onward-tail ∙ rw (tail, zeros-on ∙ h); tail = zeros-on ∙ h }
+
+        -- something else stands there
+        pub link-other : (r : Refusal) → r ≡ refusal 17 n → x ≡ false → z ≡ false → onward s i n ≡ refused r
+        unfolding tail
+        link-other r e h k = onward-tail ∙ rw (tail, zeros-on ∙ k, sym index-is ∙ h, e)
+
+module _ (s : Bytes) (i n m : ℕ) (here : Follows s n m) where
   -- no block more is allowed
-  pub mark-many : (r : Refusal) → r ≡ refusal 16 n → mostBlocks ≤ i → onward s i n ≡ refused r
+  pub mark-many : (r : Refusal) → r ≡ refusal 16 m → mostBlocks ≤ i → onward s i n ≡ refused r
   unfolding chain
-  mark-many r e h = let none : mostBlocks - i ≡ 0 = omega arith in rw (none, chain, marked, e)
+  mark-many r e h = let none : mostBlocks - i ≡ 0 = omega arith in rw (none, chain, here .follows, e, here .at)
 
   module _ (few : i < mostBlocks) where
     -- a block is still allowed
-    one-more : mostBlocks - i ≡ suc (mostBlocks - (i + 1))
-    one-more = omega arith
+    onward-linked : onward s i n ≡ linkedAt i m (drop m s) (chain (mostBlocks - (i + 1)) (i + 1))
+    onward-linked =
+        let one-more : mostBlocks - i ≡ suc (mostBlocks - (i + 1)) = omega arith in
+        ap (λ (k : ℕ). chain k i n (drop n s)) one-more
+        ∙ chain-follows (mostBlocks - (i + 1)) i n (drop n s) (here .follows)
+        ∙ ap (λ (t : Bytes). linkedAt i (n + freeSpace (drop n s)) t (chain (mostBlocks - (i + 1)) (i + 1))) (drop-drop (freeSpace (drop n s)) n s)
+        ∙ ap (λ (j : ℕ). linkedAt i j (drop j s) (chain (mostBlocks - (i + 1)) (i + 1))) (sym (here .at))
 
     -- the block has a fault
-    pub mark-refused : (x : ℕ) (r : Refusal) → Fault (take (length s - n) (drop n s)) x → r ≡ refusal x n → (x ≡ 0 → ⊥) → onward s i n ≡ refused r
-    unfolding chain
+    pub mark-refused : (x : ℕ) (r : Refusal) → Fault (take (length s - m) (drop m s)) x → r ≡ refusal x m → (x ≡ 0 → ⊥) → onward s i n ≡ refused r
+    unfolding linkedAt
     mark-refused x r fault e h =
-        let block-is : block i n (drop n s) ≡ refused r = ap (block i n) (sym (part-all s n)) ∙ fault .fails h i n ∙ ap refused (sym e) in
-        rw (one-more, chain, marked, block-is)
+        let block-is : block i m (drop m s) ≡ refused r = ap (block i m) (sym (part-all s m)) ∙ fault .fails h i m ∙ ap refused (sym e) in
+        onward-linked ∙ rw (block-is, linkedAt)
 
     -- it has none, and leads on
-    pub mark-block : (x : ℕ) (r : LinkStep) → Fault (take (length s - n) (drop n s)) x → r ≡ soundLink (take (length s - n) (drop n s)) → x ≡ 0
-        → LinkIs s i n r
-    unfolding chain soundLink
-    mark-block x r fault h z = subst (LinkIs s i n) (sym (h ∙ ap soundLink (part-all s n))) (go (isStreamed (flags (drop n s))) refl)
+    pub mark-block : (x : ℕ) (r : LinkStep) → Fault (take (length s - m) (drop m s)) x → r ≡ soundLink (take (length s - m) (drop m s)) → x ≡ 0
+        → LinkIs s i n m r
+    unfolding linkedAt soundLink
+    mark-block x r fault h z = subst (LinkIs s i n m) (sym (h ∙ ap soundLink (part-all s m))) (go (isStreamed (flags (drop m s))) refl)
       where
-        read : block i n (drop n s) ≡ accepted (soundBlock i n (drop n s))
-        read = rw (part-all s n) at (fault .passes z .is i n)
+        read : block i m (drop m s) ≡ accepted (soundBlock i m (drop m s))
+        read = rw (part-all s m) at (fault .passes z .is i m)
 
-        starts : Starts n (drop n s) (soundBlock i n (drop n s))
-        starts = sound-starts i n (drop n s) read
+        starts : Starts m (drop m s) (soundBlock i m (drop m s))
+        starts = sound-starts i m (drop m s) read
 
-        go : (y : Bool) → isStreamed (flags (drop n s)) ≡ y
-            → LinkIs s i n (elim y [ true ↦ LinkStep·is.Streamed | false ↦ LinkStep·is.Block (contentStart (drop n s) + allocatedSize (drop n s)) ])
-        go true k = record { first = soundBlock i n (drop n s); is = rw (one-more, chain, marked, read, sound-flags i n (drop n s), k); at = starts .at; few = few }
+        go : (y : Bool) → isStreamed (flags (drop m s)) ≡ y
+            → LinkIs s i n m (elim y [ true ↦ LinkStep·is.Streamed | false ↦ LinkStep·is.Block (contentStart (drop m s) + allocatedSize (drop m s)) ])
+        go true k =
+            record { first = soundBlock i m (drop m s); is = onward-linked ∙ rw (read, linkedAt, sound-flags i m (drop m s), k); at = starts .at; few = few }
         go false k =
-            let size = sound-extent i n (drop n s) k in (
+            let size = sound-extent i m (drop m s) k in (
               record {
-                first = soundBlock i n (drop n s);
-                is = rw (one-more, chain, marked, read, sound-flags i n (drop n s), k, size, drop-drop (contentStart (drop n s) + allocatedSize (drop n s)) n s);
+                first = soundBlock i m (drop m s);
+                is = onward-linked ∙ rw (read, linkedAt, sound-flags i m (drop m s), k, size, drop-drop (contentStart (drop m s) + allocatedSize (drop m s)) m s);
                 at = starts .at;
                 few = few;
               },
-              omega (arith, starts .inside, size, length-drop n s),
+              omega (arith, starts .inside, size, length-drop m s, here .inside),
             )
 
 -- a chain with these blocks in front
@@ -153,9 +200,9 @@ walk-ends s out first i o w t e = record {
   kept = w .kept;
 }
 
-module _ (s : Bytes) (i n : ℕ) (r : LinkStep) (link : LinkIs s i n r) where
+module _ (s : Bytes) (i n m : ℕ) (r : LinkStep) (link : LinkIs s i n m r) where
   -- a streamed block begins here
-  streamed-here : r ≡ LinkStep·is.Streamed → BlockBegins s i n (accepted (ended []))
+  streamed-here : r ≡ LinkStep·is.Streamed → BlockBegins s i n m (accepted (ended []))
   streamed-here h = rw h at link
 
   -- it is one of those that are allowed
@@ -164,7 +211,7 @@ module _ (s : Bytes) (i n : ℕ) (r : LinkStep) (link : LinkIs s i n r) where
 
   module _ (e : ℕ) (h : r ≡ LinkStep·is.Block e) where
     -- a block of this length begins here, which is not streamed
-    block-here : LinkIs s i n (LinkStep·is.Block e)
+    block-here : LinkIs s i n m (LinkStep·is.Block e)
     block-here = rw h at link
 
     -- it is one of those that are allowed
@@ -176,14 +223,14 @@ module _ (s : Bytes) (i n : ℕ) (r : LinkStep) (link : LinkIs s i n r) where
     block-less = omega (arith, block-few)
 
     -- it ends inside
-    pub block-inside : n + e ≤ length s
+    pub block-inside : m + e ≤ length s
     block-inside = block-here .1
 
     -- its end fits
-    pub block-fits : length s < 2 ^ 64 → Fits w64 (n + e)
+    pub block-fits : length s < 2 ^ 64 → Fits w64 (m + e)
     block-fits q = omega (arith, block-inside)
 
-module _ (s out : Bytes) (first i n : ℕ) (w : Walking s out first i (onward s i n)) (r : LinkStep) (link : LinkIs s i n r) where
+module _ (s out : Bytes) (first i n m : ℕ) (w : Walking s out first i (onward s i n)) (r : LinkStep) (link : LinkIs s i n m r) where
   -- the chain is refused here
   pub walk-refused : (x : Refusal) → r ≡ LinkStep·is.Refused x → onward s 0 first ≡ refused x
   walk-refused x h = w .is ∙ ap (inFront (w .blocks)) (rw h at link)
@@ -200,9 +247,9 @@ module _ (s out : Bytes) (first i n : ℕ) (w : Walking s out first i (onward s 
       let t : TailBegins s i n false = rw h at link in
       record { c = _; chained = walk-ends s out first i _ w (drop n s) (t .is); zeros = t .tail; tail = refl; inside = inside }
 
-  module _ (out' : Bytes) (keep : out' ≡ set out i n) where
+  module _ (out' : Bytes) (keep : out' ≡ set out i m) where
     -- one block more is walked
-    walk-next : (o : Outcome Chain) → BlockBegins s i n o → Walking s out' first (i + 1) o
+    walk-next : (o : Outcome Chain) → BlockBegins s i n m o → Walking s out' first (i + 1) o
     walk-next o b = record {
       blocks = w .blocks ++ (b .first ∷ []);
       is = w .is ∙ ap (inFront (w .blocks)) (b .is) ∙ in-front-next (w .blocks) (b .first) o;
@@ -214,9 +261,9 @@ module _ (s out : Bytes) (first i n : ℕ) (w : Walking s out first i (onward s 
     -- a streamed block is the last
     pub walk-streamed : r ≡ LinkStep·is.Streamed → WalkedAlone (onward s 0 first) out' (i + 1)
     walk-streamed h =
-        let next = walk-next (accepted (ended [])) (streamed-here s i n r link h) in
+        let next = walk-next (accepted (ended [])) (streamed-here s i n m r link h) in
         record { c = _; chained = walk-ends s out' first (i + 1) _ next [] refl; zeros = refl }
 
-    -- behind another the chain goes on
-    pub walk-block : (e : ℕ) → r ≡ LinkStep·is.Block e → Walking s out' first (i + 1) (onward s (i + 1) (n + e))
-    walk-block e h = walk-next (onward s (i + 1) (n + e)) (block-here s i n r link e h .0)
+    -- after another the chain goes on
+    pub walk-block : (e : ℕ) → r ≡ LinkStep·is.Block e → Walking s out' first (i + 1) (onward s (i + 1) (m + e))
+    walk-block e h = walk-next (onward s (i + 1) (m + e)) (block-here s i n m r link e h .0)

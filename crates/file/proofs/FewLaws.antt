@@ -7,11 +7,11 @@ use lib.ListN.{length, drop, length-append, length-take, length-drop, length-map
 use Rattle.format.specs.declared.block.Block.{Block}
 use Rattle.format.specs.declared.block.Record.{Record}
 use Rattle.format.specs.declared.row.Row.{Row}
-use Rattle.format.specs.Bytes.{Bytes, begins}
+use Rattle.format.specs.Bytes.{Bytes}
 use Rattle.format.specs.Outcome.{Outcome, accepted, refused, _>>=_}
-use Rattle.format.specs.Tree.{mark}
+use Rattle.format.specs.Tree.{freeSpace}
 use Rattle.format.specs.Block.{isStreamed, block}
-use Rattle.format.specs.Chain.{Chain, mostBlocks, extent, ended, linked, isTail, tail, chain}
+use Rattle.format.specs.Chain.{Chain, mostBlocks, extent, ended, linked, isTail, follows, tail, linkedAt, chain}
 use Rattle.format.specs.File.{file}
 use Rattle.format.specs.Nest.{deepest, contentAt, contentOf, isFile, Inside, inside, opened, walked, walk, walkFile, recordsFrom, records}
 use Rattle.format.specs.Outline.{rowOf, rows}
@@ -40,16 +40,29 @@ linked-lies n t b true o h hs = omega (arith, h .header-least, h .inside, h .use
 linked-lies n t b false (accepted c) h hs = omega (arith, h .header-least, h .inside, h .used, length-drop (extent b) t)
 linked-lies n t b false (refused r) h hs = tt
 
+-- what lies in a part of t lies in t
+lies-after : (t : Bytes) (g : ℕ) (o : Outcome Chain) → Accepts (LieIn (drop g t)) o → Accepts (LieIn t) o
+lies-after t g (accepted c) h = omega (arith, length-drop g t)
+lies-after t g (refused r) h = tt
+
+-- a block at a mark, and those that are read after it
+linked-at-lies : (i n : ℕ) (t : Bytes) (others : ℕ → Bytes → Outcome Chain) → ((m : ℕ) (u : Bytes) → Accepts (LieIn u) (others m u))
+    → Accepts (LieIn t) (linkedAt i n t others)
+unfolding linkedAt
+linked-at-lies i n t others h =
+    accepts-bind (LieIn t) (block i n t) _ λ b e.
+    linked-lies n t b (isStreamed (b .flags)) (others (n + extent b) (drop (extent b) t))
+    (accepted-holds (Starts n t) (block i n t) b (block-starts i n t) e)
+    (h (n + extent b) (drop (extent b) t))
+
 -- the blocks of every chain
 chain-lies : (k i n : ℕ) (t : Bytes) → Accepts (LieIn t) (chain k i n t)
 unfolding chain
-chain-lies zero i n t = choice (Accepts (LieIn t)) (begins mark t) _ _ tt (tail-lies n t)
+chain-lies zero i n t = choice (Accepts (LieIn t)) (follows t) _ _ tt (tail-lies n t)
 chain-lies (suc k) i n t =
-    choice (Accepts (LieIn t)) (begins mark t) _ _
-    (accepts-bind (LieIn t) (block i n t) _ λ b h.
-    linked-lies n t b (isStreamed (b .flags)) (chain k (i + 1) (n + extent b) (drop (extent b) t))
-    (accepted-holds (Starts n t) (block i n t) b (block-starts i n t) h)
-    (chain-lies k (i + 1) (n + extent b) (drop (extent b) t)))
+    choice (Accepts (LieIn t)) (follows t) _ _
+    (lies-after t (freeSpace t) (linkedAt i (n + freeSpace t) (drop (freeSpace t) t) (chain k (i + 1)))
+    (linked-at-lies i (n + freeSpace t) (drop (freeSpace t) t) (chain k (i + 1)) (chain-lies k (i + 1))))
     (tail-lies n t)
 
 -- for each record there are 54 bytes

@@ -10,11 +10,11 @@ use lib.Seq.{drop-drop, getD-take, take-at}
 use Rattle.format.specs.declared.answer.BlockAnswer.the-variants as BlockAnswer·is
 use Rattle.format.specs.declared.block.Block.{Block}
 use Rattle.format.specs.declared.refusal.Refusal.{Refusal}
-use Rattle.format.specs.Bytes.{Bytes, begins}
+use Rattle.format.specs.Bytes.{Bytes}
 use Rattle.format.specs.Outcome.{Outcome, accepted, refused, _>>=_}
-use Rattle.format.specs.Tree.{mark}
+use Rattle.format.specs.Tree.{freeSpace}
 use Rattle.format.specs.Block.{isStreamed, block}
-use Rattle.format.specs.Chain.{Chain, mostBlocks, extent, ended, linked, tail, chain}
+use Rattle.format.specs.Chain.{Chain, mostBlocks, extent, ended, linked, follows, tail, linkedAt, chain}
 use Rattle.format.specs.File.{offsets, table, file, blockAt}
 use Rattle.format.specs.Answer.{blockAnswer}
 use Rattle.format.proofs.OutcomeLaws.{Accepts, accepted-holds, accepts-bind, accepts-need, choice}
@@ -58,15 +58,23 @@ tail-blocks : (s : Bytes) (i n : ℕ) (t : Bytes) → Accepts (ChainBlocks s i) 
 unfolding tail
 tail-blocks s i n t = search accepts-need
 
+-- a block at a mark, and those that are read after it
+linked-at-blocks : (s : Bytes) (i m : ℕ) (others : ℕ → Bytes → Outcome Chain) → ((n : ℕ) → Accepts (ChainBlocks s (i + 1)) (others n (drop n s)))
+    → Accepts (ChainBlocks s i) (linkedAt i m (drop m s) others)
+unfolding linkedAt
+linked-at-blocks s i m others h =
+    accepts-bind (ChainBlocks s i) (block i m (drop m s)) _ λ b q.
+    linked-blocks s i b (isStreamed (b .flags)) (others (m + extent b) (drop (extent b) (drop m s))) (block-is s i m b q)
+    (rw drop-drop (h (m + extent b)))
+
 -- every block of a chain is read where it begins
 chain-blocks : (s : Bytes) (k i n : ℕ) → Accepts (ChainBlocks s i) (chain k i n (drop n s))
 unfolding chain
-chain-blocks s zero i n = choice (Accepts (ChainBlocks s i)) (begins mark (drop n s)) _ _ tt (tail-blocks s i n (drop n s))
+chain-blocks s zero i n = choice (Accepts (ChainBlocks s i)) (follows (drop n s)) _ _ tt (tail-blocks s i n (drop n s))
 chain-blocks s (suc k) i n =
-    choice (Accepts (ChainBlocks s i)) (begins mark (drop n s)) _ _
-    (accepts-bind (ChainBlocks s i) (block i n (drop n s)) _ λ b q.
-    linked-blocks s i b (isStreamed (b .flags)) (chain k (i + 1) (n + extent b) (drop (extent b) (drop n s))) (block-is s i n b q)
-    (rw drop-drop (chain-blocks s k (i + 1) (n + extent b))))
+    let g = freeSpace (drop n s) in
+    choice (Accepts (ChainBlocks s i)) (follows (drop n s)) _ _
+    (rw (drop-drop g n s) (linked-at-blocks s i (n + g) (chain k (i + 1)) (chain-blocks s k (i + 1))))
     (tail-blocks s i n (drop n s))
 
 -- and so is every block of a file

@@ -7,7 +7,8 @@ use lib.ListN.{length, drop}
 use Rattle.format.specs.declared.block.Block.{Block}
 use Rattle.format.specs.Bytes.{Bytes, allZero}
 use Rattle.format.specs.Outcome.{Outcome, accepted, refused, _>>=_}
-use Rattle.format.specs.Chain.{Chain, mostBlocks, ended, linked, chain}
+use Rattle.format.specs.Tree.{freeSpace}
+use Rattle.format.specs.Chain.{Chain, mostBlocks, ended, linked, chain, follows as Chain·follows}
 use Rattle.format.specs.File.{table}
 use Rattle.file.specs.declared.step.LinkStep.{LinkStep}
 use Rattle.file.specs.declared.step.LinkStep.the-variants as LinkStep·is
@@ -18,25 +19,36 @@ use Rattle.file.specs.declared.step.ChainStep.the-variants as ChainStep�
 abbrev pub onward : Bytes → ℕ → ℕ → Outcome Chain
 onward s i n = chain (mostBlocks - i) i n (drop n s)
 
--- no block begins there, but the tail, which is zeros only or not
+-- no block follows there, but the tail begins, which is zeros only or not
 pub record TailBegins (s : Bytes) (i n : ℕ) (zeros : Bool) : Type 0 where
   pub is : onward s i n ≡ accepted (ended (drop n s))
   pub tail : allZero (drop n s) ≡ zeros
 
--- a block begins there, and the chain o behind it
-pub record BlockBegins (s : Bytes) (i n : ℕ) (o : Outcome Chain) : Type 0 where
+-- a block follows there, at the mark m
+pub record Follows (s : Bytes) (n m : ℕ) : Type 0 where
+  pub follows : Chain·follows (drop n s) ≡ true
+  pub at : m ≡ n + freeSpace (drop n s)
+  pub inside : m ≤ length s
+
+-- m is the mark of the block that follows there, or the end where none follows
+pub record NextMark (s : Bytes) (n m : ℕ) : Type 0 where
+  pub some-block : m < length s → Follows s n m
+  pub no-block : length s ≤ m → Chain·follows (drop n s) ≡ false
+
+-- a block follows there, at the mark m, and after it the chain o
+pub record BlockBegins (s : Bytes) (i n m : ℕ) (o : Outcome Chain) : Type 0 where
   pub first : Block
   pub is : onward s i n ≡ _>>=_ o (λ c. accepted (linked first c))
-  pub at : first .at .0 ≡ n
+  pub at : first .at .0 ≡ m
   pub few : i < mostBlocks
 
--- what an answer says of the chain from there on
-abbrev pub LinkIs : Bytes → ℕ → ℕ → LinkStep → Type 0
-LinkIs s i n (LinkStep·is.Block e) = BlockBegins s i n (onward s (i + 1) (n + e)) × (n + e ≤ length s)
-LinkIs s i n LinkStep·is.Streamed = BlockBegins s i n (accepted (ended []))
-LinkIs s i n LinkStep·is.Zeros = TailBegins s i n true
-LinkIs s i n LinkStep·is.Index = TailBegins s i n false
-LinkIs s i n (LinkStep·is.Refused r) = onward s i n ≡ refused r
+-- what an answer says of the chain from there on, of which the first mark stands at m
+abbrev pub LinkIs : Bytes → ℕ → ℕ → ℕ → LinkStep → Type 0
+LinkIs s i n m (LinkStep·is.Block e) = BlockBegins s i n m (onward s (i + 1) (m + e)) × (m + e ≤ length s)
+LinkIs s i n m LinkStep·is.Streamed = BlockBegins s i n m (accepted (ended []))
+LinkIs s i n m LinkStep·is.Zeros = TailBegins s i n true
+LinkIs s i n m LinkStep·is.Index = TailBegins s i n false
+LinkIs s i n m (LinkStep·is.Refused r) = onward s i n ≡ refused r
 
 -- the chain c of k blocks was walked, and out is the table of where they begin
 pub record Chained (o : Outcome Chain) (out : Bytes) (k : ℕ) (c : Chain) : Type 0 where

@@ -1,12 +1,9 @@
-// The chain of blocks and the tail behind the last of them.
+// The chain of blocks, with unallocated space between them, and the tail after the last of them.
 ghost use Prim.Native.Nat.{_≤_, _<_};
 ghost use mathlib.Core.Path.{_≡_};
-ghost use mathlib.Core.Bool.{true};
 ghost use lib.ListN.{length, drop, set, replicate};
-ghost use Rattle.format.specs.Bytes.{begins};
-ghost use Rattle.format.specs.Tree.{mark as Tree·mark};
 ghost use Rattle.format.specs.Chain.{chain, mostBlocks};
-ghost use Rattle.file.specs.Chain.{LinkIs, Walked};
+ghost use Rattle.file.specs.Chain.{Follows, NextMark, LinkIs, Walked};
 use crate::block;
 use crate::step::ChainStep;
 use crate::step::LinkStep;
@@ -23,7 +20,8 @@ pub(crate) fn walk(s: &[u8], first: usize, offsets: &mut [u64; 64]) -> ChainStep
     let mut at = first;
     let mut i: usize = 0;
     loop {
-        match link(s, at, i) {
+        let next = next_mark(s, at);
+        match link(s, at, next, i) {
             LinkStep::Refused(r) => {
                 return ChainStep::Refused(r);
             }
@@ -37,13 +35,13 @@ pub(crate) fn walk(s: &[u8], first: usize, offsets: &mut [u64; 64]) -> ChainStep
                 };
             }
             LinkStep::Streamed => {
-                keep(offsets, i, at);
+                keep(offsets, i, next);
                 return ChainStep::Walked(i + 1);
             }
             LinkStep::Block(extent) => {
-                keep(offsets, i, at);
+                keep(offsets, i, next);
                 i += 1;
-                at += extent;
+                at = next + extent;
             }
         }
     }
@@ -57,13 +55,28 @@ fn keep(offsets: &mut [u64], i: usize, at: usize)
     offsets[i] = at as u64;
 }
 
-// What stands at an offset where block i may begin.
-fn link(s: &[u8], at: usize, i: usize) -> LinkStep
+// Where the block begins that follows at an offset, or the end where none follows. Blocks mostly follow at once, and where a
+// mark stands no index does, so the mark is tried first; nothing after an index is searched.
+fn next_mark(s: &[u8], at: usize) -> usize
     requires { ⌜ at ≤ length (now s) ⌝ }
-    ensures { λ r. ⌜ LinkIs (now (s .entry)) i at r ⌝ }
+    ensures { λ r. ⌜ NextMark (now (s .entry)) at r ⌝ }
 {
     if mark::is_mark(s, at) {
-        return link_at_mark(s, at, i);
+        return at;
+    }
+    if text::begins_at(s, at, b"#ASDF BLOCK INDEX") {
+        return s.len();
+    }
+    mark::find(s, at)
+}
+
+// What follows at an offset: block i, if it is allowed, at the mark `next`, or where there is none the tail.
+fn link(s: &[u8], at: usize, next: usize, i: usize) -> LinkStep
+    requires { ⌜ (at ≤ length (now s)) × NextMark (now s) at next ⌝ }
+    ensures { λ r. ⌜ LinkIs (now (s .entry)) i at next r ⌝ }
+{
+    if next < s.len() {
+        return link_at_mark(s, at, next, i);
     }
     if text::begins_at(s, at, b"#ASDF BLOCK INDEX") {
         return LinkStep::Index;
@@ -74,17 +87,17 @@ fn link(s: &[u8], at: usize, i: usize) -> LinkStep
     LinkStep::Refused(Refusal::new(17, at))
 }
 
-// What the mark at an offset begins, where block i may begin.
-fn link_at_mark(s: &[u8], at: usize, i: usize) -> LinkStep
-    requires { ⌜ (at ≤ length (now s)) × (begins Tree·mark (drop at (now s)) ≡ true) ⌝ }
-    ensures { λ r. ⌜ LinkIs (now (s .entry)) i at r ⌝ }
+// What the mark `next` begins, which follows at an offset, where block i may begin.
+fn link_at_mark(s: &[u8], at: usize, next: usize, i: usize) -> LinkStep
+    requires { ⌜ Follows (now s) at next ⌝ }
+    ensures { λ r. ⌜ LinkIs (now (s .entry)) i at next r ⌝ }
 {
     if 64 <= i {
-        return LinkStep::Refused(Refusal::new(16, at));
+        return LinkStep::Refused(Refusal::new(16, next));
     }
-    let number = block::fault(&s[at..]);
+    let number = block::fault(&s[next..]);
     if number != 0 {
-        return LinkStep::Refused(Refusal::new(number, at));
+        return LinkStep::Refused(Refusal::new(number, next));
     }
-    block::sound_link(&s[at..])
+    block::sound_link(&s[next..])
 }

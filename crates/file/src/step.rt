@@ -1,7 +1,7 @@
 // What the steps of reading a file answer one another.
 use format::refusal::Refusal;
 
-// What stands where a block may begin.
+// What follows at the end of a block, or where the first may begin.
 pub enum LinkStep {
     // A block whose allocated space ends so far from its first byte.
     Block(usize),

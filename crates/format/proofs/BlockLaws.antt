@@ -9,11 +9,11 @@ use lib.ListN.{length, drop, length-drop}
 use lib.Dec.{leb}
 use borrow.Author.Tests.{leb-true}
 use Rattle.format.specs.declared.block.Block.{Block}
-use Rattle.format.specs.Bytes.{Bytes, IsBytes, begins}
+use Rattle.format.specs.Bytes.{Bytes, IsBytes}
 use Rattle.format.specs.Outcome.{Outcome, accepted, refused, _>>=_}
-use Rattle.format.specs.Tree.{mark}
+use Rattle.format.specs.Tree.{freeSpace}
 use Rattle.format.specs.Block.{headerSize, flags, leastHeader, isStreamed, contentStart, bytesLeft, blockWith, block}
-use Rattle.format.specs.Chain.{Chain, mostBlocks, extent, ended, linked, tail, chain}
+use Rattle.format.specs.Chain.{Chain, mostBlocks, extent, ended, linked, follows, tail, linkedAt, chain}
 use Rattle.format.specs.File.{File, file}
 use Rattle.format.proofs.OutcomeLaws.{Accepts, accepted-holds, accepts-bind, accepts-need, choice}
 use Rattle.format.proofs.PackLaws.{is-bytes-drop, number-lt}
@@ -93,16 +93,21 @@ module _ (P : Block → Type 0) where
   linked-all b false (refused r) h hs = tt
 
   -- P holds of every block of a chain if it holds of each that is accepted where Known holds, and Known holds again behind it
+  -- and behind bytes that no block has
   pub chain-all : (Known : ℕ → ℕ → ℕ → Bytes → Type 0)
+      → ((k i n g : ℕ) (t : Bytes) → Known k i n t → Known k i (n + g) (drop g t))
       → ((k i n : ℕ) (t : Bytes) (b : Block) → Known (suc k) i n t → block i n t ≡ accepted b → P b × Known k (i + 1) (n + extent b) (drop (extent b) t))
       → (k i n : ℕ) (t : Bytes) → Known k i n t → Accepts AllOfChain (chain k i n t)
-  unfolding chain
-  chain-all Known step zero i n t h = choice (Accepts AllOfChain) (begins mark t) _ _ tt (tail-all n t)
-  chain-all Known step (suc k) i n t h =
-      choice (Accepts AllOfChain) (begins mark t) _ _
-      (accepts-bind AllOfChain (block i n t) _ λ b q.
-      linked-all b (isStreamed (b .flags)) (chain k (i + 1) (n + extent b) (drop (extent b) t)) (step k i n t b h q .0)
-      (chain-all Known step k (i + 1) (n + extent b) (drop (extent b) t) (step k i n t b h q .1)))
+  unfolding chain linkedAt
+  chain-all Known skip step zero i n t h = choice (Accepts AllOfChain) (follows t) _ _ tt (tail-all n t)
+  chain-all Known skip step (suc k) i n t h =
+      let m = n + freeSpace t in
+      let u = drop (freeSpace t) t in
+      let there = skip (suc k) i n (freeSpace t) t h in
+      choice (Accepts AllOfChain) (follows t) _ _
+      (accepts-bind AllOfChain (block i m u) _ λ b q.
+      linked-all b (isStreamed (b .flags)) (chain k (i + 1) (m + extent b) (drop (extent b) u)) (step k i m u b there q .0)
+      (chain-all Known skip step k (i + 1) (m + extent b) (drop (extent b) u) (step k i m u b there q .1)))
       (tail-all n t)
 
 -- the block i at offset n, where t stands, is one of those allowed, k more with it, and inside a file of this size
@@ -113,8 +118,11 @@ record Inside (size k i n : ℕ) (t : Bytes) : Type 0 where
 
 -- every block of a chain is sound
 chain-sound : (size k i n : ℕ) (t : Bytes) → Inside size k i n t → Accepts (AllOfChain (Sound size)) (chain k i n t)
-chain-sound size = chain-all (Sound size) (Inside size) step
+chain-sound size = chain-all (Sound size) (Inside size) skip step
   where
+    skip : (k i n g : ℕ) (t : Bytes) → Inside size k i n t → Inside size k i (n + g) (drop g t)
+    skip k i n g t h = record { bytes = is-bytes-drop g t (h .bytes); few = h .few; room = simp length-drop (omega (arith, h .room)) }
+
     step : (k i n : ℕ) (t : Bytes) (b : Block) → Inside size (suc k) i n t → block i n t ≡ accepted b
         → Sound size b × Inside size k (i + 1) (n + extent b) (drop (extent b) t)
     step k i n t b h q = (

@@ -1,22 +1,25 @@
 -- The blocks of a chain are a front part of the bytes, and the same with another tail behind the last of them.
 use Prim.Native.Nat.{ℕ, zero, suc, _+_, _≤_}
 use mathlib.Core.Path.{_≡_, refl, sym, ap, subst, _∙_}
-use mathlib.Core.Bool.{Bool, true, false, not, _&&_, _||_, true≢false}
+use mathlib.Core.Bool.{Bool, true, false, not, _&&_, _||_, or-false, true≢false}
 use mathlib.Core.List.{List, [], _∷_, _++_, append-nil, append-assoc}
 use native.Mathlib.Omega.{arith}
 use lib.ListN.{length, take, drop, length-append, length-drop, take-append-drop}
-use lib.Seq.{length-take-le, take-append-seam, drop-append-seam, take-append-le, drop-append-le, take-at, drop-at, drop-drop}
+use lib.Seq.{length-take-le, take-append-seam, drop-append-seam, take-append-le, drop-append-le, drop-length, take-at, drop-at, drop-drop}
 use lib.Dec.{eqb, leb}
-use borrow.Author.Tests.{leb-true, le-leb, eqb-true}
+use borrow.Author.Tests.{leb-true, le-leb, not-true}
 use Rattle.format.specs.declared.block.Block.{Block}
-use Rattle.format.specs.Bytes.{Bytes, begins}
+use Rattle.format.specs.Bytes.{Bytes, begins, allZero}
 use Rattle.format.specs.Outcome.{Outcome, accepted, refused, _>>=_}
 use Rattle.format.specs.Block.{headerSize, flags, compression, allocatedSize, usedSize, dataSize, leastHeader, isStreamed, contentStart, bytesLeft, blockWith, block}
-use Rattle.format.specs.Tree.{mark}
-use Rattle.format.specs.Chain.{Chain, extent, isTail, ended, linked, tail, chain, blocksEnd}
+use Rattle.format.specs.Comments.{indexLine}
+use Rattle.format.specs.Tree.{mark, freeSpace}
+use Rattle.format.specs.Chain.{Chain, extent, isTail, ended, linked, follows, tail, linkedAt, chain, blocksEnd}
 use Rattle.format.specs.IndexWriter.{mayHaveIndex}
 use Rattle.format.proofs.OutcomeLaws.{Accepts, accepted-holds, accepts-bind, accepts-need}
-use Rattle.format.proofs.ReadLaws.{accepts-choice, Between}
+use Rattle.format.proofs.ByteLaws.{and-left, and-right, all-zero-true, lacks-replicate}
+use Rattle.format.proofs.ReadLaws.{accepts-choice, Between, free-space-bounds}
+use Rattle.format.proofs.LocalLaws.{free-space-all, free-space-again}
 
 -- a field in the first 54 bytes is the same with anything behind them
 header-field : (p y z : Bytes) → 54 ≤ length p → (n w : ℕ) → leb (n + w) 54 ≡ true → take w (drop n (p ++ y)) ≡ take w (drop n (p ++ z))
@@ -108,30 +111,33 @@ block-begun : (i n : ℕ) (t : Bytes) → Accepts (Begun i n t) (block i n t)
 unfolding block
 block-begun i n t = search (accepts-need, accepts-choice (Begun i n t) (isStreamed (flags t)), streamed-begun, plain-begun) depth 12
 
--- the blocks of c, at most k, are a front part of t and its tail is the rest; they are the same with another tail if, of a block b and them, the last is not streamed
+-- the blocks of c, at most k, with the space between them are a front part of t and its tail is the rest; they are the same with
+-- another tail if, of a block b and them, the last is not streamed
 record ChainFront (k i n : ℕ) (t : Bytes) (c : Chain) : Type 0 where
   front : Bytes
   whole : t ≡ front ++ c .tail
   end : blocksEnd n (c .blocks) ≡ n + length front
   few : length (c .blocks) ≤ k
-  marked : mayHaveIndex (c .blocks) ≡ true → begins mark t ≡ true
+  marked : mayHaveIndex (c .blocks) ≡ true → freeSpace t ≡ 0 → (y : Bytes) → begins mark (front ++ y) ≡ true
   local : (b : Block) → mayHaveIndex (b ∷ c .blocks) ≡ true → (y : Bytes) → isTail y ≡ true
       → chain k i n (front ++ y) ≡ accepted (record { blocks = c .blocks; tail = y })
 
--- no block begins where a tail stands
-tail-no-mark : (y : Bytes) → isTail y ≡ true → begins mark y ≡ false
-tail-no-mark [] h = refl
-tail-no-mark (b ∷ y) h = go (eqb 0xD3 b) refl
+-- no block follows in a tail
+tail-unfollowed : (y : Bytes) → isTail y ≡ true → follows y ≡ false
+tail-unfollowed y h = go (begins indexLine y) refl
   where
-    go : (x : Bool) → eqb 0xD3 b ≡ x → begins mark (b ∷ y) ≡ false
-    go true e = let z : false ≡ true = ap (λ (a : ℕ). isTail (a ∷ y)) (eqb-true 0xD3 b e) ∙ h in cc
-    go false e = rw e
+    go : (x : Bool) → begins indexLine y ≡ x → follows y ≡ false
+    go true e = rw e
+    go false e =
+        let zeros : allZero y ≡ true = sym (or-false (allZero y)) ∙ rw e at h in
+        let free = free-space-all y (rw (all-zero-true y zeros) (lacks-replicate 0xD3 0 (length y) refl)) in
+        rw (e, free, drop-length)
 
 -- a tail is a chain of no blocks
 no-blocks : (k i n : ℕ) (y : Bytes) → isTail y ≡ true → chain k i n y ≡ accepted (ended y)
 unfolding chain tail
-no-blocks zero i n y h = rw (tail-no-mark y h, chain, h)
-no-blocks (suc k) i n y h = rw (tail-no-mark y h, chain, h)
+no-blocks zero i n y h = rw (tail-unfollowed y h, chain, h)
+no-blocks (suc k) i n y h = rw (tail-unfollowed y h, chain, h)
 
 -- a tail is the rest of no blocks
 tail-front : (k i n : ℕ) (t : Bytes) → Accepts (ChainFront k i n t) (tail n t)
@@ -142,15 +148,15 @@ tail-front k i n t = search (accepts-need, nothing)
     nothing = record { front = []; whole = refl; end = omega arith; few = omega arith; marked = λ h. absurd (true≢false (sym h)); local = λ b h. no-blocks k i n }
 
 -- a streamed block is all that is left
-streamed-front : (k i n : ℕ) (t : Bytes) (b : Block) → begins mark t ≡ true → Begun i n t b → isStreamed (b .flags) ≡ true
-    → ChainFront (suc k) i n t (linked b (ended []))
+streamed-front : (k i n : ℕ) (t : Bytes) (b : Block) → freeSpace t ≤ length t → Begun i (n + freeSpace t) (drop (freeSpace t) t) b
+    → isStreamed (b .flags) ≡ true → ChainFront (suc k) i n t (linked b (ended []))
 unfolding blocksEnd mayHaveIndex
-streamed-front k i n t b m h s = record {
+streamed-front k i n t b g h s = record {
   front = t;
   whole = sym (append-nil t);
-  end = omega (arith, h .at, h .streamed s);
+  end = omega (arith, h .at, h .streamed s, length-drop (freeSpace t) t);
   few = omega arith;
-  marked = λ q. m;
+  marked = λ q. absurd (true≢false (sym q ∙ ap not s));
   local = λ a q. absurd (true≢false (sym q ∙ ap not s));
 }
 
@@ -160,48 +166,85 @@ begins-front [] s y z h = refl
 begins-front (a ∷ p) [] y z h = absurd (omega arith)
 begins-front (a ∷ p) (b ∷ s) y z h = ap (λ (x : Bool). eqb a b && x) (begins-front p s y z (omega arith))
 
-module _ (k i n : ℕ) (p z : Bytes) (b : Block) (size : length p ≡ extent b) (marked : begins mark (p ++ z) ≡ true)
-    (at : b .at .0 ≡ n) (plain : Plain i n (p ++ z) b) (unstreamed : isStreamed (b .flags) ≡ false) where
+-- where a block follows, the chain goes on at its mark
+pub chain-follows : (k i n : ℕ) (t : Bytes) → follows t ≡ true → chain (suc k) i n t ≡ linkedAt i (n + freeSpace t) (drop (freeSpace t) t) (chain k (i + 1))
+unfolding chain
+chain-follows k i n t h = rw (h, chain)
+
+-- behind q, in which no mark begins, stands the block b, which is p
+module _ (k i n : ℕ) (q p z : Bytes) (b : Block) (size : length p ≡ extent b) (unindexed : begins indexLine (q ++ (p ++ z)) ≡ false)
+    (free : freeSpace (q ++ (p ++ z)) ≡ length q) (marked : begins mark (p ++ z) ≡ true)
+    (at : b .at .0 ≡ n + length q) (plain : Plain i (n + length q) (p ++ z) b) (unstreamed : isStreamed (b .flags) ≡ false) where
+  -- its mark is the same with anything behind it
+  marked-again : (u : Bytes) → begins mark (p ++ u) ≡ true
+  marked-again u = begins-front mark p u z (omega (arith, plain-least plain)) ∙ marked
+
   -- a block is the first of a chain with any chain behind it
-  linked-again : (u : Bytes) (d : Chain) → chain k (i + 1) (n + extent b) u ≡ accepted d → chain (suc k) i n (p ++ u) ≡ accepted (linked b d)
-  unfolding chain
+  linked-again : (u : Bytes) (d : Chain) → chain k (i + 1) (n + length q + extent b) u ≡ accepted d → chain (suc k) i n (q ++ (p ++ u)) ≡ accepted (linked b d)
+  unfolding chain linkedAt
   linked-again u d h =
-      let first : begins mark (p ++ u) ≡ true = begins-front mark p u z (omega (arith, plain-least plain)) ∙ marked in
-      let same-block = plain-block i n (p ++ u) b (plain-again i n p u z b size plain) in
-      rw (first, chain, same-block, unstreamed, drop-at p u (extent b) size, h)
+      let gap = free-space-again q (p ++ z) (p ++ u) free (marked-again u) in
+      let enough : length indexLine ≤ length (q ++ p) = simp length-append (omega (arith, plain-least plain)) in
+      let index : begins indexLine (q ++ (p ++ u)) ≡ false
+      = ap (begins indexLine) (sym (append-assoc q p u)) ∙ begins-front indexLine (q ++ p) u z enough ∙ ap (begins indexLine) (append-assoc q p z) ∙ unindexed in
+      let same-block = plain-block i (n + length q) (p ++ u) b (plain-again i (n + length q) p u z b size plain) in
+      let here : linkedAt i (n + length q) (p ++ u) (chain k (i + 1)) ≡ accepted (linked b d)
+      = rw (same-block, linkedAt, unstreamed, drop-at p u (extent b) size, h) in
+      let block-follows : follows (q ++ (p ++ u)) ≡ true = rw (index, gap, drop-append-seam q (p ++ u), marked-again u) in
+      chain-follows k i n (q ++ (p ++ u)) block-follows
+      ∙ ap (λ (g : ℕ). linkedAt i (n + g) (drop g (q ++ (p ++ u))) (chain k (i + 1))) gap
+      ∙ ap (λ (v : Bytes). linkedAt i (n + length q) v (chain k (i + 1))) (drop-append-seam q (p ++ u))
+      ∙ here
 
   -- a block that is not streamed is a front part, with those behind it
-  linked-front : (c : Chain) → ChainFront k (i + 1) (n + extent b) z c → ChainFront (suc k) i n (p ++ z) (linked b c)
+  linked-front : (c : Chain) → ChainFront k (i + 1) (n + length q + extent b) z c → ChainFront (suc k) i n (q ++ (p ++ z)) (linked b c)
   unfolding blocksEnd mayHaveIndex
   linked-front c f = record {
-    front = p ++ f .front;
-    whole = rw (append-assoc, ← f .whole);
+    front = q ++ (p ++ f .front);
+    whole = ap (λ (x : Bytes). q ++ (p ++ x)) (f .whole) ∙ sym (grouped (c .tail));
     end = ap (λ (x : ℕ). blocksEnd (x + extent b) (c .blocks)) at ∙ f .end ∙ simp length-append (omega arith);
     few = omega (arith, f .few);
-    marked = λ q. marked;
-    local = λ a m y q. rw append-assoc (linked-again (f .front ++ y) _ (f .local b m y q));
+    marked = λ m e y. no-gap q (sym free ∙ e) y;
+    local = λ a m y t. rw (grouped y) (linked-again (f .front ++ y) _ (f .local b m y t));
   }
+    where
+      grouped : (y : Bytes) → q ++ (p ++ f .front) ++ y ≡ q ++ (p ++ (f .front ++ y))
+      grouped y = append-assoc q (p ++ f .front) y ∙ ap (λ (x : Bytes). q ++ x) (append-assoc p (f .front) y)
+
+      no-gap : (q : Bytes) → length q ≡ 0 → (y : Bytes) → begins mark (q ++ (p ++ f .front) ++ y) ≡ true
+      no-gap [] e y = rw (append-assoc p (f .front) y) (marked-again (f .front ++ y))
+      no-gap (a ∷ q) e y = absurd (omega arith)
 
 -- a block is a front part: alone where it is streamed, and else with those behind it
-block-front : (k i n : ℕ) (t : Bytes) (b : Block) → begins mark t ≡ true → Begun i n t b → (streamed : Bool) → isStreamed (b .flags) ≡ streamed
-    → (o : Outcome Chain) → Accepts (ChainFront k (i + 1) (n + extent b) (drop (extent b) t)) o
+block-front : (k i n : ℕ) (t : Bytes) (b : Block) → follows t ≡ true → Begun i (n + freeSpace t) (drop (freeSpace t) t) b
+    → (streamed : Bool) → isStreamed (b .flags) ≡ streamed
+    → (o : Outcome Chain) → Accepts (ChainFront k (i + 1) (n + freeSpace t + extent b) (drop (extent b) (drop (freeSpace t) t))) o
     → Accepts (ChainFront (suc k) i n t) (_>>=_ (elim streamed [ true ↦ accepted (ended []) | false ↦ o ]) (λ c. accepted (linked b c)))
-block-front k i n t b m h true e o f = streamed-front k i n t b m h e
+block-front k i n t b m h true e o f = streamed-front k i n t b (free-space-bounds t) h e
 block-front k i n t b m h false e (refused r) f = tt
 block-front k i n t b m h false e (accepted c) f =
-    let parts = take-append-drop (extent b) t in
-    let size = length-take-le (extent b) t (omega (arith, plain-extent (h .plain e), h .plain e .inside)) in
-    subst (λ (s : Bytes). ChainFront (suc k) i n s (linked b c)) parts
-    (linked-front k i n (take (extent b) t) (drop (extent b) t) b size (rw parts m) (h .at) (rw parts (h .plain e)) e c f)
+    let g = freeSpace t in
+    let u = drop g t in
+    let outer : take g t ++ u ≡ t = take-append-drop g t in
+    let inner : take (extent b) u ++ drop (extent b) u ≡ u = take-append-drop (extent b) u in
+    let gap : length (take g t) ≡ g = length-take-le g t (free-space-bounds t) in
+    let size = length-take-le (extent b) u (omega (arith, plain-extent (h .plain e), h .plain e .inside)) in
+    let unindexed = not-true (begins indexLine t) (and-left _ _ m) in
+    subst (λ (s : Bytes). ChainFront (suc k) i n s (linked b c)) (ap (λ (v : Bytes). take g t ++ v) inner ∙ outer)
+    (linked-front k i n (take g t) (take (extent b) u) (drop (extent b) u) b size
+    (rw (inner, outer) unindexed) (rw (inner, outer, gap)) (rw inner (and-right (not (begins indexLine t)) _ m))
+    (rw gap (h .at)) (rw (inner, gap) (h .plain e)) e c (rw gap f))
 
 -- the blocks of a chain are a front part
 chain-front : (k i n : ℕ) (t : Bytes) → Accepts (ChainFront k i n t) (chain k i n t)
-unfolding chain
-chain-front zero i n t = accepts-choice _ (begins mark t) _ _ (λ m. tt) (λ m. tail-front zero i n t)
+unfolding chain linkedAt
+chain-front zero i n t = accepts-choice _ (follows t) _ _ (λ m. tt) (λ m. tail-front zero i n t)
 chain-front (suc k) i n t =
-    accepts-choice _ (begins mark t) _ _
-    (λ m. accepts-bind _ (block i n t) _ λ b e. block-front k i n t b m (accepted-holds _ _ b (block-begun i n t) e) (isStreamed (b .flags)) refl
-    (chain k (i + 1) (n + extent b) (drop (extent b) t)) (chain-front k (i + 1) (n + extent b) (drop (extent b) t)))
+    let j = n + freeSpace t in
+    let u = drop (freeSpace t) t in
+    accepts-choice _ (follows t) _ _
+    (λ m. accepts-bind _ (block i j u) _ λ b e. block-front k i n t b m (accepted-holds _ _ b (block-begun i j u) e) (isStreamed (b .flags)) refl
+    (chain k (i + 1) (j + extent b) (drop (extent b) u)) (chain-front k (i + 1) (j + extent b) (drop (extent b) u)))
     (λ m. tail-front (suc k) i n t)
 
 -- where the last block is not streamed, a block may stand in front
@@ -214,10 +257,6 @@ module _ (k i n : ℕ) (c : Chain) where
   -- the blocks of an accepted chain are a front part
   accepted-front : (t : Bytes) → chain k i n t ≡ accepted c → ChainFront k i n t c
   accepted-front t = accepted-holds (ChainFront k i n t) (chain k i n t) c (chain-front k i n t)
-
-  -- the first block begins with the mark
-  pub blocks-begin : (t : Bytes) → chain k i n t ≡ accepted c → mayHaveIndex (c .blocks) ≡ true → begins mark t ≡ true
-  blocks-begin t e = accepted-front t e .marked
 
   -- there are no more than are allowed
   pub blocks-few : (t : Bytes) → chain k i n t ≡ accepted c → length (c .blocks) ≤ k
@@ -234,12 +273,20 @@ module _ (k i n : ℕ) (c : Chain) where
       sym (drop-append-seam (f .front) (c .tail)) ∙ ap (drop (length (f .front))) (sym (f .whole)) ∙ drop-drop (length (f .front)) n s
       ∙ ap (λ (m : ℕ). drop m s) (sym (f .end))
 
-  -- blocks, the last of which is not streamed, are the same with another tail
-  pub chain-again : (p z : Bytes) → chain k i n (p ++ z) ≡ accepted c → blocksEnd n (c .blocks) ≡ n + length p → mayHaveIndex (c .blocks) ≡ true
-      → (y : Bytes) → isTail y ≡ true → chain k i n (p ++ y) ≡ accepted (record { blocks = c .blocks; tail = y })
-  chain-again p z e size h y q =
-      let f = accepted-front (p ++ z) e in
-      let (b, m) = with-first (c .blocks) h in
-      let same-length : length (f .front) ≡ length p = omega arith in
-      let same-front : f .front ≡ p = sym (take-at (f .front) (c .tail) (length p) same-length) ∙ ap (take (length p)) (sym (f .whole)) ∙ take-append-seam p z in
-      subst (λ (x : Bytes). chain k i n (x ++ y) ≡ accepted (record { blocks = c .blocks; tail = y })) same-front (f .local b m y q)
+  module _ (p z : Bytes) (e : chain k i n (p ++ z) ≡ accepted c) (size : blocksEnd n (c .blocks) ≡ n + length p) (h : mayHaveIndex (c .blocks) ≡ true) where
+    -- the blocks, and the space between them, are p
+    same-front : accepted-front (p ++ z) e .front ≡ p
+    same-front =
+        let f = accepted-front (p ++ z) e in
+        let same-length : length (f .front) ≡ length p = omega (arith, f .end) in
+        sym (take-at (f .front) (c .tail) (length p) same-length) ∙ ap (take (length p)) (sym (f .whole)) ∙ take-append-seam p z
+
+    -- where no space stands before the first of them, p begins with its mark
+    pub blocks-begin : freeSpace (p ++ z) ≡ 0 → (y : Bytes) → begins mark (p ++ y) ≡ true
+    blocks-begin g y = subst (λ (x : Bytes). begins mark (x ++ y) ≡ true) same-front (accepted-front (p ++ z) e .marked h g y)
+
+    -- where the last is not streamed, they are the same with another tail
+    pub chain-again : (y : Bytes) → isTail y ≡ true → chain k i n (p ++ y) ≡ accepted (record { blocks = c .blocks; tail = y })
+    chain-again y q =
+        let (b, m) = with-first (c .blocks) h in
+        subst (λ (x : Bytes). chain k i n (x ++ y) ≡ accepted (record { blocks = c .blocks; tail = y })) same-front (accepted-front (p ++ z) e .local b m y q)

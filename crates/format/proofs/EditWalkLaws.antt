@@ -33,7 +33,7 @@ block-at i n t = search (accepts-need, choice (Accepts (λ (b : Block). b .at .0
 pub file-from : (s : Bytes) (f : File) → Parts s f → AllBlocks (From (blocksStart f)) (f .blocks)
 file-from s f h =
     let m = blocksStart f in
-    accepted-holds (AllOfChain (From m)) _ _ (chain-all (From m) (λ k i n t. m ≤ n) step mostBlocks 0 m _ (le-refl m)) (h .chain-read)
+    accepted-holds (AllOfChain (From m)) _ _ (chain-all (From m) (λ k i n t. m ≤ n) (λ k i n g t h. omega arith) step mostBlocks 0 m _ (le-refl m)) (h .chain-read)
   where
     step : (k i n : ℕ) (t : Bytes) (b : Block) → blocksStart f ≤ n → block i n t ≡ accepted b
         → (blocksStart f ≤ b .at .0) × (blocksStart f ≤ n + extent b)

@@ -1,5 +1,5 @@
 -- What a part of a file means does not depend on where it stands, nor on what follows it.
-use Prim.Native.Nat.{ℕ, suc, _+_, _-_, _≤_}
+use Prim.Native.Nat.{ℕ, suc, _+_, _-_, _≤_, _<_}
 use mathlib.Core.Path.{_≡_, refl, sym, ap, subst, _∙_}
 use mathlib.Core.Bool.{Bool, true, false, and-false}
 use mathlib.Core.List.{[], _∷_, _++_, append-nil, append-assoc}
@@ -158,6 +158,41 @@ free-space-end (b ∷ s) = go (begins mark (b ∷ s)) refl (free-space-end s)
     go : (t : Bool) → begins mark (b ∷ s) ≡ t → freeSpace (drop (freeSpace s) s) ≡ 0 → freeSpace (drop (freeSpace (b ∷ s)) (b ∷ s)) ≡ 0
     go true e i = rw (e, freeSpace) (rw e)
     go false e i = rw (e, freeSpace) i
+
+-- no byte stands before a mark
+pub free-space-mark : (s : Bytes) → begins mark s ≡ true → freeSpace s ≡ 0
+unfolding freeSpace
+free-space-mark [] h = refl
+free-space-mark (b ∷ s) h = rw (h, freeSpace)
+
+-- free space that ends before the end does so at a mark
+pub free-space-stops : (s : Bytes) → freeSpace s < length s → begins mark (drop (freeSpace s) s) ≡ true
+unfolding freeSpace
+free-space-stops [] h = absurd (omega arith)
+free-space-stops (b ∷ s) h = go (begins mark (b ∷ s)) refl (free-space-stops s)
+  where
+    go : (t : Bool) → begins mark (b ∷ s) ≡ t → (freeSpace s < length s → begins mark (drop (freeSpace s) s) ≡ true)
+        → begins mark (drop (freeSpace (b ∷ s)) (b ∷ s)) ≡ true
+    go true e i = rw (e, freeSpace) e
+    go false e i =
+        let more : suc (freeSpace s) < suc (length s) = rw (e, freeSpace) at h in
+        rw (e, freeSpace) (i (omega arith))
+
+-- no free byte stands where the first block is to begin
+pub start-free : (n : ℕ) (s : Bytes) (t : Tree) → tree n s ≡ accepted t → goesOn t (drop n s) ≡ true → freeSpace (drop (firstBlock n t) s) ≡ 0
+unfolding tree withRoom goesOn firstBlock freeSpace
+start-free n s t =
+    accepted-holds (λ u. goesOn u (drop n s) ≡ true → freeSpace (drop (firstBlock n u) s) ≡ 0) (tree n s) t
+    (accepts-bind _ (treeEnd n (lines (drop n s))) _ with-room)
+  where
+    marked : (u : Bytes) → goesOn NoTree u ≡ true → freeSpace u ≡ 0
+    marked [] h = refl
+    marked (b ∷ u) h = free-space-mark (b ∷ u) h
+
+    with-room : (m : Option ℕ) → treeEnd n (lines (drop n s)) ≡ accepted m → goesOn (withRoom n s m) (drop n s) ≡ true
+        → freeSpace (drop (firstBlock n (withRoom n s m)) s) ≡ 0
+    with-room none e h = marked (drop n s) h
+    with-room (some m) e h = ap freeSpace (sym (drop-drop (freeSpace (drop m s)) m s)) ∙ free-space-end (drop m s)
 
 -- where a tree is, `%YAML 1.1` stands
 pub tree-begins : (n : ℕ) (s : Bytes) (m : ℕ) → treeEnd n (lines s) ≡ accepted (some m) → begins yamlLine s ≡ true

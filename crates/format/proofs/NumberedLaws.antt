@@ -21,9 +21,9 @@ use Rattle.format.specs.Outcome.{Outcome, accepted, refused, need, _>>=_
 use Rattle.format.specs.Line.{LineEnd, Lines, unended, line, behind, lines}
 use Rattle.format.specs.Header.{token, headerOf, versionLine, header}
 use Rattle.format.specs.Comments.{comments, indexLine}
-use Rattle.format.specs.Tree.{endLine, yamlLine, isStart, isDirective, content, directives, treeEnd, tree, mark}
+use Rattle.format.specs.Tree.{endLine, yamlLine, isStart, isDirective, content, directives, treeEnd, tree, freeSpace}
 use Rattle.format.specs.Block.{block, isStreamed, flags}
-use Rattle.format.specs.Chain.{Chain, mostBlocks, extent, ended, linked, tail, chain}
+use Rattle.format.specs.Chain.{Chain, mostBlocks, extent, ended, linked, follows, tail, linkedAt, chain}
 use Rattle.format.specs.File.{mostBytes, firstBlock, goesOn, file, layout, blockAt}
 use Rattle.format.specs.Nest.{walkFile, recordsFrom, records, recordCount, recordAt}
 use Rattle.format.specs.Outline.{rowBytes, decodeRow, rows, outline, storedFrom, stored, storedCount, storedAt, rewritten}
@@ -34,7 +34,7 @@ use Rattle.format.specs.Edit.{editTree, edit}
 use Rattle.format.proofs.OutcomeLaws.{accepted-holds, choice}
 use Rattle.format.proofs.ByteLaws.{begins-true}
 use Rattle.format.proofs.LineLaws.{joinLines, join-lines}
-use Rattle.format.proofs.ReadLaws.{header-bounds, comments-bounds, first-block-bounds}
+use Rattle.format.proofs.ReadLaws.{header-bounds, comments-bounds, free-space-bounds, first-block-bounds}
 use Rattle.format.proofs.BlockLaws.{Starts, block-starts}
 
 -- the refusal's number is not 0, and its place is at most so far
@@ -146,15 +146,19 @@ module _ (most : ℕ) where
   numbered-linked b false o h = numbered-value o (linked b) h
 
   numbered-chain : (k i n : ℕ) (t : Bytes) → n + length t ≤ most → Numbered most (chain k i n t)
-  unfolding chain
-  numbered-chain zero i n t h = choice (Numbered most) (begins mark t) _ _ (omega arith) (numbered-tail n t (omega arith))
+  unfolding chain linkedAt
+  numbered-chain zero i n t h =
+      choice (Numbered most) (follows t) _ _ (omega (arith, free-space-bounds t)) (numbered-tail n t (omega arith))
   numbered-chain (suc k) i n t h =
-      choice (Numbered most) (begins mark t) _ _
-      (numbered-bind (block i n t) _ (numbered-block i n t (omega arith))
+      let m = n + freeSpace t in
+      let u = drop (freeSpace t) t in
+      let there : m + length u ≤ most = simp length-drop (omega (arith, free-space-bounds t)) in
+      choice (Numbered most) (follows t) _ _
+      (numbered-bind (block i m u) _ (numbered-block i m u (omega arith))
       λ b e.
-      let inside = accepted-holds (Starts n t) (block i n t) b (block-starts i n t) e .inside in
-      numbered-linked b (isStreamed (b .flags)) (chain k (i + 1) (n + extent b) (drop (extent b) t))
-      (numbered-chain k (i + 1) (n + extent b) (drop (extent b) t) (simp length-drop (omega arith))))
+      let inside = accepted-holds (Starts m u) (block i m u) b (block-starts i m u) e .inside in
+      numbered-linked b (isStreamed (b .flags)) (chain k (i + 1) (m + extent b) (drop (extent b) u))
+      (numbered-chain k (i + 1) (m + extent b) (drop (extent b) u) (simp length-drop (omega arith))))
       (numbered-tail n t (omega arith))
 
   numbered-stored-from : (k n deep : ℕ) (b : Bytes) → n + k * rowBytes ≤ most → Numbered most (storedFrom k n deep b)

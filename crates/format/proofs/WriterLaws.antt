@@ -1,5 +1,5 @@
 -- The index that is written for a file, put behind its last block, is good; and an index is good exactly if it lists the blocks' offsets.
-use Prim.Native.Nat.{ℕ, zero, suc, _^_, _≤_, _<_}
+use Prim.Native.Nat.{ℕ, zero, suc, _+_, _^_, _≤_, _<_}
 use mathlib.Core.Path.{_≡_, refl, sym, ap, _∙_}
 use mathlib.Core.Bool.{true, true≢false}
 use mathlib.Core.List.{List, [], _∷_, _++_}
@@ -15,14 +15,14 @@ use Rattle.format.specs.declared.block.Block.{Block}
 use Rattle.format.specs.Bytes.{Bytes, IsBytes, begins}
 use Rattle.format.specs.Outcome.{accepted}
 use Rattle.format.specs.Tree.{mark}
-use Rattle.format.specs.Chain.{mostBlocks, isTail}
+use Rattle.format.specs.Chain.{mostBlocks, isTail, blocksEnd}
 use Rattle.format.specs.Index.{verdict, rendering, indexText, IsIndex}
 use Rattle.format.specs.File.{mostBytes, File, firstBlock, goesOn, offsets, file}
 use Rattle.format.specs.IndexWriter.{mayHaveIndex, indexFor, mostIndex, tailStart, judgedAs, GoodBehind}
 use Rattle.format.proofs.OutcomeLaws.{accepted-holds, accepts-bind, accepts-need}
 use Rattle.format.proofs.BlockLaws.{AllSound, SoundFile, file-sound}
 use Rattle.format.proofs.IndexLaws.{good-is-index, index-is-good, text-is-index, text-at-most}
-use Rattle.format.proofs.LocalLaws.{header-again, comments-kept, tree-kept, goes-on-no-comment}
+use Rattle.format.proofs.LocalLaws.{header-again, comments-kept, tree-kept, goes-on-no-comment, start-free}
 use Rattle.format.proofs.ChainLaws.{blocks-begin, blocks-few, chain-again}
 use Rattle.format.proofs.FileLaws.{blocksStart, Parts, file-parts, parts-file, in-order, file-tail}
 
@@ -46,8 +46,10 @@ parts-again p z y f h size m t short =
     let second : f .commentsEnd ≤ length p = omega arith in
     let third : start ≤ length p = omega arith in
     let chain-read = rw (drop-append-le start p z third) at (h .chain-read) in
-    let blocks = chain-again mostBlocks 0 start _ (drop start p) z chain-read (simp length-drop (omega arith)) m y t in
-    let marked = blocks-begin mostBlocks 0 start _ (drop start p ++ y) blocks m in
+    let blocks-end : blocksEnd start (f .blocks) ≡ start + length (drop start p) = simp length-drop (omega arith) in
+    let blocks = chain-again mostBlocks 0 start _ (drop start p) z chain-read blocks-end m y t in
+    let free = rw (drop-append-le start p z third) at (start-free (f .commentsEnd) (p ++ z) (f .tree) (h .tree-read) (h .goes-on)) in
+    let marked = blocks-begin mostBlocks 0 start _ (drop start p) z chain-read blocks-end m free y in
     let tree-read = tree-kept (f .commentsEnd) p z y second (f .tree) (h .tree-read) third marked in
     let goes-on = goes-on-marked (f .commentsEnd) p y (f .tree) second marked in
     let no-comment = goes-on-no-comment (f .commentsEnd) (p ++ y) (f .tree) tree-read goes-on in

@@ -1,13 +1,13 @@
--- The chain of blocks and the tail behind the last of them.
+-- The chain of blocks, with unallocated space between them, and the tail after the last of them.
 use Prim.Native.Nat.{ℕ, zero, suc, _+_}
-use mathlib.Core.Bool.{Bool, true, false, _||_}
+use mathlib.Core.Bool.{Bool, true, false, not, _&&_, _||_}
 use mathlib.Core.List.{List, [], _∷_}
 use lib.ListN.{drop}
 use Rattle.format.specs.declared.block.Block.{Block}
 use Rattle.format.specs.Bytes.{Bytes, begins, allZero}
 use Rattle.format.specs.Outcome.{Outcome, accepted, refused, refusal, need, _>>=_, _>>_}
 use Rattle.format.specs.Comments.{indexLine}
-use Rattle.format.specs.Tree.{mark}
+use Rattle.format.specs.Tree.{mark, freeSpace}
 use Rattle.format.specs.Block.{block, isStreamed}
 
 abbrev pub mostBlocks : ℕ
@@ -39,20 +39,25 @@ ended t = record { blocks = []; tail = t }
 abbrev pub linked : Block → Chain → Chain
 linked b c = record { blocks = b ∷ c .blocks; tail = c .tail }
 
--- what stands at offset n, where no block begins
+-- whether a block follows in t, which stands after a block: no index begins at once, and somewhere there is a mark
+abbrev pub follows : Bytes → Bool
+follows t = not (begins indexLine t) && begins mark (drop (freeSpace t) t)
+
+-- what stands at offset n, where no block follows
 unfoldable pub tail : ℕ → Bytes → Outcome Chain
 tail n t = do
   need (isTail t) 17 n
   accepted (ended t)
 
--- the blocks from offset n on, where t stands: the first is number i, and k of them are allowed
+-- block i at offset n, where t stands, and the blocks that `others` reads from its end on; after a streamed one there are none
+unfoldable pub linkedAt : ℕ → ℕ → Bytes → (ℕ → Bytes → Outcome Chain) → Outcome Chain
+linkedAt i n t others = do
+  b ← block i n t
+  c ← elim (isStreamed (b .flags)) [ true ↦ accepted (ended []) | false ↦ others (n + extent b) (drop (extent b) t) ]
+  accepted (linked b c)
+
+-- the blocks from offset n on, where t stands, each at the first mark: the first is number i, and k of them are allowed
 unfoldable pub chain : ℕ → ℕ → ℕ → Bytes → Outcome Chain
-chain zero i n t = elim (begins mark t) [ true ↦ refused (refusal 16 n) | false ↦ tail n t ]
+chain zero i n t = elim (follows t) [ true ↦ refused (refusal 16 (n + freeSpace t)) | false ↦ tail n t ]
 chain (suc k) i n t =
-    elim (begins mark t) [
-      | true ↦ do
-        b ← block i n t
-        c ← elim (isStreamed (b .flags)) [ true ↦ accepted (ended []) | false ↦ chain k (i + 1) (n + extent b) (drop (extent b) t) ]
-        accepted (linked b c)
-      | false ↦ tail n t
-    ]
+    elim (follows t) [ true ↦ linkedAt i (n + freeSpace t) (drop (freeSpace t) t) (chain k (i + 1)) | false ↦ tail n t ]

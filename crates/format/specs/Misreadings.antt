@@ -4,9 +4,10 @@ use mathlib.Core.List.{List, [], _∷_, _++_}
 use lib.ListN.{length, replicate}
 use Rattle.format.specs.declared.block.Inner.the-variants.{Plain, Opened, Refused, TooDeep}
 use Rattle.format.specs.declared.layout.Tree.the-variants.{NoTree}
-use Rattle.format.specs.declared.layout.Verdict.the-variants.{Absent, IgnoredForm, IgnoredList}
+use Rattle.format.specs.declared.layout.Verdict.the-variants.{Absent, Good, IgnoredForm, IgnoredList}
 use Rattle.format.specs.Bytes.{Bytes, text}
 use Rattle.format.specs.Outcome.{accepted, refused, refusal}
+use Rattle.format.specs.Comments.{indexLine}
 use Rattle.format.specs.Tree.{mark}
 use Rattle.format.specs.Edited.{treeAt}
 use Rattle.format.specs.Examples.{Example, Reads, Edits, Lists, States, Records, fileA, fileB, blockHeader, emptyBlock, indexWith, layoutWith}
@@ -63,6 +64,27 @@ misreadings =
     -- 64 blocks, and the mark of one more
     ∷ Reads (fileA ++ copies 64 emptyBlock) (layoutWith NoTree 64 Absent)
     ∷ Reads (fileA ++ copies 64 emptyBlock ++ mark) (refused (refusal 16 3468))
+    -- the next block is at the first mark: zeros, a part of a mark or the end of the block before belong to no mark
+    ∷ Lists (fileB ++ (0 ∷ []) ++ emptyBlock) (text "tree none\n0 0 12 48 0 0 0 0 0 0\n0 1 67 48 0 0 0 0 0 0\nindex absent\n")
+    ∷ Lists (fileB ++ (0xD3 ∷ 0x42 ∷ 0x4C ∷ []) ++ emptyBlock) (text "tree none\n0 0 12 48 0 0 0 0 0 0\n0 1 69 48 0 0 0 0 0 0\nindex absent\n")
+    ∷ Lists (fileA ++ blockOf (0xD3 ∷ 0x42 ∷ []) ++ (0x4C ∷ 0x4B ∷ []) ++ emptyBlock)
+    (text "tree none\n0 0 12 48 2 2 0 0 0 0\n0 1 70 48 0 0 0 0 0 0\nindex absent\n")
+    -- also in a file inside a block
+    ∷ Lists (fileA ++ blockOf (fileB ++ text "x" ++ emptyBlock))
+    (text "tree none\n0 0 12 48 121 121 0 0 0 1\n1 0 78 48 0 0 0 0 0 0\n1 1 133 48 0 0 0 0 0 0\nindex absent\n")
+    -- a malformed block there is refused at its mark, and a 65th too; 17 comes only where no mark follows, at the end of the last block
+    ∷ Reads (fileB ++ text "x" ++ mark) (refused (refusal 11 67))
+    ∷ Reads (fileA ++ copies 64 emptyBlock ++ text "x" ++ mark) (refused (refusal 16 3469))
+    ∷ Reads (fileB ++ (0 ∷ []) ++ text "x") (refused (refusal 17 66))
+    -- an index is tried first, directly after the block, and ends the chain whatever follows
+    ∷ Reads (fileB ++ indexLine ++ emptyBlock) (layoutWith NoTree 1 IgnoredForm)
+    ∷ Reads (fileA ++ copies 64 emptyBlock ++ indexLine ++ mark) (layoutWith NoTree 64 IgnoredForm)
+    ∷ Reads (fileB ++ text "#ASDF BLOCK INDE" ++ emptyBlock) (layoutWith NoTree 2 Absent)
+    ∷ Reads (fileB ++ (0 ∷ []) ++ indexWith (text "12")) (refused (refusal 17 66))
+    ∷ Reads (fileB ++ (0 ∷ []) ++ indexWith (text "12") ++ emptyBlock) (layoutWith NoTree 2 Absent)
+    -- it lists where the marks are, and not where the blocks before them end
+    ∷ Reads (fileB ++ text "x" ++ emptyBlock ++ indexWith (text "12, 67")) (layoutWith NoTree 2 Good)
+    ∷ Reads (fileB ++ text "x" ++ emptyBlock ++ indexWith (text "12, 66")) (layoutWith NoTree 2 IgnoredList)
     -- an edit to an equal text turns the free space to spaces, and a text ends with its tree
     ∷ Edits (fileA ++ text "%YAML 1.1\n---\n...\nxx") (text "%YAML 1.1\n---\n...\n") (accepted (fileA ++ text "%YAML 1.1\n---\n...\n  "))
     ∷ Edits (fileA ++ text "%YAML 1.1\n---\n...\nxx") (text "%YAML 1.1\n---\n...\n ") (refused (refusal 19 0))

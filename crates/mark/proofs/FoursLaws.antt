@@ -16,10 +16,11 @@ use Rattle.bytes.specs.Bytes.{indexOf, indexAfter, slice}
 use Rattle.format.specs.Bytes.{Bytes, begins}
 use Rattle.format.specs.Tree.{mark, freeSpace}
 use Rattle.format.proofs.ByteLaws.{begins-true}
+use Rattle.format.proofs.LocalLaws.{free-space-mark}
 use Rattle.scan.proofs.TextLaws.{begins-inside}
 use Rattle.mark.specs.Mark.{Skipped}
 use Rattle.mark.specs.Fours.{FirstIn, FourthsUpTo, IsOfMark, Told, InMark, MarkAt, fourthOfMark, beginsMark}
-use Rattle.mark.proofs.MarkLaws.{space-mark, mark-none-here, skip-none}
+use Rattle.mark.proofs.MarkLaws.{mark-none-here, skip-none}
 
 -- what holds of the four places in a mark holds of each
 four-places : (p : ℕ → Type 0) → p 0 → p 1 → p 2 → p 3 → (j : ℕ) → j < 4 → p j
@@ -75,7 +76,7 @@ module _ (t : Bytes) (from i : ℕ) (before : Skipped t from i) where
 
     -- a mark begins in the next four
     pub fours-here : r < i + 4 → r ≡ from + freeSpace (drop from t)
-    fours-here h = omega (arith, together, space-mark (drop r t) (first .here h))
+    fours-here h = omega (arith, together, free-space-mark (drop r t) (first .here h))
 
     -- none does
     pub fours-on : i + 4 ≤ r → Skipped t from (i + 4)

@@ -3,21 +3,16 @@ use Prim.Native.Nat.{ℕ, suc, _+_, _-_, _^_, _≤_, _<_}
 use native.Mathlib.Numerals.{add-one}
 use native.Mathlib.Omega.{arith}
 use mathlib.Core.Path.{_≡_, refl, sym, ap, _∙_}
-use mathlib.Core.Bool.{true, false}
-use mathlib.Core.List.{[], _∷_}
+use mathlib.Core.Bool.{Bool, true, false}
+use mathlib.Core.List.{_∷_}
 use lib.ListN.{length, take, drop, getD, drop-of-length-le, length-take, length-drop}
 use lib.Seq.{drop-cons, take-all}
 use mir.Syntax.{w64}
 use mir.Val.{Fits}
 use Rattle.format.specs.Bytes.{Bytes, begins}
 use Rattle.format.specs.Tree.{mark, freeSpace}
+use Rattle.format.proofs.LocalLaws.{free-space-mark}
 use Rattle.mark.specs.Mark.{MarkFound, Skipped}
-
--- no byte stands before a mark
-pub space-mark : (t : Bytes) → begins mark t ≡ true → freeSpace t ≡ 0
-unfolding freeSpace
-space-mark [] h = cc
-space-mark (b ∷ t) h = rw (h, freeSpace)
 
 -- a byte that no mark begins with stands before the next mark
 space-step : (b : ℕ) (t : Bytes) → begins mark (b ∷ t) ≡ false → freeSpace (b ∷ t) ≡ freeSpace t + 1
@@ -44,6 +39,10 @@ found-behind s at h = record {
   behind = omega arith;
   inside = λ p. p;
 }
+
+-- a mark stands at once
+pub found-at-once : (s : Bytes) (at : ℕ) (m : Bool) → m ≡ begins mark (drop at s) → m ≡ true → MarkFound s at at
+found-at-once s at m h e = record { is = omega (arith, free-space-mark (drop at s) (sym h ∙ e)); behind = omega arith; inside = λ p. p }
 
 module _ (s : Bytes) (at x : ℕ) (p : at < length s) (l : x ≤ length (take (length s - at) (drop at s))) where
   -- an offset in the part from an offset on is one in the whole

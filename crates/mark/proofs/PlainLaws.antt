@@ -9,8 +9,9 @@ use lib.Seq.{drop-cons}
 use borrow.Author.Tests.{ne-eqb}
 use Rattle.format.specs.Bytes.{Bytes, begins}
 use Rattle.format.specs.Tree.{mark, freeSpace}
+use Rattle.format.proofs.LocalLaws.{free-space-mark}
 use Rattle.mark.specs.Mark.{Skipped}
-use Rattle.mark.proofs.MarkLaws.{space-mark, mark-none-here}
+use Rattle.mark.proofs.MarkLaws.{mark-none-here}
 
 -- a byte that is not the first of a mark begins none
 other-byte : (b : ℕ) (t : Bytes) → (b ≡ 0xD3 → ⊥) → begins mark (b ∷ t) ≡ false
@@ -49,7 +50,7 @@ module _ (t : Bytes) (from i x : ℕ) (before : from + freeSpace (drop from t) �
   module _ (m : Bool) (h : m ≡ begins mark (drop i t)) where
     -- a mark stands here
     pub mark-here : m ≡ true → i ≡ x
-    mark-here e = omega (arith, left, space-mark (drop i t) (sym h ∙ e))
+    mark-here e = omega (arith, left, free-space-mark (drop i t) (sym h ∙ e))
 
     -- none stands here
     pub mark-step : m ≡ false → i < length t → i + 1 + freeSpace (drop (i + 1) t) ≡ x

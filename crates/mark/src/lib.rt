@@ -16,11 +16,14 @@ pub fn is_mark(s: &[u8], at: usize) -> bool
     text::begins_at(s, at, b"\xD3BLK")
 }
 
-// The first mark at or after an offset, or the end.
+// The first mark at or after an offset, or the end. Blocks mostly follow one another at once, so the offset itself is tried first.
 pub fn find(s: &[u8], at: usize) -> usize
     ensures { λ r. ⌜ MarkFound (now (s .entry)) at r ⌝ }
 {
     if s.len() <= at {
+        return at;
+    }
+    if is_mark(s, at) {
         return at;
     }
     at + fours::free_space(&s[at..])

@@ -10,16 +10,17 @@ use mir.Syntax.{w64}
 use mir.Val.{Fits}
 use Rattle.format.specs.declared.block.Block.{Block}
 use Rattle.format.specs.declared.refusal.Refusal.{Refusal}
-use Rattle.format.specs.Bytes.{Bytes, begins}
+use Rattle.format.specs.Bytes.{Bytes}
 use Rattle.format.specs.Outcome.{Outcome, accepted, refused, _>>=_}
-use Rattle.format.specs.Tree.{mark}
+use Rattle.format.specs.Tree.{freeSpace}
 use Rattle.format.specs.Block.{isStreamed, block}
-use Rattle.format.specs.Chain.{Chain, mostBlocks, extent, ended, linked, isTail, tail, chain}
+use Rattle.format.specs.Chain.{Chain, mostBlocks, extent, ended, linked, isTail, follows, tail, linkedAt, chain}
 use Rattle.format.specs.Nest.{inside}
 use Rattle.format.specs.File.{File, file}
 use Rattle.format.proofs.FileLaws.{blocksStart, file-parts, in-order}
 use Rattle.format.proofs.OutcomeLaws.{Accepts, accepted-holds, accepts-bind, accepts-need, choice}
 use Rattle.format.proofs.BlockLaws.{Starts, block-starts}
+use Rattle.mark.specs.Mark.{MarkFound}
 use Rattle.file.specs.declared.block.BlockStep.{BlockStep}
 use Rattle.file.specs.declared.block.BlockStep.the-variants as BlockStep·is
 use Rattle.file.specs.Step.{blockOf}
@@ -38,8 +39,9 @@ unfolding tail blocksFrom
 tail-listed k i n t = accepts-need (Listed k i n t) (isTail t) 17 n (accepted (ended t)) λ h. record { few = omega arith; same = refl }
 
 -- a block in front of others, or of none where it is streamed
-linked-listed : (k i n : ℕ) (t : Bytes) (b : Block) (streamed : Bool) (o : Outcome Chain) → block i n t ≡ accepted b
-    → Accepts (Listed k (i + 1) (n + extent b) (drop (extent b) t)) o
+linked-listed : (k i n : ℕ) (t : Bytes) (b : Block) (streamed : Bool) (o : Outcome Chain)
+    → block i (n + freeSpace t) (drop (freeSpace t) t) ≡ accepted b
+    → Accepts (Listed k (i + 1) (n + freeSpace t + extent b) (drop (extent b) (drop (freeSpace t) t))) o
     → Accepts (Listed (suc k) i n t) (_>>=_ (elim streamed [ true ↦ accepted (ended []) | false ↦ o ]) (λ c. accepted (linked b c)))
 unfolding blocksFrom
 linked-listed k i n t b true o h hs = record { few = omega arith; same = rw (blocksFrom, h) }
@@ -49,13 +51,15 @@ linked-listed k i n t b false (refused r) h hs = tt
 
 -- the blocks of an accepted chain are listed
 pub chain-listed : (k i n : ℕ) (t : Bytes) → Accepts (Listed k i n t) (chain k i n t)
-unfolding chain
-chain-listed zero i n t = choice (Accepts (Listed zero i n t)) (begins mark t) _ _ tt (tail-listed zero i n t)
+unfolding chain linkedAt
+chain-listed zero i n t = choice (Accepts (Listed zero i n t)) (follows t) _ _ tt (tail-listed zero i n t)
 chain-listed (suc k) i n t =
-    choice (Accepts (Listed (suc k) i n t)) (begins mark t) _ _
-    (accepts-bind (Listed (suc k) i n t) (block i n t) _ λ b h.
-    linked-listed k i n t b (isStreamed (b .flags)) (chain k (i + 1) (n + extent b) (drop (extent b) t)) h
-    (chain-listed k (i + 1) (n + extent b) (drop (extent b) t)))
+    let m = n + freeSpace t in
+    let u = drop (freeSpace t) t in
+    choice (Accepts (Listed (suc k) i n t)) (follows t) _ _
+    (accepts-bind (Listed (suc k) i n t) (block i m u) _ λ b h.
+    linked-listed k i n t b (isStreamed (b .flags)) (chain k (i + 1) (m + extent b) (drop (extent b) u)) h
+    (chain-listed k (i + 1) (m + extent b) (drop (extent b) u)))
     (tail-listed (suc k) i n t)
 
 -- the blocks of the accepted file s
@@ -84,52 +88,68 @@ block-begins s i n b h e =
     let starts = accepted-holds (Starts n (drop n s)) (block i n (drop n s)) b (block-starts i n (drop n s)) e in
     record { read = e; at = starts .at; inside = omega (arith, starts .inside, length-drop n s); used = starts .used }
 
--- blocks from offset n on, of which the first is read
-pub blocks-next : (left i n : ℕ) (s : Bytes) (b : Block) → block i n (drop n s) ≡ accepted b
-    → blocksFrom (suc left) i n (drop n s) ≡ b ∷ blocksFrom left (i + 1) (n + extent b) (drop (n + extent b) s)
-unfolding blocksFrom
-blocks-next left i n s b h = rw (blocksFrom, h, drop-drop)
+-- the first mark from offset n on is at m
+module _ (i n m : ℕ) (s : Bytes) (at : m ≡ n + freeSpace (drop n s)) where
+  -- what is read there is read of the bytes from n on
+  at-mark : block i (n + freeSpace (drop n s)) (drop (freeSpace (drop n s)) (drop n s)) ≡ block i m (drop m s)
+  at-mark = rw (drop-drop (freeSpace (drop n s)) n s, ← at)
 
--- or refused
-pub blocks-refused : (left i n : ℕ) (s : Bytes) (r : Refusal) → block i n (drop n s) ≡ refused r → blocksFrom left i n (drop n s) ≡ []
-unfolding blocksFrom
-blocks-refused zero i n s r h = refl
-blocks-refused (suc left) i n s r h = rw (blocksFrom, h)
+  -- blocks from offset n on, of which the first is read
+  pub blocks-next : (left : ℕ) (b : Block) → block i m (drop m s) ≡ accepted b
+      → blocksFrom (suc left) i n (drop n s) ≡ b ∷ blocksFrom left (i + 1) (m + extent b) (drop (m + extent b) s)
+  unfolding blocksFrom
+  blocks-next left b h =
+      rw (at-mark ∙ h, blocksFrom)
+      (ap (λ (bs : List Block). b ∷ bs)
+      (ap (λ (u : Bytes). blocksFrom left (i + 1) (n + freeSpace (drop n s) + extent b) (drop (extent b) u)) (drop-drop (freeSpace (drop n s)) n s)
+      ∙ ap (λ (j : ℕ). blocksFrom left (i + 1) (j + extent b) (drop (extent b) (drop j s))) (sym at)
+      ∙ ap (blocksFrom left (i + 1) (m + extent b)) (drop-drop (extent b) m s)))
 
-module _ (s : Bytes) (i n : ℕ) (h : n ≤ length s) (x : BlockStep) (read : BlockRead i n (take (length s - n) (drop n s)) x) where
-  -- no block is read
-  pub next-none : (r : Refusal) → x ≡ BlockStep·is.Refused r → blocksFrom 1 i n (drop n s) ≡ []
-  unfolding blockOf
-  next-none r e = blocks-refused 1 i n s r (ap (block i n) (sym (part-all s n)) ∙ sym (read .is) ∙ ap blockOf e)
+  -- or refused
+  pub blocks-refused : (left : ℕ) (r : Refusal) → block i m (drop m s) ≡ refused r → blocksFrom left i n (drop n s) ≡ []
+  unfolding blocksFrom
+  blocks-refused zero r h = refl
+  blocks-refused (suc left) r h = rw (at-mark ∙ h, blocksFrom)
 
-  module _ (b : Block) (e : x ≡ BlockStep·is.Read b) where
-    begins-here : Begins s i n b
+module _ (s : Bytes) (i n m : ℕ) (h : n ≤ length s) (found : MarkFound s n m) where
+  -- the first mark, or the end, lies inside
+  pub next-mark : m ≤ length s
+  next-mark = found .inside h
+
+  module _ (x : BlockStep) (read : BlockRead i m (take (length s - m) (drop m s)) x) where
+    -- no block is read
+    pub next-none : (r : Refusal) → x ≡ BlockStep·is.Refused r → blocksFrom 1 i n (drop n s) ≡ []
     unfolding blockOf
-    begins-here = block-begins s i n b h (ap (block i n) (sym (part-all s n)) ∙ sym (read .is) ∙ ap blockOf e)
+    next-none r e = blocks-refused i n m s (found .is) 1 r (ap (block i m) (sym (part-all s m)) ∙ sym (read .is) ∙ ap blockOf e)
 
-    -- its header, its content and its allocated space end inside
-    pub next-six : length s < 2 ^ 64 → Fits w64 (n + 6)
-    next-six g = omega (arith, begins-here .inside)
+    module _ (b : Block) (e : x ≡ BlockStep·is.Read b) where
+      begins-here : Begins s i m b
+      unfolding blockOf
+      begins-here = block-begins s i m b next-mark (ap (block i m) (sym (part-all s m)) ∙ sym (read .is) ∙ ap blockOf e)
 
-    pub next-header : length s < 2 ^ 64 → Fits w64 (n + 6 + b .«header_size»)
-    next-header g = omega (arith, begins-here .inside)
+      -- its header, its content and its allocated space end inside
+      pub next-six : length s < 2 ^ 64 → Fits w64 (m + 6)
+      next-six g = omega (arith, begins-here .inside)
 
-    pub next-used : length s < 2 ^ 64 → Fits w64 (n + 6 + b .«header_size» + b .used)
-    next-used g = omega (arith, begins-here .inside, begins-here .used)
+      pub next-header : length s < 2 ^ 64 → Fits w64 (m + 6 + b .«header_size»)
+      next-header g = omega (arith, begins-here .inside)
 
-    pub next-allocated : length s < 2 ^ 64 → Fits w64 (n + 6 + b .«header_size» + b .allocated)
-    next-allocated g = omega (arith, begins-here .inside)
+      pub next-used : length s < 2 ^ 64 → Fits w64 (m + 6 + b .«header_size» + b .used)
+      next-used g = omega (arith, begins-here .inside, begins-here .used)
 
-    -- it is the next block
-    pub next-found : BlockAt s i n b (n + 6 + b .«header_size») (n + 6 + b .«header_size» + b .used) (n + 6 + b .«header_size» + b .allocated)
-    next-found =
-        let here = begins-here in
-        record {
-          read = here .read;
-          at = here .at;
-          begin = rw (here .at);
-          size = refl;
-          behind = omega arith;
-          used = omega (arith, here .used);
-          inside = omega (arith, here .inside);
-        }
+      pub next-allocated : length s < 2 ^ 64 → Fits w64 (m + 6 + b .«header_size» + b .allocated)
+      next-allocated g = omega (arith, begins-here .inside)
+
+      -- it is the next block
+      pub next-found : BlockAt s i n b (m + 6 + b .«header_size») (m + 6 + b .«header_size» + b .used) (m + 6 + b .«header_size» + b .allocated)
+      next-found =
+          let here = begins-here in
+          record {
+            read = ap (λ (j : ℕ). block i j (drop j s)) (here .at) ∙ here .read;
+            at = here .at ∙ found .is;
+            begin = rw (here .at);
+            size = refl;
+            behind = omega (arith, here .at);
+            used = omega (arith, here .used);
+            inside = omega (arith, here .inside);
+          }

@@ -13,6 +13,7 @@ use Rattle.format.specs.declared.block.Inner.the-variants.{Opened}
 use Rattle.format.specs.declared.offset.OutermostOffset.{OutermostOffset}
 use Rattle.format.specs.Bytes.{Bytes, wrapped}
 use Rattle.format.specs.Outcome.{Outcome, accepted, refused}
+use Rattle.format.specs.Tree.{freeSpace}
 use Rattle.format.specs.Block.{block}
 use Rattle.format.specs.Chain.{mostBlocks}
 use Rattle.format.specs.File.{mostBytes}
@@ -60,11 +61,11 @@ ordinals-left i left h some = omega arith
 none-left : (left i n : ℕ) (s : Bytes) → blocksFrom 1 i n (drop n s) ≡ [] → blocksFrom left i n (drop n s) ≡ []
 unfolding blocksFrom
 none-left zero i n s h = refl
-none-left (suc left) i n s h = go (block i n (drop n s)) refl
+none-left (suc left) i n s h = let m = n + freeSpace (drop n s) in go (block i m (drop m s)) refl
   where
-    go : (o : Outcome Block) → block i n (drop n s) ≡ o → blocksFrom (suc left) i n (drop n s) ≡ []
-    go (refused r) e = blocks-refused (suc left) i n s r e
-    go (accepted b) e = let clash = sym (blocks-next 0 i n s b e) ∙ h in cc
+    go : (o : Outcome Block) → block i (n + freeSpace (drop n s)) (drop (n + freeSpace (drop n s)) s) ≡ o → blocksFrom (suc left) i n (drop n s) ≡ []
+    go (refused r) e = blocks-refused i n _ s refl (suc left) r e
+    go (accepted b) e = let clash = sym (blocks-next i n _ s refl 0 b e) ∙ h in cc
 
 same-offset : (x y : OutermostOffset) → x .0 ≡ y .0 → x ≡ y
 same-offset x y h = ap (λ (m : ℕ). record { 0 = m }) h
@@ -99,7 +100,7 @@ module _ (s : Bytes) (n i : ℕ) (y : NextStep) (next-is : NextIs s i n y) (b : 
     content-inner depth = let u : to - from ≡ b .used = omega (arith, here-is .size) in rw (content-start, u, here-is .begin)
 
     -- a block and the records inside it, and then the blocks behind it
-    pub walk-on : (depth left : ℕ) (form : Form) (k : ℕ) (out : Bytes) → (left ≡ 0 → ⊥) → (here : OutermostOffset) → here .0 ≡ wrapped start n
+    pub walk-on : (depth left : ℕ) (form : Form) (k : ℕ) (out : Bytes) → (left ≡ 0 → ⊥) → (here : OutermostOffset) → here .0 ≡ wrapped start (b .at .0)
         → (mid x : ℕ) (between after : Bytes)
         → Delivered form k out (recordsWith depth here b (insideOf depth (content .0) b (take (to - from) (drop from s)))) between mid
         → Delivered form mid between (recordsOf depth start s next (i + 1) (left - 1)) after x
@@ -107,9 +108,9 @@ module _ (s : Bytes) (n i : ℕ) (y : NextStep) (next-is : NextIs s i n y) (b : 
     unfolding walk walked
     walk-on depth left form k out some here here-at mid x between after h g =
         let more : left ≡ suc (left - 1) = omega arith in
-        let first : here .0 ≡ start + b .at .0 = omega (arith, here-at, here-is .at, here-is .behind, here-is .inside) in
+        let first : here .0 ≡ start + b .at .0 = omega (arith, here-at, here-is .behind, here-is .inside) in
         let one = rw (content-inner depth, same-offset here (record { 0 = start + b .at .0 }) first) at h in
-        rw (more, blocks-next (left - 1) i n s b (here-is .read), ← here-is .behind) (delivered-append form k mid x out between after _ _ one g)
+        rw (more, blocks-next i n (b .at .0) s (here-is .at) (left - 1) b (here-is .read), ← here-is .behind) (delivered-append form k mid x out between after _ _ one g)
 
 module _ (depth start : ℕ) (s : Bytes) (n i left : ℕ) (form : Form) (k : ℕ) (out : Bytes) where
   -- no block is left

@@ -10,6 +10,7 @@ use Rattle.format.specs.declared.block.Inner.the-variants.{TooDeep, Plain, Open
 use Rattle.format.specs.declared.offset.OutermostOffset.{OutermostOffset}
 use Rattle.format.specs.Bytes.{Bytes}
 use Rattle.format.specs.Outcome.{accepted, refused}
+use Rattle.format.specs.Tree.{freeSpace}
 use Rattle.format.specs.Block.{block}
 use Rattle.format.specs.Chain.{extent, mostBlocks}
 use Rattle.format.specs.Nest.{deepest, contentAt, Inside, closed, opened, isFile, walk, recordsFrom, records}
@@ -18,11 +19,14 @@ use Rattle.nest.specs.declared.walk.NextStep.the-variants as NextStep·i
 use Rattle.nest.specs.declared.walk.ContentStep.{ContentStep}
 use Rattle.nest.specs.declared.walk.ContentStep.the-variants.{Closed, Open}
 
--- so many blocks, one after another: the first is number i and at offset n, where t stands
+-- so many blocks from offset n on, where t stands, each at the first mark: the first is number i
 unfoldable pub blocksFrom : ℕ → ℕ → ℕ → Bytes → List Block
 blocksFrom zero i n t = []
 blocksFrom (suc k) i n t =
-    elim (block i n t) [ accepted b ↦ b ∷ blocksFrom k (i + 1) (n + extent b) (drop (extent b) t) | refused r ↦ [] ]
+    elim (block i (n + freeSpace t) (drop (freeSpace t) t)) [
+      | accepted b ↦ b ∷ blocksFrom k (i + 1) (n + freeSpace t + extent b) (drop (extent b) (drop (freeSpace t) t))
+      | refused r ↦ []
+    ]
 
 -- what a content is that begins like a file, in a block at this depth, where files are read for so many levels more
 unfoldable pub readsFor : ℕ → ℕ → ℕ → Bytes → Inside
@@ -49,13 +53,13 @@ recordsOf depth start s n i left = walk (reads depth) depth start s (blocksFrom 
 unfoldable pub allRecords : Bytes → List Record
 allRecords s = elim (records s) [ accepted rs ↦ rs | refused r ↦ [] ]
 
--- the block b, which is number i, begins at offset n of the file s; its content, and where the next one begins
+-- the block b, which is number i, is the first from offset n of the file s on; its content, and where its allocated space ends
 pub record BlockAt (s : Bytes) (i n : ℕ) (b : Block) (from to next : ℕ) : Type 0 where
-  pub read : block i n (drop n s) ≡ accepted b
-  pub at : b .at .0 ≡ n
+  pub read : block i (b .at .0) (drop (b .at .0) s) ≡ accepted b
+  pub at : b .at .0 ≡ n + freeSpace (drop n s)
   pub begin : from ≡ contentAt b
   pub size : to ≡ from + b .used
-  pub behind : next ≡ n + extent b
+  pub behind : next ≡ b .at .0 + extent b
   pub used : to ≤ next
   pub inside : next ≤ length s
 

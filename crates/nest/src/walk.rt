@@ -32,7 +32,7 @@ pub(crate) enum ContentStep {
 // What is read where a block begins.
 pub(crate) enum NextStep {
     NoBlock,
-    // The block, whose content runs from one offset to another, and where the next one begins.
+    // The block, whose content runs from one offset to another, and where its allocated space ends.
     Block {
         b: Block,
         from: usize,
@@ -75,8 +75,8 @@ fn first_block(l: Layout) -> usize
     }
 }
 
-// Walks so many blocks of a file at this depth, the first with this ordinal and at this offset. The file's own first byte
-// is at `start` of the outermost file.
+// Walks so many blocks of a file at this depth, the first with this ordinal and from this offset on. The file's own first
+// byte is at `start` of the outermost file.
 fn walk_blocks(
     s: &[u8],
     depth: u8,
@@ -100,7 +100,8 @@ fn walk_blocks(
     match next_block(s, at, ordinal) {
         NextStep::NoBlock => number,
         NextStep::Block { b, from, to, next } => {
-            let here = Offset(at as u64).outermost(start);
+            let own = b.at;
+            let here = own.outermost(start);
             let content = Offset(from as u64).outermost(start);
             let n = walk_content(&s[from..to], content, depth, here, b, form, number, out);
             walk_blocks(s, depth, start, next, ordinal + 1, left - 1, form, n, out)
@@ -108,15 +109,16 @@ fn walk_blocks(
     }
 }
 
-// The block with this ordinal at an offset of the file.
+// The block with this ordinal, at the first mark from an offset of the file on.
 fn next_block(s: &[u8], at: usize, ordinal: u8) -> NextStep
     requires { ⌜ at ≤ length (now s) ⌝ }
     ensures { λ x. ⌜ NextIs (now (s .entry)) ordinal at x ⌝ }
 {
-    match block::read_block(&s[at..], ordinal, at) {
+    let here = mark::find(s, at);
+    match block::read_block(&s[here..], ordinal, here) {
         BlockStep::Refused(_) => NextStep::NoBlock,
         BlockStep::Read(b) => {
-            let from = at + 6 + b.header_size as usize;
+            let from = here + 6 + b.header_size as usize;
             NextStep::Block {
                 b,
                 from,

@@ -1,6 +1,6 @@
--- `mark::find` meets its contract: the first mark of the part from the offset on.
+-- `mark::find` meets its contract: a mark at once, or the first of the part from the offset on.
 use borrow.Author.Needs.{needs}
-use Rattle.mark.proofs.MarkLaws.{found-behind, found-fits, found-part}
+use Rattle.mark.proofs.MarkLaws.{found-behind, found-at-once, found-fits, found-part}
 use Rattle.mark.proofs.find.Statement.{statement}
 use Rattle.mark.proofs.find.Tie as tie
 
@@ -9,6 +9,8 @@ find-spec =
     tie.close
     (tie.spec
     (λ c. search (found-behind, needs))
+    (λ c κs. search needs)
+    (λ c. search (found-at-once, needs))
     (λ c. search needs)
     (λ c. search needs)
     (λ c. search needs)

@@ -1,6 +1,6 @@
 -- `file::chain::link` meets its contract: where no mark stands, the tail begins.
 use borrow.Author.Needs.{needs}
-use Rattle.file.proofs.ChainLaws.{link-index, link-zeros, link-other}
+use Rattle.file.proofs.ChainLaws.{link-follows, link-index, link-zeros, link-other}
 use Rattle.file.proofs.chain.link.Statement.{statement}
 use Rattle.file.proofs.chain.link.Tie as tie
 
@@ -8,8 +8,7 @@ pub link-spec : {M : Type 1} → statement M
 link-spec =
     tie.close
     (tie.spec
-    (λ c κs. search needs)
-    (λ c κs. (search needs, cc))
+    (λ c κs. search (link-follows, needs))
     (λ c. search needs)
     (λ c. search needs)
     (λ c κs. search needs)

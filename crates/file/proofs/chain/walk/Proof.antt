@@ -23,6 +23,7 @@ walk-spec =
     μ-loop
     (λ c. search (walk-begins, needs))
     (λ c κs. search needs)
+    (λ c κs. search needs)
     (λ c. search needs)
     (λ c. search (walk-refused, needs))
     (λ c. search needs)

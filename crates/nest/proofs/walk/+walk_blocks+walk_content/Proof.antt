@@ -67,12 +67,12 @@ pub +walk-blocks+walk-content-spec : {M : Type 1} → statement M
     (λ c. search (content-order, needs))
     (λ c. search (content-inside, needs))
     (λ c κs. search (less-inside, content-room, needs))
-    (λ c. search (ordinal-fits, needs, c .before .before .before .before .before .before .before .before .before .before .before .before .before .before .pre))
+    (λ c. search (ordinal-fits, needs, c .before .before .before .before .before .before .before .before .before .before .before .before .before .before .before .pre))
     (λ c. search needs)
-    (λ c κs. (search (less-behind, needs, c .before .before .before .before .before .before .before .before .known-told, c .before .before .before .before .before .before .before .before .before .before .before .next-block, c .before .before .before .before .before .before .before .before .before .before .before .before .if1, c .before .before .before .before .before .before .before .before .before .before .before .before .before .before .before .pre), (c .before .before .before .before .before .before .before .before .before .before .before .before .before .before .before .pre .1 .0, (c .before .before .before .before .before .before .before .before .before .before .before .before .before .before .before .pre .1 .1 .0, (search (next-inside, needs, c .before .before .before .before .before .before .before .before .known-told, c .before .before .before .before .before .before .before .before .before .before .before .next-block, c .before .before .before .before .before .before .before .before .before .before .before .before .if1, c .before .before .before .before .before .before .before .before .before .before .before .before .before .before .before .pre), search (ordinals-left, needs, c .before .before .before .before .before .before .before .before .known-told, c .before .before .before .before .before .before .before .before .before .before .before .next-block, c .before .before .before .before .before .before .before .before .before .before .before .before .if1, c .before .before .before .before .before .before .before .before .before .before .before .before .before .before .before .pre))))))
+    (λ c κs. (search (less-behind, needs, c .before .before .before .before .before .before .before .before .before .known-told, c .before .before .before .before .before .before .before .before .before .before .before .before .next-block, c .before .before .before .before .before .before .before .before .before .before .before .before .before .if1, c .before .before .before .before .before .before .before .before .before .before .before .before .before .before .before .before .pre), (c .before .before .before .before .before .before .before .before .before .before .before .before .before .before .before .before .pre .1 .0, (c .before .before .before .before .before .before .before .before .before .before .before .before .before .before .before .before .pre .1 .1 .0, (search (next-inside, needs, c .before .before .before .before .before .before .before .before .before .known-told, c .before .before .before .before .before .before .before .before .before .before .before .before .next-block, c .before .before .before .before .before .before .before .before .before .before .before .before .before .if1, c .before .before .before .before .before .before .before .before .before .before .before .before .before .before .before .before .pre), search (ordinals-left, needs, c .before .before .before .before .before .before .before .before .before .known-told, c .before .before .before .before .before .before .before .before .before .before .before .before .next-block, c .before .before .before .before .before .before .before .before .before .before .before .before .before .if1, c .before .before .before .before .before .before .before .before .before .before .before .before .before .before .before .before .pre))))))
     (λ c. search (walk-no-block, needs))
     (λ c. search (delivered-length, needs))
-    (λ c. walk-on _ _ _ (c .before .before .before .before .before .before .before .before .before .before .before .before .before .before .next-block .result) (c .before .before .before .before .before .before .before .before .before .before .before .before .before .before .next-block .ensures) _ _ _ _ (search (needs, c .before .before .before .before .before .before .before .before .before .before .before .known-told, c .before .before .before .before .before .before .before .before .before .before .before .before .b)) _ (c .before .before .before .before .before .before .before .before .before .before .before .before .before .before .before .before .before .before .pre .1 .0) _ (c .before .before .before .before .before .before .before .before .before .outermost2 .ensures) _ _ _ _ _ (c .before .before .before .before .before .before .before .before .before .before .before .before .before .before .before .if1 .left) _ (c .before .before .before .before .before .before .before .before .before .before .outermost .ensures) _ _ _ _ (c .before .before .before .before .before .before .walk-content .ensures) (c .before .before .walk-blocks .ensures)))
+    (λ c. walk-on _ _ _ (c .before .before .before .before .before .before .before .before .before .before .before .before .before .before .before .next-block .result) (c .before .before .before .before .before .before .before .before .before .before .before .before .before .before .before .next-block .ensures) _ _ _ _ (search (needs, c .before .before .before .before .before .before .before .before .before .before .before .before .known-told, c .before .before .before .before .before .before .before .before .before .before .before .before .before .b)) _ (c .before .before .before .before .before .before .before .before .before .before .before .before .before .before .before .before .before .before .before .pre .1 .0) _ (c .before .before .before .before .before .before .before .before .before .outermost2 .ensures) _ _ _ _ _ (c .before .before .before .before .before .before .before .before .before .before .before .before .before .before .before .before .if1 .left) _ (c .before .before .before .before .before .before .before .before .before .before .outermost .ensures) _ _ _ _ (c .before .before .before .before .before .before .walk-content .ensures) (c .before .before .walk-blocks .ensures)))
     λ t. walk-content-lts.spec (
       content-of-reads.Asked,
       content-of-reads.Learnt,
