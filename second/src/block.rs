@@ -1,4 +1,5 @@
-//! Blocks: the header of one, the chain of them, and the tail behind the last.
+//! Blocks: the header of one, the chain of them with the space between, and
+//! the tail after the last.
 
 use crate::index::INDEX_LINE;
 use crate::offset::InFile;
@@ -73,7 +74,7 @@ impl Block {
     }
 }
 
-/// What stands behind the last block.
+/// What stands after the last block.
 pub(crate) enum Tail {
     /// No index: nothing, zeros, or a streamed block that leaves no tail.
     NoIndex,
@@ -102,7 +103,7 @@ pub(crate) fn mark_at(file: &[u8], position: usize) -> bool {
     file[position..].starts_with(&MARK)
 }
 
-/// The first mark at or behind a position.
+/// The first mark at or after a position.
 pub(crate) fn find_mark(file: &[u8], from: usize) -> Option<usize> {
     let mut at = from;
     loop {
@@ -114,41 +115,46 @@ pub(crate) fn find_mark(file: &[u8], from: usize) -> Option<usize> {
     }
 }
 
+/// What follows a block.
+enum Follower {
+    /// Another block, whose mark stands here.
+    Block(usize),
+    /// No more blocks.
+    Tail(Tail),
+}
+
 /// Walks from the first mark to the last block and judges the tail (11 to 17).
 pub(crate) fn walk_chain(file: &[u8], first: usize) -> Result<Chain, Refusal> {
     let mut blocks = Vec::new();
-    let mut at = first;
+    let mut mark = first;
     loop {
         if blocks.len() == MOST_BLOCKS {
-            return Err(Refusal::at(TOO_MANY_BLOCKS, at));
+            return Err(Refusal::at(TOO_MANY_BLOCKS, mark));
         }
-        let block = read_block(file, at, blocks.len() as u8)?;
+        let block = read_block(file, mark, blocks.len() as u8)?;
         blocks.push(block);
-        if block.is_streamed() {
-            return Ok(Chain {
-                blocks,
-                tail: Tail::NoIndex,
-            });
-        }
-        at = block.end().position();
-        if !mark_at(file, at) {
-            return Ok(Chain {
-                blocks,
-                tail: judge_tail(file, at)?,
-            });
+        match what_follows(file, &block)? {
+            Follower::Block(next) => mark = next,
+            Follower::Tail(tail) => return Ok(Chain { blocks, tail }),
         }
     }
 }
 
-/// Judges what stands behind a last block that is not streamed (17).
-fn judge_tail(file: &[u8], start: usize) -> Result<Tail, Refusal> {
-    let tail = &file[start..];
-    if tail.starts_with(INDEX_LINE) {
-        Ok(Tail::Index(start))
-    } else if only_zeros(tail) {
-        Ok(Tail::NoIndex)
-    } else {
-        Err(Refusal::at(STRAY_TAIL, start))
+/// Looks for the next block, or judges the tail where there is none (17).
+/// Nothing follows a streamed block.
+fn what_follows(file: &[u8], block: &Block) -> Result<Follower, Refusal> {
+    if block.is_streamed() {
+        return Ok(Follower::Tail(Tail::NoIndex));
+    }
+    let end = block.end().position();
+    // An index is tried before the search, so a mark after its beginning is never a block.
+    if file[end..].starts_with(INDEX_LINE) {
+        return Ok(Follower::Tail(Tail::Index(end)));
+    }
+    match find_mark(file, end) {
+        Some(mark) => Ok(Follower::Block(mark)),
+        None if only_zeros(&file[end..]) => Ok(Follower::Tail(Tail::NoIndex)),
+        None => Err(Refusal::at(STRAY_TAIL, end)),
     }
 }
 

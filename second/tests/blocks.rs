@@ -1,4 +1,4 @@
-//! Blocks, the chain and the tail: refusals 11 to 17.
+//! Blocks, the chain and the tail: refusals 11 to 17. Space between blocks is in gaps.rs.
 
 mod common;
 
@@ -232,7 +232,7 @@ fn only_bit_0_means_streamed() {
 }
 
 #[test]
-fn next_block_begins_where_the_allocated_space_ends() {
+fn next_block_may_begin_where_the_allocated_space_ends() {
     let first = block_of(b"abcdef").used(2).data_size(2).bytes();
     let second = block_of(b"gh").header_size(60).bytes();
     let third = streamed(b"ijk").bytes();

@@ -5,11 +5,6 @@ mod common;
 use asdf_second::*;
 use common::*;
 
-/// The inner state of the only block of A and this block.
-fn inner_of(parts: BlockParts) -> Inner {
-    records(&file_with(parts)).unwrap()[0].inner
-}
-
 #[test]
 fn record_holds_everything_that_is_reported() {
     let inner_block = block_of(b"xyz").header_size(49).checksum([9; 16]).flags(8);

@@ -263,15 +263,8 @@ fn lines_mean_nothing_in_free_space() {
 
 #[test]
 fn malformed_block_at_the_first_mark_is_not_passed_over_for_a_later_one() {
-    let good = block().bytes();
-    for (malformed, number) in [
-        (block().header_size(65_535).bytes()[..54].to_vec(), 11),
-        (block().header_size(47).bytes(), 12),
-        (block().used(1).bytes(), 13),
-        (block().data_size(1).bytes(), 14),
-        (block().sizes(55).bytes(), 15),
-    ] {
-        let file = join(&[A, TREE, b"free", &malformed, &good]);
+    for (malformed, number) in malformed_blocks() {
+        let file = join(&[A, TREE, b"free", &malformed, &block().bytes()]);
         assert_eq!(refused(&file), refusal(number, 34));
     }
 }
@@ -451,16 +444,6 @@ fn tail_that_begins_as_an_index_is_never_stray_and_never_walked() {
         let layout = read(&file).unwrap();
         assert_eq!(layout.index, Verdict::IgnoredForm, "{behind:?}");
         assert_eq!(layout.blocks, read(&b()).unwrap().blocks, "{behind:?}");
-    }
-}
-
-#[test]
-fn zeros_and_then_a_block_are_a_stray_tail() {
-    let unused = file_with(block_of(b"abcd").used(1).data_size(1));
-    for zeros in [1, 4, 100] {
-        let behind = join(&[&vec![0; zeros], &block().bytes()]);
-        assert_eq!(refused(&join(&[&b(), &behind])), refusal(17, 66));
-        assert_eq!(refused(&join(&[&unused, &behind])), refusal(17, 70));
     }
 }
 

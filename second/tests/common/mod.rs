@@ -1,7 +1,7 @@
 //! Builds the parts of test files.
 #![allow(dead_code)]
 
-use asdf_second::Refusal;
+use asdf_second::{records, Inner, Refusal};
 
 /// The worked example A: 12 bytes.
 pub const A: &[u8] = b"#ASDF 1.0.0\n";
@@ -155,8 +155,25 @@ pub fn wrapped(file: &[u8], times: usize) -> Vec<u8> {
     (0..times).fold(file.to_vec(), |inner, _| file_with(block_of(&inner)))
 }
 
+/// The inner state of the only block of A and this block.
+pub fn inner_of(parts: BlockParts) -> Inner {
+    records(&file_with(parts)).unwrap()[0].inner
+}
+
 pub fn refusal(number: u8, place: u64) -> Refusal {
     Refusal { number, place }
+}
+
+/// A block for each number from 11 to 15, in that order, that stays refused with an empty
+/// block after it.
+pub fn malformed_blocks() -> Vec<(Vec<u8>, u8)> {
+    vec![
+        (block().header_size(65_535).bytes()[..54].to_vec(), 11),
+        (block().header_size(47).bytes(), 12),
+        (block().used(1).bytes(), 13),
+        (block().data_size(1).bytes(), 14),
+        (block().sizes(55).bytes(), 15),
+    ]
 }
 
 /// A file for each number from 3 to 17, in that order, with its refusal.
