@@ -8,6 +8,7 @@ mod cut;
 mod free_space;
 mod header;
 mod index;
+mod markless;
 mod replacement;
 mod shape;
 mod tail;
