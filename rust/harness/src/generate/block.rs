@@ -1,6 +1,6 @@
 //! A block that keeps the rules.
 
-use super::text::MARK;
+use super::text::{part_of_mark, MARK};
 use crate::fields::{FIELD_BYTES, HEADER_SIZE_COUNTS_FROM};
 use crate::rng::Rng;
 use crate::sparse::{block_header, HEADER_LINE};
@@ -64,12 +64,13 @@ fn header_bytes(header_size: u16) -> usize {
 /// Space behind the content, mostly none.
 fn unused_space(rng: &mut Rng) -> Vec<u8> {
     let length = rng.between(1, 30);
-    match rng.below(12) {
+    match rng.below(14) {
         0 => vec![0; length],
         1 => rng.bytes(length),
         2 => b" 1.0.0\n".to_vec(),
         3 => MARK.to_vec(),
         4 => [HEADER_LINE, &block_header(0, 0)].concat(),
+        5 => part_of_mark(rng),
         _ => Vec::new(),
     }
 }

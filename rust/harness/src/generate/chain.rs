@@ -2,17 +2,41 @@
 
 use super::block::good_block;
 use super::content::content;
+use super::gap::gap_after;
 use super::shape::{Part, Shape, MOST_BLOCKS};
 use crate::rng::Rng;
 
-/// Adds the chain of this shape and returns where its blocks begin.
-pub fn add_chain(rng: &mut Rng, shape: &Shape, file: &mut Vec<u8>) -> Vec<u64> {
+/// Where the blocks of a chain are.
+pub struct Chain {
+    /// Where each begins.
+    pub marks: Vec<u64>,
+    /// Where the mark of each is searched from: the end of the block before. The first is not searched.
+    pub searched_from: Vec<u64>,
+}
+
+impl Chain {
+    /// Whether bytes stand between two blocks.
+    pub fn has_gaps(&self) -> bool {
+        self.searched_from != self.marks
+    }
+}
+
+/// Adds the chain of this shape. One in three has gaps, before about half of its blocks.
+pub fn add_chain(rng: &mut Rng, shape: &Shape, file: &mut Vec<u8>) -> Chain {
     let nesting_block = rng.below(shape.blocks);
     let wrong_block = shape
         .is_wrong(Part::Blocks)
         .then(|| rng.below(shape.blocks));
-    let mut offsets = Vec::new();
+    let with_gaps = rng.chance(3);
+    let mut chain = Chain {
+        marks: Vec::new(),
+        searched_from: Vec::new(),
+    };
     for ordinal in 0..shape.blocks {
+        chain.searched_from.push(file.len() as u64);
+        if ordinal > 0 && with_gaps && rng.chance(2) {
+            file.extend(gap_after(rng, file));
+        }
         let at = file.len();
         let content = content(rng, shape, ordinal == nesting_block);
         let may_end = ordinal + 1 == shape.blocks || ordinal + 1 == MOST_BLOCKS;
@@ -21,7 +45,7 @@ pub fn add_chain(rng: &mut Rng, shape: &Shape, file: &mut Vec<u8>) -> Vec<u64> {
             block.make_wrong(rng, at);
         }
         file.extend(block.bytes());
-        offsets.push(at as u64);
+        chain.marks.push(at as u64);
     }
-    offsets
+    chain
 }

@@ -6,6 +6,7 @@ mod comments;
 mod content;
 mod cut;
 mod free_space;
+mod gap;
 mod header;
 mod index;
 mod markless;
@@ -29,9 +30,9 @@ pub fn file(rng: &mut Rng, shape: &Shape) -> Vec<u8> {
     let mut file = header::header(rng, shape.is_wrong(Part::Header));
     file.extend(comments::comments(rng, shape.is_wrong(Part::Comments)));
     file.extend(tree_and_free_space(rng, shape));
-    let offsets = chain::add_chain(rng, shape, &mut file);
+    let chain = chain::add_chain(rng, shape, &mut file);
     if shape.has_tail() {
-        file.extend(tail::tail(rng, &offsets, shape.is_wrong(Part::Tail)));
+        file.extend(tail::tail(rng, &chain, shape.is_wrong(Part::Tail)));
         file.resize(file.len().max(shape.least_length), 0);
     }
     if shape.is_wrong(Part::End) {
@@ -94,9 +95,10 @@ mod tests {
 
     #[test]
     fn each_wrong_part_is_refused_with_its_numbers() {
-        let cases: [(Part, usize, &[u8]); 3] = [
+        let cases: [(Part, usize, &[u8]); 4] = [
             (Part::Header, 0, &[2, 3, 4]),
             (Part::Comments, 0, &[5, 6]),
+            (Part::Tail, 5, &[0, 11, 12, 17]),
             (Part::Tail, 64, &[0, 16, 17]),
         ];
         for (part, blocks, numbers) in cases {

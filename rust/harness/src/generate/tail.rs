@@ -1,11 +1,15 @@
 //! What stands behind the last block: nothing, zeros, an index or something stray.
 
+use super::chain::Chain;
+use super::gap::{after_one_byte, gap};
 use super::index::{good_index, index_of_other_list, index_of_wrong_form};
+use super::markless::markless;
 use super::shape::MOST_BLOCKS;
 use super::text::{INDEX_LINE, MARK};
 use crate::rng::Rng;
+use crate::sparse::block_header;
 
-/// Tails that are refused (17).
+/// Tails that are refused (17): no mark stands in them.
 const STRAY: &[&[u8]] = &[
     b"x",
     b"\n",
@@ -30,40 +34,76 @@ const STRAY: &[&[u8]] = &[
     b"\xD3BL",
     b"\xD3BLL",
     b"\xD2BLK",
-    b"\0\xD3BLK",
-    b" \xD3BLK",
 ];
 
-/// A tail behind blocks at these offsets; the file is refused for a wrong one.
-pub fn tail(rng: &mut Rng, offsets: &[u64], wrong: bool) -> Vec<u8> {
+/// A tail behind the blocks of a chain; the file is refused for a wrong one.
+pub fn tail(rng: &mut Rng, chain: &Chain, wrong: bool) -> Vec<u8> {
     if wrong {
-        return wrong_tail(rng, offsets);
+        return wrong_tail(rng, &chain.marks);
     }
-    match rng.below(8) {
+    match rng.below(9) {
         0 | 1 => Vec::new(),
         2 => vec![0; rng.between(1, 40)],
-        3 | 4 => good_index(rng, offsets),
-        5 => index_of_other_list(rng, offsets),
-        _ => index_of_wrong_form(rng, offsets),
+        3 | 4 => good_index(rng, &chain.marks),
+        5 => other_list(rng, chain),
+        6 => index_before_block(rng, &chain.marks),
+        _ => index_of_wrong_form(rng, &chain.marks),
     }
 }
 
+/// An index of the right form with another list: of a chain with gaps often where the blocks before end.
+fn other_list(rng: &mut Rng, chain: &Chain) -> Vec<u8> {
+    if chain.has_gaps() && rng.chance(2) {
+        good_index(rng, &chain.searched_from)
+    } else {
+        index_of_other_list(rng, &chain.marks)
+    }
+}
+
+/// The first line of an index or a whole one, and a block after it, at which nothing looks.
+fn index_before_block(rng: &mut Rng, marks: &[u64]) -> Vec<u8> {
+    let mut tail = if rng.chance(2) {
+        INDEX_LINE.to_vec()
+    } else {
+        good_index(rng, marks)
+    };
+    if rng.chance(2) {
+        tail.extend(markless(rng));
+    }
+    tail.extend(if rng.chance(2) {
+        block_header(0, 0)
+    } else {
+        begun_block(rng)
+    });
+    tail
+}
+
 /// A tail for which the file is refused: stray bytes, or one block too many or one cut short.
-fn wrong_tail(rng: &mut Rng, offsets: &[u64]) -> Vec<u8> {
-    if offsets.len() == MOST_BLOCKS && rng.chance(2) {
-        return begun_block(rng);
+fn wrong_tail(rng: &mut Rng, marks: &[u64]) -> Vec<u8> {
+    if marks.len() == MOST_BLOCKS && rng.chance(2) {
+        return next_begun_block(rng);
     }
     match rng.below(8) {
-        0 => begun_block(rng),
-        1 => [&b"\0\0\0"[..], &good_index(rng, offsets)].concat(),
-        2 => [&b"\n"[..], &good_index(rng, offsets)].concat(),
+        0 => next_begun_block(rng),
+        1 => {
+            let index = good_index(rng, marks);
+            after_one_byte(rng, &index)
+        }
+        2 => [&b"\0\0\0"[..], &good_index(rng, marks)].concat(),
         3 => INDEX_LINE[..rng.pick(&[1, 6, 15, 16, 16, 16])].to_vec(),
+        4 => [&gap(rng)[..], b"x"].concat(),
         _ => rng.pick(STRAY).to_vec(),
     }
 }
 
-/// The first bytes of a block, often not more than its mark or its H (16 behind 64 blocks, else
-/// mostly 11 or 12).
+/// The beginning of one more block, every other after a gap (16 after 64 blocks, else mostly 11 or 12).
+fn next_begun_block(rng: &mut Rng) -> Vec<u8> {
+    let mut tail = if rng.chance(2) { gap(rng) } else { Vec::new() };
+    tail.extend(begun_block(rng));
+    tail
+}
+
+/// The first bytes of a block, often not more than its mark or its H.
 fn begun_block(rng: &mut Rng) -> Vec<u8> {
     let header_size: u16 = rng.pick(&[0, 47, 48, u16::MAX]);
     let mut block = [MARK, &header_size.to_be_bytes(), &rng.bytes(20)].concat();
