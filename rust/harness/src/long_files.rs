@@ -23,6 +23,8 @@ const OPENED: u64 = 1;
 const FIRST: usize = HEADER_LINE.len();
 /// A place near the end of the longest file.
 const LAST: usize = 4_294_967_000;
+/// The bytes of a gap before it.
+const GAP: usize = 100;
 /// The index of a file with these two blocks.
 const INDEX: &[u8] = b"#ASDF BLOCK INDEX\n%YAML 1.1\n--- [12, 4294967000]\n...\n";
 
@@ -94,6 +96,7 @@ pub fn long_files() -> io::Result<Vec<LongFile>> {
         one_block()?,
         streamed_block()?,
         two_blocks_and_index()?,
+        gap_and_index()?,
         file_inside()?,
     ])
 }
@@ -131,6 +134,15 @@ fn two_blocks_and_index() -> io::Result<LongFile> {
         Block::new(1, LAST, LONGEST - INDEX.len()),
     ];
     longest_file("longest file with an index", &blocks, INDEX)
+}
+
+/// The same with zeros between the two blocks.
+fn gap_and_index() -> io::Result<LongFile> {
+    let blocks = [
+        Block::new(0, FIRST, LAST - GAP),
+        Block::new(1, LAST, LONGEST - INDEX.len()),
+    ];
+    longest_file("longest file with a gap and an index", &blocks, INDEX)
 }
 
 /// The longest file with a file inside that has a block near its end.

@@ -10,8 +10,16 @@ pub const LEVELS: usize = 8;
 
 /// A file with these contents, each in a block of its own.
 pub fn file_of<'a>(contents: impl IntoIterator<Item = &'a [u8]>) -> Vec<u8> {
+    file_with_gaps(contents, b"")
+}
+
+/// The same with these bytes before each block but the first.
+pub fn file_with_gaps<'a>(contents: impl IntoIterator<Item = &'a [u8]>, gap: &[u8]) -> Vec<u8> {
     let mut file = HEADER_LINE.to_vec();
-    for content in contents {
+    for (ordinal, content) in contents.into_iter().enumerate() {
+        if ordinal > 0 {
+            file.extend(gap);
+        }
         file.extend(block_header(0, content.len() as u64));
         file.extend(content);
     }
@@ -29,8 +37,13 @@ pub fn path(levels: usize, blocks: usize, ordinal: usize, innermost: &[u8]) -> V
 /// So many files in one another; each of so many blocks holds the next file, or the innermost
 /// content.
 pub fn tree(levels: usize, blocks: usize, innermost: &[u8]) -> Vec<u8> {
+    tree_with_gaps(levels, blocks, innermost, b"")
+}
+
+/// The same with these bytes before each block but the first of its file.
+fn tree_with_gaps(levels: usize, blocks: usize, innermost: &[u8], gap: &[u8]) -> Vec<u8> {
     (0..levels).fold(innermost.to_vec(), |inner, _| {
-        file_of((0..blocks).map(|_| &inner[..]))
+        file_with_gaps((0..blocks).map(|_| &inner[..]), gap)
     })
 }
 
@@ -48,6 +61,15 @@ pub const MANY_ROWS: usize = 41 + 41 * 41 + 41 * 41 * 41;
 /// A file with that many rows.
 pub fn many_rows() -> Vec<u8> {
     tree(3, 41, b"")
+}
+
+/// 40 bytes in which every third could begin a mark, and none does.
+const PARTS_OF_MARKS: &[u8] =
+    b"\xD3BL\xD3BL\xD3BL\xD3BL\xD3BL\xD3BL\xD3BL\xD3BL\xD3BL\xD3BL\xD3BL\xD3BL\xD3BL\xD3";
+
+/// As many blocks as there may be in each of as many files, with parts of marks before every block but the first.
+pub fn many_gaps() -> Vec<u8> {
+    tree_with_gaps(2, MOST_BLOCKS, b"", PARTS_OF_MARKS)
 }
 
 #[cfg(test)]
@@ -71,5 +93,17 @@ mod tests {
     fn many_rows_are_more_than_two_bytes_count() {
         assert_eq!(row_count(&many_rows()), Ok(MANY_ROWS));
         assert!(MANY_ROWS > usize::from(u16::MAX));
+    }
+
+    #[test]
+    fn every_block_after_a_gap_has_its_row() {
+        let file = many_gaps();
+        assert_eq!(
+            row_count(&file),
+            Ok(MOST_BLOCKS + MOST_BLOCKS * MOST_BLOCKS)
+        );
+        let gaps = (MOST_BLOCKS + 1) * (MOST_BLOCKS - 1);
+        let without_gaps = tree(2, MOST_BLOCKS, b"");
+        assert_eq!(file.len() - without_gaps.len(), 40 * gaps);
     }
 }

@@ -115,7 +115,8 @@ fn check_files(seed: u64, count: u64) -> io::Result<Outcome> {
         let checked = outcome.check_long_file(&long);
         outcome.tell(long.name, checked);
     }
-    for nest in nests::deepest().into_iter().chain([nests::many_rows()]) {
+    let many = [nests::many_rows(), nests::many_gaps()];
+    for nest in nests::deepest().into_iter().chain(many) {
         let compared = outcome.compare_file(&nest);
         outcome.tell("file made for its many rows", compared.map(|_| ()));
     }

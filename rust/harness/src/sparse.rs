@@ -2,7 +2,7 @@
 
 use crate::exports::SparseFile;
 use crate::fields::FIELD_BYTES;
-pub use crate::generate::MARK;
+pub use crate::generate::{INDEX_LINE, LEAST_TREE, MARK};
 use std::io;
 
 /// A header line.
