@@ -84,13 +84,18 @@ impl Answers {
     /// Where the last block ends, if it is not streamed.
     pub fn chain_end(&self) -> Option<usize> {
         let last = self.blocks().last()?;
-        (!last.is_streamed()).then(|| content_start(last) + last.allocated as usize)
+        (!last.is_streamed()).then(|| block_end(last))
     }
 }
 
 /// Where a block's content begins in its own file.
 pub fn content_start(block: &Block) -> usize {
     block.offset.0 as usize + HEADER_SIZE_COUNTS_FROM + usize::from(block.header_size)
+}
+
+/// Where a block's allocated space ends in its own file.
+pub fn block_end(block: &Block) -> usize {
+    content_start(block) + block.allocated as usize
 }
 
 /// What a writer of the second program writes into a buffer of so many bytes.

@@ -2,9 +2,10 @@
 
 use crate::answers::{EDIT_WITHOUT_TREE, TEXT_LONGER_THAN_ROOM, TEXT_NOT_ONE_TREE};
 use crate::edit_answers::{is_one_tree, EditAnswers};
+use crate::gaps::gaps;
 use crate::generate::{behind_first_line, places_of, MARK, YAML_LINE};
 use crate::goals::{Goal, VERDICTS};
-use asdf_second::{Block, Inner, Record};
+use asdf_second::{Block, Inner, Record, Verdict};
 
 /// A goal of edits.
 type EditGoal = Goal<EditAnswers>;
@@ -82,6 +83,12 @@ impl<'a> Seen<'a> {
     /// Whether the room reaches to the end of the file.
     fn is_last(&self) -> bool {
         self.answers.file.blocks().is_empty()
+    }
+
+    /// Whether bytes stand between two blocks of a file at such a depth.
+    fn has_gap(&self, wanted: impl Fn(u8) -> bool) -> bool {
+        let gaps = gaps(self.bytes, &self.answers.file);
+        gaps.iter().any(|gap| wanted(gap.after.depth))
     }
 
     /// Whether a block of the file or of one inside is such.
@@ -257,6 +264,15 @@ fn files() -> Vec<EditGoal> {
         }),
         edited("edited, streamed block", |seen| {
             seen.answers.file.blocks().iter().any(Block::is_streamed)
+        }),
+        edited("edited, gap between blocks", |seen| {
+            seen.has_gap(|depth| depth == 0)
+        }),
+        edited("edited, gap in a file inside", |seen| {
+            seen.has_gap(|depth| depth > 0)
+        }),
+        edited("edited, good index after gaps", |seen| {
+            seen.has_gap(|depth| depth == 0) && seen.answers.file.verdict() == Some(Verdict::Good)
         }),
         edited("edited, opened file inside", |seen| {
             seen.has_record(|record| record.inner == Inner::Opened)

@@ -1,6 +1,7 @@
 //! What a run has to reach.
 
 use crate::answers::Answers;
+use crate::gap_goals::gap_goals;
 use crate::generate::{places_of, MARK};
 use crate::limits::limits;
 use crate::nest_goals::nest_goals;
@@ -103,10 +104,17 @@ impl Goal {
 
 /// All goals.
 pub fn goals() -> Vec<Goal> {
-    [refusals(), verdicts(), parts(), limits(), nest_goals()]
-        .into_iter()
-        .flatten()
-        .collect()
+    [
+        refusals(),
+        verdicts(),
+        parts(),
+        limits(),
+        gap_goals(),
+        nest_goals(),
+    ]
+    .into_iter()
+    .flatten()
+    .collect()
 }
 
 /// Each number that refuses a file.

@@ -16,6 +16,8 @@ mod edit_answers;
 mod edit_goals;
 pub mod exports;
 mod fields;
+mod gap_goals;
+mod gaps;
 mod generate;
 mod goals;
 mod limits;

@@ -6,7 +6,7 @@ use crate::goals::Goal;
 use asdf_second::{records, Inner, InnerKind, Record};
 
 /// The greatest depth at which a file is read.
-const DEEPEST: u8 = 7;
+pub const DEEPEST: u8 = 7;
 
 /// The inner states with their names.
 const INNER_STATES: [(InnerKind, &str); 4] = [
@@ -72,11 +72,16 @@ fn inner_places(answers: &Answers, least_depth: u8, number: u8) -> Vec<usize> {
     let records = answers.records().iter();
     records
         .filter(|record| record.depth >= least_depth)
-        .filter_map(|record| match record.inner {
-            Inner::Refused(refusal) if refusal.number == number => Some(refusal.place as usize),
-            _ => None,
-        })
+        .filter_map(|record| refused_inside(record, number))
         .collect()
+}
+
+/// Where the file in a block is refused with this number, counted from its own first byte.
+pub fn refused_inside(record: &Record, number: u8) -> Option<usize> {
+    match record.inner {
+        Inner::Refused(refusal) if refusal.number == number => Some(refusal.place as usize),
+        _ => None,
+    }
 }
 
 /// Ways in which the walk goes on behind an inner file.
@@ -127,7 +132,7 @@ fn opened_at(answers: &Answers, depth: u8) -> usize {
 }
 
 /// Whether a block holds an opened file.
-fn is_opened(record: &Record) -> bool {
+pub fn is_opened(record: &Record) -> bool {
     record.inner == Inner::Opened
 }
 
@@ -191,8 +196,7 @@ fn contents() -> Vec<Goal> {
             record.block.used == 5 && content_with_unused(file, record).starts_with(FILE_BEGIN)
         }),
         Goal::of_record_in("file in unused space", |file, record| {
-            let used = record.block.used as usize;
-            content_with_unused(file, record)[used..].starts_with(FILE_BEGIN)
+            unused(file, record).starts_with(FILE_BEGIN)
         }),
         Goal::of_record_in("inner file with unused space behind it", |_, record| {
             is_opened(record) && record.block.used < record.block.allocated
@@ -218,8 +222,7 @@ fn unread_files() -> Vec<Goal> {
 /// A goal that the content of a block that is too deep reaches.
 fn too_deep(name: &str, reached: fn(&[u8]) -> bool) -> Goal {
     Goal::of_record_in(name, move |file, record| {
-        let content = &content_with_unused(file, record)[..record.block.used as usize];
-        record.inner == Inner::TooDeep && reached(content)
+        record.inner == Inner::TooDeep && reached(content(file, record))
     })
 }
 
@@ -233,7 +236,17 @@ fn holds_file_at(file: &[u8], levels: u8) -> bool {
 
 /// Whether an inner file is refused for its version line.
 fn is_refused_at_once(record: &Record) -> bool {
-    matches!(record.inner, Inner::Refused(refusal) if refusal.number == 3)
+    refused_inside(record, 3).is_some()
+}
+
+/// A block's content, in the outermost file.
+pub fn content<'a>(file: &'a [u8], record: &Record) -> &'a [u8] {
+    &content_with_unused(file, record)[..record.block.used as usize]
+}
+
+/// The unused space behind a block's content.
+pub fn unused<'a>(file: &'a [u8], record: &Record) -> &'a [u8] {
+    &content_with_unused(file, record)[record.block.used as usize..]
 }
 
 /// A block's content with the unused space behind it, in the outermost file.
