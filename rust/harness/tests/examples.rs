@@ -1,38 +1,16 @@
 //! The worked examples of outlines, indexes and edits, as run: exact bytes.
 
+mod common;
+
 use asdf_harness::exports;
 use asdf_harness::nests::file_of;
-use asdf_harness::sparse::{block_header, HEADER_LINE};
-
-/// What every lent buffer holds before a call.
-const UNTOUCHED: u8 = 0xA5;
-/// The bytes of every lent buffer.
-const LENT: usize = 100;
-
-/// The file with one empty block: 66 bytes.
-fn one_block() -> Vec<u8> {
-    file_of([&b""[..]])
-}
-
-/// A lent buffer that begins with these bytes.
-fn beginning(bytes: &[u8]) -> [u8; LENT] {
-    let mut buffer = [UNTOUCHED; LENT];
-    buffer[..bytes.len()].copy_from_slice(bytes);
-    buffer
-}
-
-/// Asks a writer, which has to write these bytes and nothing else.
-fn assert_writes(ask: impl FnOnce(&mut [u8]) -> u64, expected: &[u8]) {
-    let mut buffer = [UNTOUCHED; LENT];
-    assert_eq!(ask(&mut buffer), expected.len() as u64);
-    assert_eq!(buffer, beginning(expected));
-}
+use asdf_harness::sparse::{block_header, HEADER_LINE, LEAST_TREE};
+use common::{assert_writes, numbers, one_block};
 
 /// The verdict of a file, the last of the numbers of its layout.
-fn verdict(file: &[u8]) -> u8 {
-    let mut layout = [0; 88];
-    assert_eq!(exports::read(file, &mut layout), 88);
-    layout[87]
+fn verdict(file: &[u8]) -> u64 {
+    let [.., verdict] = numbers::<11>(|out| exports::read(file, out));
+    verdict
 }
 
 /// A header line, this in the room of a tree, and an empty block.
@@ -107,9 +85,7 @@ fn p13_edit_with_one_byte_too_many_is_refused_with_20() {
     assert_eq!(file, one_tree());
 }
 
-/// The smallest tree: it stands from 12 to 30.
-const LEAST_TREE: &[u8] = b"%YAML 1.1\n---\n...\n";
-/// Where it ends.
+/// Where the smallest tree ends; it begins at 12.
 const TREE_END: usize = 30;
 
 /// Where the room of the smallest tree ends, with this behind it up to the end of the file. By the layout, if the file is

@@ -1,0 +1,37 @@
+//! What the tests of the exported functions share.
+
+use asdf_harness::nests::file_of;
+
+/// What every lent buffer holds before a call.
+const UNTOUCHED: u8 = 0xA5;
+/// The bytes of every lent buffer.
+const LENT: usize = 100;
+/// The bytes of a number.
+const NUMBER: usize = 8;
+
+/// The file with one empty block: 66 bytes.
+pub fn one_block() -> Vec<u8> {
+    file_of([&b""[..]])
+}
+
+/// A lent buffer that begins with these bytes.
+fn beginning(bytes: &[u8]) -> [u8; LENT] {
+    let mut buffer = [UNTOUCHED; LENT];
+    buffer[..bytes.len()].copy_from_slice(bytes);
+    buffer
+}
+
+/// Asks a writer, which has to write these bytes and nothing else.
+pub fn assert_writes(ask: impl FnOnce(&mut [u8]) -> u64, expected: &[u8]) {
+    let mut buffer = [UNTOUCHED; LENT];
+    assert_eq!(ask(&mut buffer), expected.len() as u64);
+    assert_eq!(buffer, beginning(expected));
+}
+
+/// Asks a writer, which has to write so many numbers.
+pub fn numbers<const N: usize>(ask: impl FnOnce(&mut [u8]) -> u64) -> [u64; N] {
+    let mut bytes = vec![UNTOUCHED; N * NUMBER];
+    assert_eq!(ask(&mut bytes), bytes.len() as u64);
+    let mut numbers = bytes.chunks(NUMBER);
+    [(); N].map(|()| u64::from_be_bytes(numbers.next().unwrap().try_into().unwrap()))
+}

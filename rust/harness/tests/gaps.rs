@@ -1,0 +1,295 @@
+//! Space between blocks, as run: what is found after a gap, on both sides of every rule.
+//!
+//! Most files begin with the one of 66 bytes that has an empty block at 12.
+
+mod common;
+
+use asdf_harness::exports;
+use asdf_harness::nests::{file_of, file_with_gaps};
+use asdf_harness::sparse::{block_header, HEADER_LINE, INDEX_LINE, LEAST_TREE, MARK};
+use common::{assert_writes, numbers, one_block};
+
+/// The index of a block at 12: 41 bytes.
+const INDEX_OF_12: &[u8] = b"#ASDF BLOCK INDEX\n%YAML 1.1\n--- [12]\n...\n";
+/// A file in which the library of the ASDF project left a gap.
+const UPDATED_GAP: &[u8] = include_bytes!("../../../tests/data/updated-gap.asdf");
+
+/// The verdicts on an index.
+const ABSENT: u64 = 0;
+const GOOD: u64 = 1;
+const IGNORED_FORM: u64 = 2;
+const IGNORED_LIST: u64 = 3;
+
+const STREAMED: u32 = 1;
+
+/// A function that writes what it finds in a file.
+type Writer = fn(&[u8], &mut [u8]) -> u64;
+
+/// The empty block: 54 bytes.
+fn empty_block() -> Vec<u8> {
+    block_header(0, 0)
+}
+
+/// The empty block with another value for one of its bytes.
+fn block_with(place: usize, byte: u8) -> Vec<u8> {
+    let mut block = empty_block();
+    block[place] = byte;
+    block
+}
+
+/// The file with one block, and these parts after it.
+fn after_one_block(parts: &[&[u8]]) -> Vec<u8> {
+    [&one_block()[..], &parts.concat()].concat()
+}
+
+/// The file with as many empty blocks as there may be, and this after them, at 3468.
+fn after_64_blocks(tail: &[u8]) -> Vec<u8> {
+    [&file_of([&b""[..]; 64]), tail].concat()
+}
+
+/// Asks for the block of an ordinal, which has to be there; its offset, flags, allocated size and used size.
+fn block(file: &[u8], ordinal: u64) -> [u64; 4] {
+    let [number, offset, _, flags, _, allocated, used, ..] =
+        numbers::<10>(|out| exports::block(file, ordinal, out));
+    assert_eq!(number, ordinal);
+    [offset, flags, allocated, used]
+}
+
+/// A file that is accepted with blocks at these offsets, none of them with a file inside, and this verdict.
+fn assert_blocks(file: &[u8], offsets: &[u64], verdict: u64) {
+    let layout = numbers::<11>(|out| exports::read(file, out));
+    let count = offsets.len() as u64;
+    assert_eq!(layout[9..], [count, verdict]);
+    assert_eq!(exports::count(file), count);
+    for (ordinal, offset) in (0..).zip(offsets) {
+        assert_eq!(block(file, ordinal)[0], *offset);
+        assert_eq!(record(file, ordinal), [0, *offset, 0, 0, 0]);
+    }
+    assert_eq!(exports::block(file, count, &mut []), 0);
+}
+
+/// Asks for a record; its depth, its offset in the outermost file, its inner state and the number and place of a refusal.
+fn record(file: &[u8], number: u64) -> [u64; 5] {
+    let [depth, offset, inner, refusal, place, ..] =
+        numbers::<15>(|out| exports::record(file, number, out));
+    [depth, offset, inner, refusal, place]
+}
+
+/// A file with these records, and no more.
+fn assert_records(file: &[u8], expected: &[[u64; 5]]) {
+    assert_eq!(exports::count(file), expected.len() as u64);
+    for (number, expected) in (0..).zip(expected) {
+        assert_eq!(record(file, number), *expected);
+    }
+}
+
+/// A file that every function refuses with this number at this place.
+fn assert_refused(file: &[u8], number: u64, place: u64) {
+    let refused = (number << 56) + place;
+    let writers: [Writer; 4] = [
+        exports::read,
+        exports::outline,
+        exports::records,
+        exports::index,
+    ];
+    for writer in writers {
+        assert_eq!(writer(file, &mut []), refused);
+    }
+    assert_eq!(exports::count(file), refused);
+    assert_eq!(exports::block(file, 0, &mut []), refused);
+    assert_eq!(exports::record(file, 0, &mut []), refused);
+    assert_eq!(exports::edit(&mut file.to_vec(), LEAST_TREE), refused);
+}
+
+#[test]
+fn next_block_is_at_the_first_mark() {
+    let index_after_zero = [b"\0", INDEX_OF_12].concat();
+    let index_line_after_space = [b" ", INDEX_LINE].concat();
+    let cases: [(&[u8], u64); 11] = [
+        (b"", 66),
+        (b"\0", 67),
+        (b"x", 67),
+        (b"  ", 68),
+        (b"\xD3", 67),
+        (b"\xD3B", 68),
+        (b"\xD3BL", 69),
+        (b"BLK", 69),
+        (&INDEX_LINE[..16], 82),
+        (&index_line_after_space, 84),
+        (&index_after_zero, 108),
+    ];
+    for (gap, second) in cases {
+        let file = after_one_block(&[gap, &empty_block()]);
+        assert_blocks(&file, &[12, second], ABSENT);
+    }
+}
+
+#[test]
+fn gap_may_have_any_length() {
+    for length in 0..=200 {
+        let file = after_one_block(&[&vec![b' '; length], &empty_block()]);
+        assert_blocks(&file, &[12, 66 + length as u64], ABSENT);
+    }
+}
+
+#[test]
+fn every_block_may_follow_a_gap() {
+    let file = file_with_gaps([&b"a"[..], b"", b"bc", b""], b"\0\xD3BL");
+    assert_blocks(&file, &[12, 71, 129, 189], ABSENT);
+}
+
+#[test]
+fn cut_block_after_a_gap_is_refused_with_11() {
+    for length in [4, 5, 6, 53] {
+        let block = &empty_block()[..length];
+        assert_refused(&after_one_block(&[block]), 11, 66);
+        assert_refused(&after_one_block(&[b"\0", block]), 11, 67);
+    }
+}
+
+#[test]
+fn wrong_block_after_a_gap_is_refused_at_its_mark() {
+    let (low_h, used, data_size, allocated) = (5, 29, 37, 21);
+    let cases = [
+        (block_with(low_h, 47), 12),
+        (block_with(used, 1), 13),
+        (block_with(data_size, 1), 14),
+        (block_with(allocated, 5), 15),
+    ];
+    for (block, number) in cases {
+        assert_refused(&after_one_block(&[&block]), number, 66);
+        assert_refused(&after_one_block(&[b"\0", &block]), number, 67);
+        assert_refused(&after_one_block(&[b"x\xD3BL", &block]), number, 70);
+    }
+}
+
+#[test]
+fn tail_without_a_mark_is_empty_or_zeros_or_refused_at_the_end_of_the_last_block() {
+    for zeros in [0, 1, 100] {
+        assert_blocks(&after_one_block(&[&vec![0; zeros]]), &[12], ABSENT);
+    }
+    let index_after_zero = [b"\0", INDEX_OF_12].concat();
+    let stray: [&[u8]; 6] = [
+        b"x",
+        b"\0\0x",
+        b"\xD3BL",
+        b"\0\xD3BL",
+        &INDEX_LINE[..16],
+        &index_after_zero,
+    ];
+    for tail in stray {
+        assert_refused(&after_one_block(&[tail]), 17, 66);
+    }
+    let after_gap = after_one_block(&[b"gap", &empty_block(), b"\0x"]);
+    assert_refused(&after_gap, 17, 123);
+}
+
+#[test]
+fn index_ends_the_chain_whatever_follows() {
+    for index in [INDEX_LINE, INDEX_OF_12] {
+        for after in [MARK, &empty_block(), &block_with(5, 47)] {
+            let file = after_one_block(&[index, after]);
+            assert_blocks(&file, &[12], IGNORED_FORM);
+        }
+    }
+}
+
+#[test]
+fn index_lists_the_marks_and_not_the_ends() {
+    let file = after_one_block(&[b"  ", &empty_block()]);
+    let index = b"#ASDF BLOCK INDEX\n%YAML 1.1\n--- [12, 68]\n...\n";
+    assert_writes(|out| exports::index(&file, out), index);
+    assert_blocks(&[&file[..], index].concat(), &[12, 68], GOOD);
+    let of_ends = b"#ASDF BLOCK INDEX\n%YAML 1.1\n--- [12, 66]\n...\n";
+    assert_blocks(&[&file[..], of_ends].concat(), &[12, 68], IGNORED_LIST);
+}
+
+#[test]
+fn mark_after_64_blocks_is_refused_where_it_stands() {
+    assert_refused(&after_64_blocks(MARK), 16, 3468);
+    assert_refused(&after_64_blocks(b"\0\xD3BLK"), 16, 3469);
+    let after_index = [b"\0", INDEX_LINE, MARK].concat();
+    assert_refused(&after_64_blocks(&after_index), 16, 3486);
+}
+
+#[test]
+fn tail_of_64_blocks_without_a_mark_is_judged_as_any_other() {
+    let offsets: Vec<u64> = (0..64).map(|ordinal| 12 + 54 * ordinal).collect();
+    for tail in [&b""[..], b"\0"] {
+        assert_blocks(&after_64_blocks(tail), &offsets, ABSENT);
+    }
+    let index_and_mark = [INDEX_LINE, MARK].concat();
+    assert_blocks(&after_64_blocks(&index_and_mark), &offsets, IGNORED_FORM);
+    assert_refused(&after_64_blocks(b"x"), 17, 3468);
+}
+
+#[test]
+fn mark_that_begins_in_a_block_is_none() {
+    let content_then_gap = [&file_of([&b"ab\xD3B"[..]]), &b"LK"[..]].concat();
+    let file = [content_then_gap, empty_block()].concat();
+    assert_blocks(&file, &[12, 72], ABSENT);
+}
+
+#[test]
+fn mark_inside_a_block_is_none() {
+    let in_content = file_of([MARK]);
+    let in_unused_space = [HEADER_LINE, &block_with(21, 4), MARK].concat();
+    for file in [in_content, in_unused_space] {
+        assert_blocks(&file, &[12], ABSENT);
+        let followed = [&file[..], b"\0", &empty_block()].concat();
+        assert_blocks(&followed, &[12, 71], ABSENT);
+    }
+}
+
+#[test]
+fn streamed_block_after_a_gap_takes_the_rest() {
+    let file = after_one_block(&[b"xyz", &block_header(STREAMED, 0), b"hello"]);
+    assert_blocks(&file, &[12, 69], ABSENT);
+    assert_eq!(block(&file, 1), [69, STREAMED.into(), 5, 5]);
+    let with_mark = after_one_block(&[b"xyz", &block_header(STREAMED, 0), MARK]);
+    assert_blocks(&with_mark, &[12, 69], ABSENT);
+}
+
+#[test]
+fn nothing_changes_before_the_first_block() {
+    let padded = [HEADER_LINE, b" ", &empty_block()].concat();
+    assert_refused(&padded, 7, 12);
+    let index_in_free_space = [HEADER_LINE, LEAST_TREE, INDEX_LINE, &empty_block()].concat();
+    assert_blocks(&index_in_free_space, &[47], ABSENT);
+}
+
+#[test]
+fn file_inside_may_have_gaps() {
+    let inner = file_with_gaps([&b""[..]; 2], b"\0\0");
+    let file = file_of([&inner[..]]);
+    let expected = [[0, 12, 1, 0, 0], [1, 78, 0, 0, 0], [1, 134, 0, 0, 0]];
+    assert_records(&file, &expected);
+    let rows = [
+        [1, 0, 0, 48, 0, 0, 0, 12, 0, 0, 0, 122, 0, 0, 0, 122],
+        [0x20, 0, 0, 48, 0, 0, 0, 78, 0, 0, 0, 0, 0, 0, 0, 0],
+        [0x20, 1, 0, 48, 0, 0, 0, 134, 0, 0, 0, 0, 0, 0, 0, 0],
+    ];
+    assert_writes(|out| exports::outline(&file, out), &rows.concat());
+}
+
+#[test]
+fn block_is_found_after_a_refused_file_and_a_gap() {
+    let stray_inside = after_one_block(&[b"q"]);
+    let file = file_with_gaps([&stray_inside[..], b""], b"gap");
+    assert_records(&file, &[[0, 12, 2, 17, 66], [0, 136, 0, 0, 0]]);
+}
+
+#[test]
+fn edit_leaves_gaps_as_they_are() {
+    let chain = [&empty_block()[..], b"\0\xD3BL", &empty_block(), b"\0"].concat();
+    let mut file = [HEADER_LINE, LEAST_TREE, b"          ", &chain].concat();
+    let text = b"%YAML 1.1\n---\nxxxxxxxxx\n...\n";
+    assert_eq!(exports::edit(&mut file, text), 0);
+    assert_eq!(file, [HEADER_LINE, text, &chain].concat());
+    assert_blocks(&file, &[40, 98], ABSENT);
+}
+
+#[test]
+fn blocks_of_a_real_file_with_a_gap_are_found() {
+    assert_blocks(UPDATED_GAP, &[703, 1026, 1366], IGNORED_FORM);
+}
