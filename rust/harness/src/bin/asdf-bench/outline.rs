@@ -3,7 +3,7 @@
 use crate::measure::medians;
 use crate::read::{tree_file, LINE_OF_41};
 use asdf_harness::exports::{self, SparseFile};
-use asdf_harness::nests::{file_of, path, tree, LEVELS, MOST_BLOCKS};
+use asdf_harness::nests::{file_of, many_gaps, path, tree, LEVELS, MOST_BLOCKS};
 use asdf_second::{most_rows, ROW_LENGTH};
 use std::hint::black_box;
 use std::io;
@@ -47,6 +47,7 @@ fn cases() -> Vec<Case> {
         case("64 empty blocks", tree(1, MOST_BLOCKS, b"")),
         case("three opened files in each, 8 levels", tree(LEVELS, 3, b"")),
         case("64 files of 64 blocks", tree(2, MOST_BLOCKS, b"")),
+        case("the same with gaps of parts of marks", many_gaps()),
         case("1,024 refused files", refused_files()),
         case(
             "64 blocks a level, opened in the last",

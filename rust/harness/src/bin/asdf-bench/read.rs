@@ -2,6 +2,8 @@
 
 use crate::measure::medians;
 use asdf_harness::exports::{self, SparseFile};
+use asdf_harness::nests::file_with_gaps;
+use asdf_harness::rng::Rng;
 use asdf_harness::sparse::{block_header, chain_of_blocks, HEADER_LINE, MARK};
 use std::hint::black_box;
 use std::io;
@@ -33,7 +35,7 @@ struct Case {
 /// Measures every file and prints a line for each.
 pub fn print_table() -> io::Result<()> {
     println!(
-        "{:<36}{:>12}{:>12}{:>12}{:>12}{:>12}",
+        "{:<52}{:>12}{:>12}{:>12}{:>12}{:>12}",
         "file", "asdf_read", "second", "floor", "to second", "to floor"
     );
     for case in cases()? {
@@ -59,6 +61,11 @@ fn cases() -> io::Result<Vec<Case>> {
             file: chain_of_blocks(BLOCKS, GIB / BLOCKS)?,
             floor: find_each_block,
         },
+        gap_case("64 blocks, 1 MiB of spaces between each two", &[b' '; MIB])?,
+        gap_case(
+            "64 blocks, 1 MiB of random bytes between each two",
+            &random_bytes(),
+        )?,
     ])
 }
 
@@ -69,6 +76,21 @@ fn tree_case(name: &'static str, line: &[u8]) -> io::Result<Case> {
         file: tree_file(&line.repeat(MIB / line.len()), b"")?,
         floor: find_line_ends,
     })
+}
+
+/// A file with as many empty blocks as there may be, and these bytes before each but the first.
+fn gap_case(name: &'static str, gap: &[u8]) -> io::Result<Case> {
+    let file = file_with_gaps([&b""[..]; BLOCKS], gap);
+    Ok(Case {
+        name,
+        file: SparseFile::new(file.len(), &[(0, &file)])?,
+        floor: find_all_marks,
+    })
+}
+
+/// A megabyte of random bytes, in which no mark stands.
+pub fn random_bytes() -> Vec<u8> {
+    Rng::for_file(1, 0).bytes(MIB)
 }
 
 /// A file with this content of its tree, this free space, and an empty block.
@@ -104,6 +126,16 @@ fn find_each_block(file: &[u8]) -> usize {
     blocks.map(find_mark).sum()
 }
 
+/// Finds one mark after another with memmem, and counts them.
+fn find_all_marks(file: &[u8]) -> usize {
+    let (mut start, mut marks) = (0, 0);
+    while let Some(length) = exports::find_bytes(&file[start..], MARK) {
+        start += length + MARK.len();
+        marks += 1;
+    }
+    marks
+}
+
 /// Measures one file and prints what came of it.
 fn print_row(case: &Case) {
     let file: &[u8] = &case.file;
@@ -117,7 +149,7 @@ fn print_row(case: &Case) {
         &mut || (case.floor)(black_box(file)),
     ]);
     println!(
-        "{:<36}{ours:>12.2}{second:>12.2}{floor:>12.2}{:>12.2}{:>12.2}",
+        "{:<52}{ours:>12.2}{second:>12.2}{floor:>12.2}{:>12.2}{:>12.2}",
         case.name,
         ours / second,
         ours / floor

@@ -1,9 +1,8 @@
 //! The search for a mark by fours, beside the plain one and libc's.
 
 use crate::measure::medians;
-use crate::read::MIB;
+use crate::read::{random_bytes, MIB};
 use asdf_harness::exports;
-use asdf_harness::rng::Rng;
 use asdf_harness::sparse::MARK;
 use std::hint::black_box;
 use std::io;
@@ -52,7 +51,7 @@ fn cases() -> Vec<Case> {
         },
         Case {
             name: "random bytes",
-            bytes: Rng::for_file(1, 0).bytes(MIB),
+            bytes: random_bytes(),
         },
         filled("all K", b'K'),
         filled("all B", b'B'),
