@@ -16,6 +16,7 @@ SECOND = os.path.join(HERE, "../../build/cargo/release/asdf-second")
 A = b"#ASDF 1.0.0\n"
 TREE = b"%YAML 1.1\n---\n...\n"
 LONGER_TREE = b"%YAML 1.1\n---\nxxxxxxxxx\n...\n"
+INDEX_LINE = b"#ASDF BLOCK INDEX"
 ALL_FF = 2**64 - 1
 
 
@@ -27,7 +28,7 @@ def block(content=b"", header_size=48, flags=0, allocated=None, used=None, data_
 
 
 def index(numbers):
-    return b"#ASDF BLOCK INDEX\n%YAML 1.1\n--- [" + numbers + b"]\n...\n"
+    return INDEX_LINE + b"\n%YAML 1.1\n--- [" + numbers + b"]\n...\n"
 
 
 def inside(file, times):
@@ -67,6 +68,24 @@ CASES = {
     # free space that is searched in blocks of 64
     "mark-over-64-bytes": A + TREE + b"\xd3BL" * 21 + block(),
     "part-of-a-mark-at-the-end": A + TREE + b" " * 128 + b"\xd3BL",
+    # space between blocks
+    "gap-of-zeros": B + bytes(5) + block(),
+    "gap-of-parts-of-marks": B + b"\xd3BL" * 21 + block(),
+    "gap-of-16-of-the-17-bytes": B + INDEX_LINE[:16] + block(),
+    "gap-and-no-block": B + b"\0\0x",
+    "gap-and-index": B + b"\0" + index(b"12"),
+    "gap-and-index-and-block": B + b"\0" + index(b"12") + block(),
+    "gap-and-cut-block": B + b"\0\xd3BLK",
+    "gap-and-good-index": B + b"  " + block() + index(b"12, 68"),
+    "gap-and-index-of-ends": B + b"  " + block() + index(b"12, 66"),
+    "gap-and-streamed-block": B + b"xyz" + block(b"hello", flags=1),
+    "index-and-block": B + INDEX_LINE + block(),
+    "gap-before-the-65th": A + block() * 64 + b"\0\xd3BLK",
+    "gap-after-the-64th": A + block() * 64 + bytes(5),
+    "index-after-the-64th": A + block() * 64 + INDEX_LINE + block(),
+    "gap-inside": inside(B + bytes(2) + block(), 1),
+    "gap-after-a-refused-file": A + block(B + b"q") + b"gap" + block(),
+    "gap-before-the-first": A + b" " + block(),
 }
 
 
