@@ -8,6 +8,7 @@ use crate::goals::Goal;
 use crate::nest_goals::{content, is_opened, refused_inside, unused, DEEPEST};
 use crate::nests::MOST_BLOCKS;
 use crate::searches::BLOCK;
+use crate::sparse::LEAST_HEADER_SIZE;
 use asdf_second::{read, Block, Record, Verdict};
 use std::ops::RangeInclusive;
 
@@ -85,7 +86,10 @@ fn kinds(what: &str, wanted: fn(u8) -> bool) -> Vec<Goal> {
 /// Whether bytes begin like a block, but for one byte of its mark.
 fn is_old_block(bytes: &[u8]) -> bool {
     let differing = bytes.iter().zip(MARK).filter(|(byte, mark)| byte != mark);
-    bytes.len() >= FIELD_BYTES && differing.count() == 1 && HEADER_SIZE.number(bytes, 0) >= Some(48)
+    let header_size = HEADER_SIZE.number(bytes, 0);
+    bytes.len() >= FIELD_BYTES
+        && differing.count() == 1
+        && header_size >= Some(LEAST_HEADER_SIZE.into())
 }
 
 /// Gaps at every depth.
@@ -240,17 +244,16 @@ fn indexes() -> Vec<Goal> {
         ),
         Goal::of_file(
             "mark directly after the 17 bytes (ignored-form)",
-            |file, answers| {
-                index(file, answers)
-                    .is_some_and(|index| index[INDEX_LINE.len()..].starts_with(MARK))
-            },
+            |file, answers| mark_in_index(file, answers) == Some(INDEX_LINE.len()),
         ),
-        Goal::of_file("mark after an index (ignored-form)", has_mark_in_index),
+        Goal::of_file("mark after an index (ignored-form)", |file, answers| {
+            mark_in_index(file, answers) > Some(INDEX_LINE.len())
+        }),
         Goal::of_file("mark after an index, after 64 blocks", |file, answers| {
-            answers.blocks().len() == MOST_BLOCKS && has_mark_in_index(file, answers)
+            answers.blocks().len() == MOST_BLOCKS && mark_in_index(file, answers).is_some()
         }),
         Goal::of_file("mark after an index, after gaps", |file, answers| {
-            have_gaps(answers.blocks()) && has_mark_in_index(file, answers)
+            have_gaps(answers.blocks()) && mark_in_index(file, answers).is_some()
         }),
     ]
 }
@@ -261,23 +264,19 @@ fn index<'a>(file: &'a [u8], answers: &Answers) -> Option<&'a [u8]> {
     tail.starts_with(INDEX_LINE).then_some(tail)
 }
 
-/// Whether a mark stands somewhere after the beginning of an index, which then has not the form.
-fn has_mark_in_index(file: &[u8], answers: &Answers) -> bool {
-    answers.verdict() == Some(Verdict::IgnoredForm)
-        && index(file, answers).is_some_and(|index| !places_of(index, MARK).is_empty())
+/// Where the first mark stands in an index, which then has not the form.
+fn mark_in_index(file: &[u8], answers: &Answers) -> Option<usize> {
+    let ignored = answers.verdict() == Some(Verdict::IgnoredForm);
+    let index = index(file, answers).filter(|_| ignored)?;
+    places_of(index, MARK).first().copied()
 }
 
-/// Whether an index names the end of the block before in the place of each mark but the first.
+/// Whether an index has the end of the block before in the place of each mark but the first.
 fn lists_ends(file: &[u8], answers: &Answers) -> bool {
-    let Some((first, others)) = answers.blocks().split_first() else {
-        return false;
-    };
-    let starts = std::iter::once(first.offset.0 as usize);
-    let ends = answers.blocks()[..others.len()].iter().map(block_end);
-    let numbers: Vec<String> = starts
-        .chain(ends)
-        .map(|number| number.to_string())
-        .collect();
+    let blocks = answers.blocks();
+    let first = blocks.iter().take(1).map(|block| block.offset.0 as usize);
+    let ends = blocks.windows(2).map(|pair| block_end(&pair[0]));
+    let numbers: Vec<String> = first.chain(ends).map(|number| number.to_string()).collect();
     let list = format!("[{}]", numbers.join(","));
     index(file, answers).is_some_and(|index| {
         let unspaced: Vec<u8> = index.iter().copied().filter(|&byte| byte != b' ').collect();

@@ -244,7 +244,7 @@ pub fn content<'a>(file: &'a [u8], record: &Record) -> &'a [u8] {
     &content_with_unused(file, record)[..record.block.used as usize]
 }
 
-/// The unused space behind a block's content.
+/// The unused space after a block's content.
 pub fn unused<'a>(file: &'a [u8], record: &Record) -> &'a [u8] {
     &content_with_unused(file, record)[record.block.used as usize..]
 }

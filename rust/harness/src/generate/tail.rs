@@ -36,7 +36,7 @@ const STRAY: &[&[u8]] = &[
     b"\xD2BLK",
 ];
 
-/// A tail behind the blocks of a chain; the file is refused for a wrong one.
+/// A tail after the blocks of a chain; the file is refused for a wrong one.
 pub fn tail(rng: &mut Rng, chain: &Chain, wrong: bool) -> Vec<u8> {
     if wrong {
         return wrong_tail(rng, &chain.marks);
