@@ -141,11 +141,10 @@ fn print_row(case: &Case) {
     let file: &[u8] = &case.file;
     let mut out = [0; LAYOUT_BYTES];
     assert_eq!(exports::read(file, &mut out), LAYOUT_BYTES as u64);
+    assert_eq!(blocks_of(&out), second_blocks(file), "{}", case.name);
     let [ours, second, floor] = medians([
         &mut || black_box(exports::read(black_box(file), &mut out)) as usize,
-        &mut || {
-            black_box(asdf_second::read(black_box(file))).map_or(0, |layout| layout.blocks.len())
-        },
+        &mut || second_blocks(black_box(file)),
         &mut || (case.floor)(black_box(file)),
     ]);
     println!(
@@ -154,4 +153,17 @@ fn print_row(case: &Case) {
         ours / second,
         ours / floor
     );
+}
+
+/// How many blocks an answer tells of.
+fn blocks_of(answer: &[u8; LAYOUT_BYTES]) -> usize {
+    let [.., blocks, _verdict] = answer.as_chunks().0 else {
+        return 0;
+    };
+    u64::from_be_bytes(*blocks) as usize
+}
+
+/// How many blocks the second program finds.
+fn second_blocks(file: &[u8]) -> usize {
+    black_box(asdf_second::read(file)).map_or(0, |layout| layout.blocks.len())
 }
