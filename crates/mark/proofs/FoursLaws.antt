@@ -19,7 +19,7 @@ use Rattle.format.proofs.ByteLaws.{begins-true}
 use Rattle.format.proofs.LocalLaws.{free-space-mark}
 use Rattle.scan.proofs.TextLaws.{begins-inside}
 use Rattle.mark.specs.Mark.{Skipped}
-use Rattle.mark.specs.Fours.{FirstIn, FourthsUpTo, IsOfMark, Told, InMark, MarkAt, fourthOfMark, beginsMark}
+use Rattle.mark.specs.Fours.{FirstIn, FourthsUpTo, IsOfMark, Told, InMark, fourthOfMark, beginsMark}
 use Rattle.mark.proofs.MarkLaws.{mark-none-here, skip-none}
 
 -- what holds of the four places in a mark holds of each
@@ -149,16 +149,6 @@ in-mark b = record { tells = λ m. rw (m .is) (each (m .place) (m .few)) }
     each : (j : ℕ) → j < 4 → compared (getD mark j 0) ≡ true
     each = four-places (λ j. compared (getD mark j 0) ≡ true) refl refl refl refl
 
--- and so with four bytes from an offset on
-pub mark-at : (t : Bytes) (p : ℕ)
-    → MarkAt t p (eqb (getD t p 0) 0xD3 && eqb (getD t (p + 1) 0) 0x42 && eqb (getD t (p + 2) 0) 0x4C && eqb (getD t (p + 3) 0) 0x4B)
-mark-at t p = record {
-  tells = λ h.
-      let byte = mark-byte t p h in
-      let first : getD t p 0 ≡ 0xD3 = rw add-zero at (byte 0 (omega arith)) in
-      rw (first, byte 1 (omega arith), byte 2 (omega arith), byte 3 (omega arith)) refl;
-}
-
 -- of nothing is it told yet
 pub told-none : (p : ℕ → Type 0) → Told p 0 false
 told-none p = record { tells = λ i h. absurd (omega arith) }
@@ -181,9 +171,9 @@ pub fourth-step : (t : Bytes) (n k : ℕ) (seen x : Bool) → Told (fourthOfMark
 fourth-step t n k seen x h one = told-step (fourthOfMark t n) k seen _ h (λ f. rw (f .0, one .tells (f .1)) refl)
 
 -- at one more byte a mark begins or not
-pub begin-step : (t : Bytes) (n k : ℕ) (seen x : Bool) → Told (beginsMark t n) k seen → MarkAt t (n + k) x
+pub begin-step : (t : Bytes) (n k : ℕ) (seen x : Bool) → Told (beginsMark t n) k seen → x ≡ begins mark (drop (n + k) t)
     → Told (beginsMark t n) (k + 1) (seen || x)
-begin-step t n k seen x h one = told-step (beginsMark t n) k seen x h (one .tells)
+begin-step t n k seen x h one = told-step (beginsMark t n) k seen x h (λ m. one ∙ m)
 
 -- no byte is looked at yet
 pub fourths-begin : (t : Bytes) (n : ℕ) → FourthsUpTo t n 0 0

@@ -3,15 +3,19 @@ use Prim.Native.Nat.{ℕ, suc, _+_, _-_, _^_, _≤_, _<_}
 use native.Mathlib.Numerals.{add-one}
 use native.Mathlib.Omega.{arith}
 use mathlib.Core.Path.{_≡_, refl, sym, ap, _∙_}
-use mathlib.Core.Bool.{Bool, true, false}
+use mathlib.Core.Bool.{Bool, true, false, _&&_, and-true}
 use mathlib.Core.List.{_∷_}
+use mathlib.Mathlib.Data.Bool.Basic.{eq-false-of-not-eq-true}
 use lib.ListN.{length, take, drop, getD, drop-of-length-le, length-take, length-drop}
 use lib.Seq.{drop-cons, take-all}
+use lib.Dec.{eqb}
+use borrow.Author.Tests.{eqb-true, eqb-false, ne-eqb}
 use mir.Syntax.{w64}
 use mir.Val.{Fits}
 use Rattle.format.specs.Bytes.{Bytes, begins}
 use Rattle.format.specs.Tree.{mark, freeSpace}
 use Rattle.format.proofs.LocalLaws.{free-space-mark}
+use Rattle.scan.proofs.TextLaws.{begins-inside}
 use Rattle.mark.specs.Mark.{MarkFound, Skipped}
 
 -- a byte that no mark begins with stands before the next mark
@@ -26,6 +30,51 @@ mark-none-here t i x left h p =
     let next = drop-cons t i 0 p in
     let step = space-step (getD t i 0) (drop (suc i) t) (sym (ap (begins mark) next) ∙ h) in
     rw add-one (omega (arith, ap freeSpace next, step))
+
+-- fewer than four bytes are no mark
+no-mark : (s : Bytes) (at : ℕ) → length s < at + 4 → false ≡ begins mark (drop at s)
+no-mark s at h = sym (eq-false-of-not-eq-true (λ e. omega (arith, begins-inside mark at s e (omega arith))))
+
+-- none are left
+pub no-mark-past : (s : Bytes) (at : ℕ) → length s ≤ at → false ≡ begins mark (drop at s)
+no-mark-past s at h = no-mark s at (omega arith)
+
+-- too few are left
+pub no-mark-left : (s : Bytes) (at : ℕ) → length s - at < 4 → at < length s → false ≡ begins mark (drop at s)
+no-mark-left s at h p = no-mark s at (omega arith)
+
+-- two numbers may be compared either way round
+either-way : (a b : ℕ) → eqb a b ≡ eqb b a
+either-way a b = go (eqb a b) refl
+  where
+    go : (x : Bool) → eqb a b ≡ x → eqb a b ≡ eqb b a
+    go true e = rw (eqb-true a b e)
+    go false e = e ∙ sym (ne-eqb b a (λ q. eqb-false a b e (sym q)))
+
+-- four bytes are a mark if each is the one of a mark
+pub mark-at : (s : Bytes) (at : ℕ) → at + 4 ≤ length s
+    → (eqb (getD s at 0) 0xD3 && eqb (getD s (at + 1) 0) 0x42 && eqb (getD s (at + 2) 0) 0x4C && eqb (getD s (at + 3) 0) 0x4B) ≡ begins mark (drop at s)
+mark-at s at h =
+    rw (
+      next at (at + 1) (omega arith) (omega arith),
+      next (at + 1) (at + 2) (omega arith) (omega arith),
+      next (at + 2) (at + 3) (omega arith) (omega arith),
+      next (at + 3) (at + 4) (omega arith) (omega arith),
+      either-way (getD s at 0) 0xD3,
+      either-way (getD s (at + 1) 0) 0x42,
+      either-way (getD s (at + 2) 0) 0x4C,
+      either-way (getD s (at + 3) 0) 0x4B,
+    )
+    (grouped (eqb 0xD3 (getD s at 0)) (eqb 0x42 (getD s (at + 1) 0)) (eqb 0x4C (getD s (at + 2) 0)) (eqb 0x4B (getD s (at + 3) 0)))
+  where
+    next : (n m : ℕ) → m ≡ suc n → n < length s → drop n s ≡ getD s n 0 ∷ drop m s
+    next n m e l = drop-cons s n 0 l ∙ ap (λ (k : ℕ). getD s n 0 ∷ drop k s) (sym e)
+
+    grouped : (a b c d : Bool) → (a && b && c && d) ≡ (a && (b && (c && (d && true))))
+    grouped true true true d = sym (and-true d)
+    grouped true true false d = refl
+    grouped true false c d = refl
+    grouped false b c d = refl
 
 -- nothing is skipped
 pub skip-none : (t : Bytes) (from : ℕ) → from ≤ length t → Skipped t from from

@@ -31,10 +31,6 @@ pub record Told (p : ℕ → Type 0) (k : ℕ) (r : Bool) : Type 0 where
 pub record InMark (b : ℕ) (r : Bool) : Type 0 where
   pub tells : IsOfMark b → r ≡ true
 
--- r is true if a mark begins at offset n
-pub record MarkAt (t : Bytes) (n : ℕ) (r : Bool) : Type 0 where
-  pub tells : begins Tree·mark (drop n t) ≡ true → r ≡ true
-
 -- byte i of those from n on is a fourth one, and one of a mark
 abbrev pub fourthOfMark : Bytes → ℕ → ℕ → Type 0
 fourthOfMark t n i = (i % 4 ≡ 3) × IsOfMark (getD t (n + i) 0)

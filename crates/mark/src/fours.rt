@@ -5,8 +5,9 @@ ghost use Prim.Native.Nat.{_+_, _≤_};
 ghost use mathlib.Core.Path.{_≡_};
 ghost use lib.ListN.{length, drop};
 ghost use Rattle.format.specs.Tree.{freeSpace};
-ghost use Rattle.mark.specs.Fours.{FirstIn, FourthsUpTo, Told, InMark, MarkAt, fourthOfMark, beginsMark};
+ghost use Rattle.mark.specs.Fours.{FirstIn, FourthsUpTo, Told, InMark, fourthOfMark, beginsMark};
 use crate::is_mark;
+use crate::mark_at;
 
 // How many bytes stand before the first mark, or before the end. Blocks of 64 are tested for the marks that begin in them, so
 // three more bytes have to be there.
@@ -74,14 +75,6 @@ fn any_is_mark(t: &[u8], from: usize) -> bool
         seen = seen | mark_at(t, from + j);
     }
     seen
-}
-
-// Whether a mark begins at an offset: all four bytes are compared, with no branch.
-fn mark_at(t: &[u8], at: usize) -> bool
-    requires { ⌜ at + 4 ≤ length (now t) ⌝ }
-    ensures { λ r. ⌜ MarkAt (now (t .entry)) at r ⌝ }
-{
-    (t[at] == 0xD3) & (t[at + 1] == 0x42) & (t[at + 2] == 0x4C) & (t[at + 3] == 0x4B)
 }
 
 // Whether a byte belongs to a mark: all four are compared, with no branch that some bytes could mislead.

@@ -1,8 +1,8 @@
 -- Each byte of a mark is compared.
 use borrow.Author.Needs.{needs}
-use Rattle.mark.proofs.FoursLaws.{mark-at}
-use Rattle.mark.proofs.fours.mark_at.Statement.{statement}
-use Rattle.mark.proofs.fours.mark_at.Tie as tie
+use Rattle.mark.proofs.MarkLaws.{mark-at}
+use Rattle.mark.proofs.mark_at.Statement.{statement}
+use Rattle.mark.proofs.mark_at.Tie as tie
 
 pub mark-at-spec : {M : Type 1} → statement M
 mark-at-spec =
