@@ -92,8 +92,8 @@ module _ (P : Block → Type 0) where
   linked-all b false (accepted c) h hs = (h, hs)
   linked-all b false (refused r) h hs = tt
 
-  -- P holds of every block of a chain if it holds of each that is accepted where Known holds, and Known holds again behind it
-  -- and behind bytes that no block has
+  -- P holds of every block of a chain if it holds of each that is accepted where Known holds, and Known holds again after it
+  -- and after bytes that belong to no block
   pub chain-all : (Known : ℕ → ℕ → ℕ → Bytes → Type 0)
       → ((k i n g : ℕ) (t : Bytes) → Known k i n t → Known k i (n + g) (drop g t))
       → ((k i n : ℕ) (t : Bytes) (b : Block) → Known (suc k) i n t → block i n t ≡ accepted b → P b × Known k (i + 1) (n + extent b) (drop (extent b) t))

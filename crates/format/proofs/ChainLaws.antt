@@ -1,4 +1,4 @@
--- The blocks of a chain are a front part of the bytes, and the same with another tail behind the last of them.
+-- The blocks of a chain, with the space between them, are a front part of the bytes, and the same with another tail after the last of them.
 use Prim.Native.Nat.{ℕ, zero, suc, _+_, _≤_}
 use mathlib.Core.Path.{_≡_, refl, sym, ap, subst, _∙_}
 use mathlib.Core.Bool.{Bool, true, false, not, _&&_, _||_, or-false, true≢false}
@@ -171,11 +171,11 @@ pub chain-follows : (k i n : ℕ) (t : Bytes) → follows t ≡ true → chain (
 unfolding chain
 chain-follows k i n t h = rw (h, chain)
 
--- behind q, in which no mark begins, stands the block b, which is p
+-- after q, in which no mark begins, stands the block b, which is p
 module _ (k i n : ℕ) (q p z : Bytes) (b : Block) (size : length p ≡ extent b) (unindexed : begins indexLine (q ++ (p ++ z)) ≡ false)
     (free : freeSpace (q ++ (p ++ z)) ≡ length q) (marked : begins mark (p ++ z) ≡ true)
     (at : b .at .0 ≡ n + length q) (plain : Plain i (n + length q) (p ++ z) b) (unstreamed : isStreamed (b .flags) ≡ false) where
-  -- its mark is the same with anything behind it
+  -- its mark is the same with anything after it
   marked-again : (u : Bytes) → begins mark (p ++ u) ≡ true
   marked-again u = begins-front mark p u z (omega (arith, plain-least plain)) ∙ marked
 

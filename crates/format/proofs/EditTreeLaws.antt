@@ -23,7 +23,7 @@ use Rattle.format.specs.File.{mostBytes, File, firstBlock, goesOn, offse
 use Rattle.format.specs.Edit.{endsAt, isOneTree}
 use Rattle.format.specs.Edited.{treeAt}
 use Rattle.format.proofs.OutcomeLaws.{accepted-holds, accepts-bind}
-use Rattle.format.proofs.LocalLaws.{header-again, comments-kept, tree-anywhere, free-space-spaces, free-space-end, goes-on-no-comment}
+use Rattle.format.proofs.LocalLaws.{header-again, comments-kept, tree-anywhere, free-space-spaces, goes-on-no-comment, start-free}
 use Rattle.format.proofs.FileLaws.{blocksStart, Parts, file-parts, in-order}
 
 -- a text that is exactly one tree ends with it
@@ -36,24 +36,19 @@ one-tree-end t = ends (treeEnd 0 (lines t))
     ends (accepted none) h = cc
     ends (accepted (some m)) h = ap (λ (n : ℕ). accepted (some n)) (eqb-true m (length t) h)
 
--- a tree in the file s begins at offset n, and where its room ends no byte is free
-record Room (n : ℕ) (s : Bytes) (start room-end : ℕ) : Type 0 where
-  begin : n ≡ start
-  full : freeSpace (drop room-end s) ≡ 0
+-- a tree, if there is one, begins at offset n
+abbrev BeginsAt : ℕ → Tree → Type 0
+BeginsAt n NoTree = Unit {0}
+BeginsAt n (Found a e m) = n ≡ a .0
 
--- and so where there is a tree
-abbrev HasRoom : ℕ → Bytes → Tree → Type 0
-HasRoom n s NoTree = Unit {0}
-HasRoom n s (Found a e m) = Room n s (a .0) (m .0)
-
--- a tree that is read has its room
-tree-room : (n : ℕ) (s : Bytes) (t : Tree) → tree n s ≡ accepted t → HasRoom n s t
+-- a tree that is read does
+tree-begins-at : (n : ℕ) (s : Bytes) (t : Tree) → tree n s ≡ accepted t → BeginsAt n t
 unfolding tree withRoom
-tree-room n s t = accepted-holds (HasRoom n s) (tree n s) t (accepts-bind _ (treeEnd n (lines (drop n s))) _ with-room)
+tree-begins-at n s t = accepted-holds (BeginsAt n) (tree n s) t (accepts-bind _ (treeEnd n (lines (drop n s))) _ with-room)
   where
-    with-room : (o : Option ℕ) → treeEnd n (lines (drop n s)) ≡ accepted o → HasRoom n s (withRoom n s o)
+    with-room : (o : Option ℕ) → treeEnd n (lines (drop n s)) ≡ accepted o → BeginsAt n (withRoom n s o)
     with-room none q = tt
-    with-room (some k) q = record { begin = refl; full = ap freeSpace (sym (drop-drop (freeSpace (drop k s)) k s)) ∙ free-space-end (drop k s) }
+    with-room (some k) q = refl
 
 -- the room from n to m in the file s, which is accepted as f: behind the comments, up to the first block
 pub record FileRoom (s : Bytes) (f : File) (n m : ℕ) : Type 0 where
@@ -69,9 +64,10 @@ unfolding firstBlock
 file-room s f read n e m q =
     let parts = file-parts s f read in
     let order = in-order s f parts in
-    let room = tree-room (f .commentsEnd) s (treeAt n e m) (parts .tree-read ∙ ap accepted q) in
+    let begin = tree-begins-at (f .commentsEnd) s (treeAt n e m) (parts .tree-read ∙ ap accepted q) in
     let first : blocksStart f ≡ m = ap (firstBlock (f .commentsEnd)) q in
-    record { begin = room .begin; first = first; full = room .full; order = omega arith; inside = omega arith }
+    let full = rw first at (start-free (f .commentsEnd) s (f .tree) (parts .tree-read) (parts .goes-on)) in
+    record { begin = begin; first = first; full = full; order = omega arith; inside = omega arith }
 
 -- behind p the tree t, k spaces, and y
 abbrev pub treed : Bytes → Bytes → ℕ → Bytes → Bytes

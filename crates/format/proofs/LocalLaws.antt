@@ -149,8 +149,8 @@ free-space-within l p y z inside h m =
     let size : length (take l p) ≡ l = length-take-le l p inside in
     sym (ap freeSpace (parts z)) ∙ free-space-again (take l p) (drop l p ++ y) (drop l p ++ z) (ap freeSpace (parts y) ∙ h ∙ sym size) m ∙ size
 
--- behind free space no byte is free
-pub free-space-end : (s : Bytes) → freeSpace (drop (freeSpace s) s) ≡ 0
+-- after free space no byte is free
+free-space-end : (s : Bytes) → freeSpace (drop (freeSpace s) s) ≡ 0
 unfolding freeSpace
 free-space-end [] = refl
 free-space-end (b ∷ s) = go (begins mark (b ∷ s)) refl (free-space-end s)
