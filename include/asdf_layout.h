@@ -42,8 +42,8 @@ enum asdf_refusal {
     ASDF_USED_ABOVE_ALLOCATED = 13,   /* used size is above allocated size */
     ASDF_DATA_SIZE_DIFFERS = 14,      /* data size differs from used size and nothing is compressed */
     ASDF_ALLOCATED_PASSES_END = 15,   /* allocated space passes the end of the file */
-    ASDF_TOO_MANY_BLOCKS = 16,        /* there are more than 64 blocks */
-    ASDF_STRAY_TAIL = 17,             /* behind the last block is neither nothing nor zeros only nor an index */
+    ASDF_TOO_MANY_BLOCKS = 16,        /* there is a 65th block mark */
+    ASDF_STRAY_TAIL = 17,             /* stray bytes follow the last block: neither zeros only nor an index, and no mark after them */
     ASDF_EDIT_WITHOUT_TREE = 18,      /* file has no tree to be edited */
     ASDF_TEXT_NOT_ONE_TREE = 19,      /* text is not exactly one tree */
     ASDF_TEXT_LONGER_THAN_ROOM = 20,  /* text is longer than the room of the tree */
