@@ -2,6 +2,8 @@
 ghost use Prim.Native.Nat.{_≤_, _<_};
 ghost use mathlib.Core.Path.{_≡_};
 ghost use lib.ListN.{length, drop, set, replicate};
+ghost use Rattle.format.specs.Bytes.{begins};
+ghost use Rattle.format.specs.Comments.{indexLine};
 ghost use Rattle.format.specs.Chain.{chain, mostBlocks};
 ghost use Rattle.file.specs.Chain.{Follows, NextMark, LinkIs, Walked};
 use crate::block;
@@ -64,13 +66,20 @@ fn next_mark(s: &[u8], at: usize) -> usize
     if mark::is_mark(s, at) {
         return at;
     }
-    if text::begins_at(s, at, b"#ASDF BLOCK INDEX") {
+    if is_index(s, at) {
         return s.len();
     }
     mark::find(s, at)
 }
 
-// What follows at an offset: block i, if it is allowed, at the mark `next`, or where there is none the tail.
+// Whether an index begins at an offset: its first line decides, whatever comes after.
+fn is_index(s: &[u8], at: usize) -> bool
+    ensures { λ r. ⌜ r ≡ begins indexLine (drop at (now (s .entry))) ⌝ }
+{
+    text::begins_at(s, at, b"#ASDF BLOCK INDEX")
+}
+
+// What follows at an offset: at the mark `next` block i, if there may be so many; where there is no mark, the tail.
 fn link(s: &[u8], at: usize, next: usize, i: usize) -> LinkStep
     requires { ⌜ (at ≤ length (now s)) × NextMark (now s) at next ⌝ }
     ensures { λ r. ⌜ LinkIs (now (s .entry)) i at next r ⌝ }
@@ -78,7 +87,7 @@ fn link(s: &[u8], at: usize, next: usize, i: usize) -> LinkStep
     if next < s.len() {
         return link_at_mark(s, at, next, i);
     }
-    if text::begins_at(s, at, b"#ASDF BLOCK INDEX") {
+    if is_index(s, at) {
         return LinkStep::Index;
     }
     if text::only_zeros(&s[at..]) {
@@ -87,7 +96,7 @@ fn link(s: &[u8], at: usize, next: usize, i: usize) -> LinkStep
     LinkStep::Refused(Refusal::new(17, at))
 }
 
-// What the mark `next` begins, which follows at an offset, where block i may begin.
+// The same where a block follows at the mark `next`.
 fn link_at_mark(s: &[u8], at: usize, next: usize, i: usize) -> LinkStep
     requires { ⌜ Follows (now s) at next ⌝ }
     ensures { λ r. ⌜ LinkIs (now (s .entry)) i at next r ⌝ }

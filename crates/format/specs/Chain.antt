@@ -39,7 +39,7 @@ ended t = record { blocks = []; tail = t }
 abbrev pub linked : Block → Chain → Chain
 linked b c = record { blocks = b ∷ c .blocks; tail = c .tail }
 
--- whether a block follows in t, which stands after a block: no index begins at once, and somewhere there is a mark
+-- whether a block follows in t: no index begins at once, and somewhere there is a mark
 abbrev pub follows : Bytes → Bool
 follows t = not (begins indexLine t) && begins mark (drop (freeSpace t) t)
 

@@ -10,7 +10,6 @@ link-spec =
     (tie.spec
     (λ c κs. search (link-follows, needs))
     (λ c. search needs)
-    (λ c. search needs)
     (λ c κs. search needs)
     (λ c. search (link-index, needs))
     (λ c. search needs)

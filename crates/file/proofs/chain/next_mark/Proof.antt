@@ -10,7 +10,6 @@ next-mark-spec =
     (tie.spec
     (λ c κs. search needs)
     (λ c. search (next-at-once, needs))
-    (λ c. search needs)
     (λ c κs. search needs)
     (λ c. search (next-index, needs))
     (λ c κs. search needs)
