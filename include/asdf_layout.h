@@ -92,7 +92,7 @@ enum asdf_verdict {
 /* The numbers of a block; in a record they stand behind ASDF_RECORD_BLOCK others. */
 enum asdf_block_number {
     ASDF_BLOCK_ORDINAL,
-    ASDF_BLOCK_AT,          /* its first byte, in its own file */
+    ASDF_BLOCK_AT,          /* its first byte, in its own file; unallocated space may stand before it */
     ASDF_BLOCK_HEADER_SIZE, /* content begins 6 + header size behind the block's first byte */
     ASDF_BLOCK_FLAGS,       /* bit 0: streamed; then all three sizes are the length of the content */
     ASDF_BLOCK_COMPRESSION, /* the four bytes of the name, the first the most significant; 0 for none */

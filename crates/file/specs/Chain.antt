@@ -57,13 +57,13 @@ pub record Chained (o : Outcome Chain) (out : Bytes) (k : ℕ) (c : Chain) : Typ
   pub few : k ≤ mostBlocks
   pub kept : out ≡ table (c .blocks)
 
--- a chain was walked behind which no index stands
+-- a chain was walked, and no index stands after it
 pub record WalkedAlone (o : Outcome Chain) (out : Bytes) (k : ℕ) : Type 0 where
   pub c : Chain
   pub chained : Chained o out k c
   pub zeros : allZero (c .tail) ≡ true
 
--- a chain was walked behind which, at offset n, stands what begins like one
+-- a chain was walked, and after it, at offset n, stands what begins like an index
 pub record WalkedTo (s : Bytes) (o : Outcome Chain) (out : Bytes) (k n : ℕ) : Type 0 where
   pub c : Chain
   pub chained : Chained o out k c

@@ -13,7 +13,7 @@ use Rattle.format.specs.Block.{block, isStreamed}
 abbrev pub mostBlocks : ℕ
 mostBlocks = 64
 
--- the blocks of a file and what stands behind the last of them; behind a streamed one nothing does
+-- the blocks of a file and what stands after the last of them; after a streamed one nothing does
 pub record Chain : Type 0 where
   pub blocks : List Block
   pub tail : Bytes
@@ -31,11 +31,11 @@ blocksEnd n (b ∷ bs) = blocksEnd (b .at .0 + extent b) bs
 abbrev pub isTail : Bytes → Bool
 isTail t = allZero t || begins indexLine t
 
--- no further block, and t behind the last
+-- no further block, and t after the last
 abbrev pub ended : Bytes → Chain
 ended t = record { blocks = []; tail = t }
 
--- b in front of the blocks behind it
+-- b before the blocks that follow it
 abbrev pub linked : Block → Chain → Chain
 linked b c = record { blocks = b ∷ c .blocks; tail = c .tail }
 

@@ -14,7 +14,7 @@ const STREAMED: u32 = 1;
 pub struct Block {
     /// Its number in its file, from 0.
     pub ordinal: u8,
-    /// Its first byte, in its own file.
+    /// Its first byte, in its own file. Unallocated space may stand between the end of the block before and this.
     pub at: usize,
     /// The header's size, counted from the block's sixth byte.
     pub header_size: u16,
