@@ -72,8 +72,10 @@ misreadings =
     -- also in a file inside a block
     ∷ Lists (fileA ++ blockOf (fileB ++ text "x" ++ emptyBlock))
     (text "tree none\n0 0 12 48 121 121 0 0 0 1\n1 0 78 48 0 0 0 0 0 0\n1 1 133 48 0 0 0 0 0 0\nindex absent\n")
-    -- a malformed block there is refused at its mark, and a 65th too; 17 comes only where no mark follows, at the end of the last block
+    -- a malformed block there is refused at its mark, also where a good one follows, and a 65th too; 17 comes only where no mark follows,
+    -- at the end of the last block
     ∷ Reads (fileB ++ text "x" ++ mark) (refused (refusal 11 67))
+    ∷ Reads (fileB ++ text "x" ++ blockHeader 47 0 0 0 ++ emptyBlock) (refused (refusal 12 67))
     ∷ Reads (fileA ++ copies 64 emptyBlock ++ text "x" ++ mark) (refused (refusal 16 3469))
     ∷ Reads (fileB ++ (0 ∷ []) ++ text "x") (refused (refusal 17 66))
     -- an index is tried first, directly after the block, and ends the chain whatever follows

@@ -37,6 +37,18 @@ fn block_with(place: usize, byte: u8) -> Vec<u8> {
     block
 }
 
+/// A block for each number from 11 to 15, that is refused with it even if an empty block follows.
+fn wrong_blocks() -> [(Vec<u8>, u64); 5] {
+    let (high_h, low_h, allocated, used, data_size) = (4, 5, 21, 29, 37);
+    [
+        (block_with(high_h, 0xFF), 11),
+        (block_with(low_h, 47), 12),
+        (block_with(used, 1), 13),
+        (block_with(data_size, 1), 14),
+        (block_with(allocated, 200), 15),
+    ]
+}
+
 /// The file with one block, and these parts after it.
 fn after_one_block(parts: &[&[u8]]) -> Vec<u8> {
     [&one_block()[..], &parts.concat()].concat()
@@ -149,17 +161,22 @@ fn cut_block_after_a_gap_is_refused_with_11() {
 
 #[test]
 fn wrong_block_after_a_gap_is_refused_at_its_mark() {
-    let (low_h, used, data_size, allocated) = (5, 29, 37, 21);
-    let cases = [
-        (block_with(low_h, 47), 12),
-        (block_with(used, 1), 13),
-        (block_with(data_size, 1), 14),
-        (block_with(allocated, 5), 15),
-    ];
-    for (block, number) in cases {
+    let five_bytes_missing = (block_with(21, 5), 15);
+    for (block, number) in wrong_blocks().into_iter().chain([five_bytes_missing]) {
         assert_refused(&after_one_block(&[&block]), number, 66);
         assert_refused(&after_one_block(&[b"\0", &block]), number, 67);
         assert_refused(&after_one_block(&[b"x\xD3BL", &block]), number, 70);
+    }
+}
+
+#[test]
+fn wrong_block_is_not_passed_over_for_a_later_one() {
+    for (block, number) in wrong_blocks() {
+        let followed = [&block[..], &empty_block()].concat();
+        assert_refused(&after_one_block(&[&followed]), number, 66);
+        assert_refused(&after_one_block(&[b"\0", &followed]), number, 67);
+        let with_gaps = after_one_block(&[b"\0", &block, b"gap", &followed]);
+        assert_refused(&with_gaps, number, 67);
     }
 }
 
