@@ -181,7 +181,7 @@ module _ (k i n : ℕ) (q p z : Bytes) (b : Block) (size : length p ≡ extent b
 
   -- a block is the first of a chain with any chain behind it
   linked-again : (u : Bytes) (d : Chain) → chain k (i + 1) (n + length q + extent b) u ≡ accepted d → chain (suc k) i n (q ++ (p ++ u)) ≡ accepted (linked b d)
-  unfolding chain linkedAt
+  unfolding linkedAt
   linked-again u d h =
       let gap = free-space-again q (p ++ z) (p ++ u) free (marked-again u) in
       let enough : length indexLine ≤ length (q ++ p) = simp length-append (omega (arith, plain-least plain)) in

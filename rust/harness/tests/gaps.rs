@@ -22,6 +22,13 @@ const IGNORED_LIST: u64 = 3;
 
 const STREAMED: u32 = 1;
 
+/// Where fields stand in a block's header: both bytes of H, and the lowest byte of each size.
+const HIGH_H: usize = 4;
+const LOW_H: usize = 5;
+const ALLOCATED: usize = 21;
+const USED: usize = 29;
+const DATA_SIZE: usize = 37;
+
 /// A function that writes what it finds in a file.
 type Writer = fn(&[u8], &mut [u8]) -> u64;
 
@@ -39,13 +46,12 @@ fn block_with(place: usize, byte: u8) -> Vec<u8> {
 
 /// A block for each number from 11 to 15, that is refused with it even if an empty block follows.
 fn wrong_blocks() -> [(Vec<u8>, u64); 5] {
-    let (high_h, low_h, allocated, used, data_size) = (4, 5, 21, 29, 37);
     [
-        (block_with(high_h, 0xFF), 11),
-        (block_with(low_h, 47), 12),
-        (block_with(used, 1), 13),
-        (block_with(data_size, 1), 14),
-        (block_with(allocated, 200), 15),
+        (block_with(HIGH_H, 0xFF), 11),
+        (block_with(LOW_H, 47), 12),
+        (block_with(USED, 1), 13),
+        (block_with(DATA_SIZE, 1), 14),
+        (block_with(ALLOCATED, 200), 15),
     ]
 }
 
@@ -161,7 +167,7 @@ fn cut_block_after_a_gap_is_refused_with_11() {
 
 #[test]
 fn wrong_block_after_a_gap_is_refused_at_its_mark() {
-    let five_bytes_missing = (block_with(21, 5), 15);
+    let five_bytes_missing = (block_with(ALLOCATED, 5), 15);
     for (block, number) in wrong_blocks().into_iter().chain([five_bytes_missing]) {
         assert_refused(&after_one_block(&[&block]), number, 66);
         assert_refused(&after_one_block(&[b"\0", &block]), number, 67);
@@ -204,7 +210,7 @@ fn tail_without_a_mark_is_empty_or_zeros_or_refused_at_the_end_of_the_last_block
 #[test]
 fn index_ends_the_chain_whatever_follows() {
     for index in [INDEX_LINE, INDEX_OF_12] {
-        for after in [MARK, &empty_block(), &block_with(5, 47)] {
+        for after in [MARK, &empty_block(), &block_with(LOW_H, 47)] {
             let file = after_one_block(&[index, after]);
             assert_blocks(&file, &[12], IGNORED_FORM);
         }
@@ -250,7 +256,7 @@ fn mark_that_begins_in_a_block_is_none() {
 #[test]
 fn mark_inside_a_block_is_none() {
     let in_content = file_of([MARK]);
-    let in_unused_space = [HEADER_LINE, &block_with(21, 4), MARK].concat();
+    let in_unused_space = [HEADER_LINE, &block_with(ALLOCATED, 4), MARK].concat();
     for file in [in_content, in_unused_space] {
         assert_blocks(&file, &[12], ABSENT);
         let followed = [&file[..], b"\0", &empty_block()].concat();
