@@ -3,10 +3,12 @@ use Prim.Native.Nat.{ℕ, zero, suc}
 use mathlib.Core.Path.{_≡_, refl}
 use mathlib.Core.Bool.{Bool, true, false, _&&_, not}
 use mathlib.Core.List.{[], _∷_, _++_, reverse, reverse-cons}
+use mathlib.Core.Option.{none, some}
 use lib.ListN.{length, drop, replicate}
 use lib.Dec.{eqb}
 use borrow.Author.Tests.{eqb-true, eq-eqb, not-true}
 use Rattle.format.specs.Bytes.{Bytes, begins, same, allZero}
+use Rattle.format.specs.Index.{without}
 
 -- of two tests that hold together the first holds
 pub and-left : (a b : Bool) → (a && b) ≡ true → a ≡ true
@@ -47,6 +49,17 @@ begins-true (a ∷ p) (b ∷ s) h = cc (eqb-true a b (and-left _ _ h), begins-tr
 pub begins-append : (p s : Bytes) → begins p (p ++ s) ≡ true
 begins-append [] s = refl
 begins-append (a ∷ p) s = and-both (eqb a a) (begins p (p ++ s)) (eq-eqb a a refl) (begins-append p s)
+
+-- a byte string is p and what is left of it after p
+pub without-some : (p s u : Bytes) → without p s ≡ some u → s ≡ p ++ u
+unfolding without
+without-some [] s u h = cc
+without-some (a ∷ p) [] u h = cc
+without-some (a ∷ p) (b ∷ s) u h = go (eqb a b) refl (without-some p s u)
+  where
+    go : (x : Bool) → eqb a b ≡ x → (without p s ≡ some u → s ≡ p ++ u) → b ∷ s ≡ a ∷ (p ++ u)
+    go true e i = cc (eqb-true a b e, i (rw (e, without) at h))
+    go false e i = let n : none ≡ some u = rw (e, without) at h in cc
 
 -- bytes that are found all zero are so many zeros
 pub all-zero-true : (z : Bytes) → allZero z ≡ true → z ≡ replicate (length z) 0

@@ -1,35 +1,24 @@
 -- An index is good exactly when it is a rendering of the blocks' offsets; and the index that is written here is one.
 use Prim.Native.Nat.{ℕ, suc, _+_, _-_, _*_, _^_, _≤_, _<_}
 use mathlib.Core.Path.{_≡_, refl, sym, ap, ap₂, _∙_}
-use mathlib.Core.Bool.{Bool, true, false, _&&_}
-use mathlib.Core.List.{List, [], _∷_, _++_, map, map-map, map-id, reverse, reverse-cons, reverse-append, reverse-reverse, append-assoc}
+use mathlib.Core.Bool.{Bool, true, false}
+use mathlib.Core.List.{List, [], _∷_, _++_, map, flatMap, map-map, map-id, reverse, reverse-cons, reverse-append, reverse-reverse, append-assoc}
 use mathlib.Core.Option.{Option, none, some, Option·none-ne-some}
 use native.Mathlib.Omega.{arith}
 use lib.ListN.{length, replicate, getD, length-append, length-map, length-replicate}
 use lib.Dec.{eqb}
-use borrow.Author.Tests.{eqb-true}
 use Rattle.format.specs.declared.layout.Verdict.the-variants.{Absent, Good, IgnoredList}
 use Rattle.format.specs.Bytes.{Bytes, text, same, allZero}
 use Rattle.format.specs.Numeral.{isDigit, numeral, both, numerals, split, decimal}
-use Rattle.format.specs.Line.{LineEnd, lf, Lines, unended, line, lines}
+use Rattle.format.specs.Line.{LineEnd, lf, lineEnd, Lines, unended, line, lines}
 use Rattle.format.specs.Comments.{indexLine}
 use Rattle.format.specs.Tree.{yamlLine, endLine}
-use Rattle.format.specs.Index.{without, trim, inBrackets, listed, indexed, judged, verdict, Entry, entry, entries, rendering, spaced, indexText, IsIndex}
-use Rattle.format.proofs.ByteLaws.{and-left, and-right, same-true, eq-same, all-zero-true, zeros-all-zero, lacks, lacks-append, lacks-replicate}
+use Rattle.format.specs.Index.{without, trim, inBrackets, listed, dashStart, afterWord, withZeros, dashNumbers, atLeastOne, styled, indexed, judged, verdict, Entry, entry, entries, dashLine, StyledList, brackets, dashes, styledText, numbersOf, rendering, spaced, indexText, IsIndex}
+use Rattle.format.proofs.ByteLaws.{same-true, eq-same, zeros-all-zero, without-some, lacks, lacks-append, lacks-replicate}
 use Rattle.format.proofs.LineLaws.{joinLines, join-lines, IsLine, plain-line, AreLines, ends-snoc, lines-join}
-use Rattle.format.proofs.NumeralLaws.{decimal-is, decimal-lacks, joined-lacks, numeral-decimal, numeral-text, joined, AllLack, split-joined, split-parts}
+use Rattle.format.proofs.NumeralLaws.{decimal-is, decimal-lacks, joined-lacks, numeral-decimal, numeral-text, both-some, joined, AllLack, split-joined, split-parts}
 use Rattle.format.proofs.SpaceLaws.{trim-padded, trim-text}
-
--- a byte string is p and what is left of it behind p
-without-some : (p s u : Bytes) → without p s ≡ some u → s ≡ p ++ u
-unfolding without
-without-some [] s u h = cc
-without-some (a ∷ p) [] u h = cc
-without-some (a ∷ p) (b ∷ s) u h = go (eqb a b) refl (without-some p s u)
-  where
-    go : (x : Bool) → eqb a b ≡ x → (without p s ≡ some u → s ≡ p ++ u) → b ∷ s ≡ a ∷ (p ++ u)
-    go true e i = cc (eqb-true a b e, i (rw (e, without) at h))
-    go false e i = let n : none ≡ some u = rw (e, without) at h in cc
+use Rattle.format.proofs.DashLaws.{dashed-numbers, dashLines, endLines, zeros-read, dashes-read, some-read, some-again, dash-join, dashes-are-lines, dashes-again}
 
 -- the list's line, with u between the brackets
 abbrev listLine : Bytes → Bytes
@@ -82,14 +71,6 @@ entry-written : (p : Bytes) (n : ℕ) → numeral 10 (trim p) ≡ some n → ent
 unfolding entry
 entry-written p n h = rw (← numeral-text 10 (trim p) n h) (sym (trim-padded p .padded))
 
--- numbers that are read together are read one by one
-both-some : (x : Option ℕ) (y : Option (List ℕ)) (ns : List ℕ) → both x y ≡ some ns
-    → (n : ℕ) × (ms : List ℕ) × (x ≡ some n) × (y ≡ some ms) × (n ∷ ms ≡ ns)
-unfolding both
-both-some none y ns h = absurd (Option·none-ne-some ns h)
-both-some (some n) none ns h = absurd (Option·none-ne-some ns h)
-both-some (some n) (some ms) ns h = (n, ms, refl, refl, cc)
-
 -- parts that are read as numbers, trimmed, are entries of those numbers
 all-entries : (ps : List Bytes) (ns : List ℕ) → numerals 10 (map trim ps) ≡ some ns → AreEntries ps ns
 unfolding numerals
@@ -123,15 +104,6 @@ list-read t ns h =
       some-number = omega (arith, parts .some-part, ap length (es .written), length-map (es .list) entry);
     }
 
--- the lines of an index, with u between the brackets
-abbrev indexLines : LineEnd → LineEnd → LineEnd → LineEnd → Bytes → ℕ → Lines
-indexLines a b c d u zeros = line indexLine a (line yamlLine b (line (listLine u) c (line endLine d (unended (replicate zeros 0)))))
-
--- a rendering is the bytes of those lines
-rendering-join : (a b c d : LineEnd) (es : List Entry) (zeros : ℕ) → rendering a b c d es zeros ≡ joinLines (indexLines a b c d (entries es) zeros)
-unfolding rendering joinLines
-rendering-join a b c d es zeros = simp append-assoc
-
 -- the list's line is read by what is between its brackets
 line-read : (c : Bytes) (ns : List ℕ) → listed (inBrackets c) ≡ some ns → (u : Bytes) × (c ≡ listLine u) × (listed (some u) ≡ some ns)
 unfolding listed
@@ -141,39 +113,89 @@ line-read c ns h = go (inBrackets c) refl
     go none e = absurd (Option·none-ne-some ns (rw (e, listed) at h))
     go (some u) e = (u, brackets-some c u e, rw e at h)
 
--- l are the lines of an index that is read as these numbers
-record ReadIndex (l : Lines) (ns : List ℕ) : Type 0 where
-  first : LineEnd
-  second : LineEnd
-  third : LineEnd
-  fourth : LineEnd
-  list : Bytes
-  zeros : ℕ
-  lined : l ≡ indexLines first second third fourth list zeros
-  read : listed (some list) ≡ some ns
+-- the lines of a list, in front of others
+unfoldable listLines : StyledList → Lines → Lines
+listLines (brackets es e) l = line (listLine (entries es)) e l
+listLines (dashes e ds) l = line dashStart e (dashLines ds l)
 
--- only the four lines of an index, and zeros behind, are read as one
-index-read : (l : Lines) (ns : List ℕ) → indexed l ≡ some ns → ReadIndex l ns
-unfolding indexed
-index-read (unended t) ns h = absurd (Option·none-ne-some ns h)
-index-read (line a _ (unended t)) ns h = absurd (Option·none-ne-some ns h)
-index-read (line a _ (line b _ (unended t))) ns h = absurd (Option·none-ne-some ns h)
-index-read (line a _ (line b _ (line c _ (unended t)))) ns h = absurd (Option·none-ne-some ns h)
-index-read (line a _ (line b _ (line c _ (line d _ (line t _ l))))) ns h = absurd (Option·none-ne-some ns h)
-index-read (line a e (line b f (line c g (line d k (unended z))))) ns h = go (same a indexLine && same b yamlLine && same d endLine && allZero z) refl
+-- the lines of an index
+abbrev indexLines : LineEnd → LineEnd → StyledList → LineEnd → ℕ → Lines
+indexLines a b x d zeros = line indexLine a (line yamlLine b (listLines x (endLines d zeros)))
+
+-- what is found after a word
+word-read : (word : Bytes) (f : Lines → Option (List ℕ)) (l : Lines) (ns : List ℕ) → afterWord word f l ≡ some ns
+    → (e : LineEnd) × (m : Lines) × (l ≡ line word e m) × (f m ≡ some ns)
+unfolding afterWord
+word-read word f (unended t) ns h = absurd (Option·none-ne-some ns h)
+word-read word f (line t e l) ns h = go (same t word) refl
   where
-    go : (x : Bool) → (same a indexLine && same b yamlLine && same d endLine && allZero z) ≡ x
-        → ReadIndex (line a e (line b f (line c g (line d k (unended z))))) ns
-    go false q = absurd (Option·none-ne-some ns (rw (q, indexed) at h))
+    go : (x : Bool) → same t word ≡ x → (k : LineEnd) × (m : Lines) × (line t e l ≡ line word k m) × (f m ≡ some ns)
+    go true q = (e, l, ap (λ (u : Bytes). line u e l) (same-true t word q), rw (q, afterWord) at h)
+    go false q = absurd (Option·none-ne-some ns (rw (q, afterWord) at h))
+
+-- l are the lines of a list of these numbers, and the end of an index
+record ReadList (l : Lines) (ns : List ℕ) : Type 0 where
+  list : StyledList
+  last : LineEnd
+  zeros : ℕ
+  lined : l ≡ listLines list (endLines last zeros)
+  same-numbers : numbersOf list ≡ ns
+  some-number : 1 ≤ length ns
+
+-- only such lines are read as a list
+styled-read : (l : Lines) (ns : List ℕ) → styled l ≡ some ns → ReadList l ns
+unfolding styled listLines numbersOf
+styled-read (unended t) ns h = absurd (Option·none-ne-some ns h)
+styled-read (line t e l) ns h = go (same t dashStart) refl
+  where
+    go : (x : Bool) → same t dashStart ≡ x → ReadList (line t e l) ns
     go true q =
-        let (u, third, read) = line-read c ns (rw (q, indexed) at h) in
-        let texts = and-left (same a indexLine && same b yamlLine && same d endLine) _ q in
-        let heads = and-left (same a indexLine && same b yamlLine) _ texts in
-        let one = same-true a indexLine (and-left _ _ heads) in
-        let two = same-true b yamlLine (and-right (same a indexLine) _ heads) in
-        let four = same-true d endLine (and-right (same a indexLine && same b yamlLine) _ texts) in
-        let tail = all-zero-true z (and-right (same a indexLine && same b yamlLine && same d endLine) _ q) in
-        record { first = e; second = f; third = g; fourth = k; list = u; zeros = length z; lined = cc; read = read }
+        let (found, some-number) = some-read (dashNumbers l) ns (rw (q, styled) at h) in
+        let r = dashes-read l ns found in
+        record {
+          list = dashes e (r .list);
+          last = r .last;
+          zeros = r .zeros;
+          lined = ap (λ (u : Bytes). line u e l) (same-true t dashStart q) ∙ ap (line dashStart e) (r .lined);
+          same-numbers = r .same-numbers;
+          some-number = some-number;
+        }
+    go false q =
+        let (d, m, ended, found) = word-read endLine _ l ns (rw (q, styled) at h) in
+        let (k, z, inner) = zeros-read (listed (inBrackets t)) m ns found in
+        let (u, bracketed, read) = line-read t ns inner in
+        let es = list-read u ns read in
+        record {
+          list = brackets (es .list) e;
+          last = d;
+          zeros = k;
+          lined = cc (bracketed, ended, z, es .written);
+          same-numbers = es .same-numbers;
+          some-number = omega (arith, es .some-number, length-map (es .list) (λ (x : Entry). x .number), ap length (es .same-numbers));
+        }
+
+-- a list is the bytes of its lines
+list-join : (x : StyledList) (l : Lines) → styledText x ++ joinLines l ≡ joinLines (listLines x l)
+unfolding styledText listLines joinLines
+list-join (brackets es e) l = grouped (text "--- [") (entries es) (text "]") (lineEnd e) (joinLines l)
+  where
+    grouped : (a b c d z : Bytes) → a ++ b ++ c ++ d ++ z ≡ a ++ (b ++ c) ++ (d ++ z)
+    grouped a b c d z = simp append-assoc
+list-join (dashes e ds) l =
+    grouped dashStart (lineEnd e) (flatMap dashLine ds) (joinLines l) ∙ ap (λ (z : Bytes). dashStart ++ (lineEnd e ++ z)) (sym (dash-join ds l))
+  where
+    grouped : (a b c z : Bytes) → a ++ b ++ c ++ z ≡ a ++ (b ++ (c ++ z))
+    grouped a b c z = simp append-assoc
+
+-- a rendering is the bytes of its lines
+rendering-join : (a b : LineEnd) (x : StyledList) (d : LineEnd) (zeros : ℕ) → rendering a b x d zeros ≡ joinLines (indexLines a b x d zeros)
+unfolding rendering joinLines
+rendering-join a b x d zeros =
+    grouped indexLine (lineEnd a) yamlLine (lineEnd b) (styledText x) endLine (lineEnd d) (replicate zeros 0)
+    ∙ ap (λ (t : Bytes). indexLine ++ (lineEnd a ++ (yamlLine ++ (lineEnd b ++ t)))) (list-join x (endLines d zeros))
+  where
+    grouped : (i a y b x e d z : Bytes) → i ++ a ++ y ++ b ++ x ++ e ++ d ++ z ≡ i ++ (a ++ (y ++ (b ++ (x ++ (e ++ (d ++ z))))))
+    grouped i a y b x e d z = simp append-assoc
 
 -- numbers are good if they are the offsets
 judged-good : (offsets : List ℕ) (o : Option (List ℕ)) → judged offsets o ≡ Good → o ≡ some offsets
@@ -195,28 +217,29 @@ good-read offsets t h = go (allZero t) refl
     go false e = judged-good offsets (indexed (lines t)) (rw (e, verdict) at h)
 
 -- what is read as the offsets is a rendering of them
-read-is-index : (offsets : List ℕ) (t : Bytes) → ReadIndex (lines t) offsets → IsIndex offsets t
-read-is-index offsets t i =
-    let l = list-read (i .list) offsets (i .read) in
+read-is-index : (offsets : List ℕ) (t : Bytes) → indexed (lines t) ≡ some offsets → IsIndex offsets t
+unfolding indexed
+read-is-index offsets t h =
+    let (a, l, first, then) = word-read indexLine _ (lines t) offsets h in
+    let (b, m, second, rest) = word-read yamlLine _ l offsets then in
+    let r = styled-read m offsets rest in
     record {
-      first = i .first;
-      second = i .second;
-      third = i .third;
-      fourth = i .fourth;
-      list = l .list;
-      zeros = i .zeros;
+      first = a;
+      second = b;
+      list = r .list;
+      last = r .last;
+      zeros = r .zeros;
       written =
           sym (join-lines t)
-          ∙ ap joinLines (i .lined)
-          ∙ ap (λ (u : Bytes). joinLines (indexLines (i .first) (i .second) (i .third) (i .fourth) u (i .zeros))) (sym (l .written))
-          ∙ sym (rendering-join (i .first) (i .second) (i .third) (i .fourth) (l .list) (i .zeros));
-      same-numbers = l .same-numbers;
-      some-number = l .some-number;
+          ∙ ap joinLines (first ∙ ap (line indexLine a) (second ∙ ap (line yamlLine b) (r .lined)))
+          ∙ sym (rendering-join a b (r .list) (r .last) (r .zeros));
+      same-numbers = r .same-numbers;
+      some-number = r .some-number;
     }
 
 -- a good index is a rendering of the offsets
 pub good-is-index : (offsets : List ℕ) (t : Bytes) → verdict offsets t ≡ Good → IsIndex offsets t
-good-is-index offsets t h = read-is-index offsets t (index-read (lines t) offsets (good-read offsets t h))
+good-is-index offsets t h = read-is-index offsets t (good-read offsets t h)
 
 -- an entry has digits and spaces only
 entries-lack : (b : ℕ) → eqb 32 b ≡ false → isDigit b ≡ false → (es : List Entry) → AllLack b (map entry es)
@@ -236,16 +259,21 @@ list-is-line es e =
     let whole = lacks-append 10 (text "--- [") (u ++ text "]") refl (lacks-append 10 u (text "]") lack refl) in
     plain-line (listLine u) e whole (ends-snoc 13 93 (text "--- [" ++ u))
 
+-- the lines of a list have texts of lines, if those after them do
+list-are-lines : (x : StyledList) (l : Lines) → AreLines l → AreLines (listLines x l)
+unfolding listLines
+list-are-lines (brackets es e) l h = (list-is-line es e, h)
+list-are-lines (dashes e ds) l h = (plain-line dashStart e refl refl, dashes-are-lines ds l h)
+
 -- the lines of an index have texts of lines
-index-are-lines : (a b c d : LineEnd) (es : List Entry) (zeros : ℕ) → AreLines (indexLines a b c d (entries es) zeros)
-index-are-lines a b c d es zeros =
-    let end : AreLines (line endLine d (unended (replicate zeros 0))) = (plain-line endLine d refl refl, lacks-replicate 10 0 zeros refl) in
-    (plain-line indexLine a refl refl, (plain-line yamlLine b refl refl, (list-is-line es c, end)))
+index-are-lines : (a b : LineEnd) (x : StyledList) (d : LineEnd) (zeros : ℕ) → AreLines (indexLines a b x d zeros)
+index-are-lines a b x d zeros =
+    let end : AreLines (endLines d zeros) = (plain-line endLine d refl refl, lacks-replicate 10 0 zeros refl) in
+    (plain-line indexLine a refl refl, (plain-line yamlLine b refl refl, list-are-lines x (endLines d zeros) end))
 
 -- a rendering has the lines of an index
-lines-rendering : (a b c d : LineEnd) (es : List Entry) (zeros : ℕ) → lines (rendering a b c d es zeros) ≡ indexLines a b c d (entries es) zeros
-lines-rendering a b c d es zeros =
-    ap lines (rendering-join a b c d es zeros) ∙ lines-join (indexLines a b c d (entries es) zeros) (index-are-lines a b c d es zeros)
+lines-rendering : (a b : LineEnd) (x : StyledList) (d : LineEnd) (zeros : ℕ) → lines (rendering a b x d zeros) ≡ indexLines a b x d zeros
+lines-rendering a b x d zeros = ap lines (rendering-join a b x d zeros) ∙ lines-join (indexLines a b x d zeros) (index-are-lines a b x d zeros)
 
 -- entries are split at their commas
 split-entries : (es : List Entry) → 1 ≤ length es → split 44 (entries es) ≡ map entry es
@@ -264,11 +292,14 @@ read-entries [] h = refl
 read-entries (e ∷ es) h = rw (trim-entry e, numeral-decimal 10 (e .number) (omega arith) (h 0), read-entries es (λ i. h (suc i)))
 
 -- the lines of an index are read as its numbers
-read-lines : (a b c d : LineEnd) (es : List Entry) (zeros : ℕ) → 1 ≤ length es → ((i : ℕ) → getD (numbers es) i 0 < 10 ^ 10)
-    → indexed (indexLines a b c d (entries es) zeros) ≡ some (numbers es)
-unfolding indexed listed
-read-lines a b c d es zeros p h =
-    rw (zeros-all-zero zeros, indexed, brackets-of (entries es), split-entries es p) (read-entries es h)
+read-lines : (a b : LineEnd) (x : StyledList) (d : LineEnd) (zeros : ℕ) → 1 ≤ length (numbersOf x) → ((i : ℕ) → getD (numbersOf x) i 0 < 10 ^ 10)
+    → indexed (indexLines a b x d zeros) ≡ some (numbersOf x)
+unfolding indexed afterWord styled withZeros listLines listed numbersOf
+read-lines a b (brackets es c) d zeros p h =
+    let some-entry : 1 ≤ length es = omega (arith, length-map es (λ (e : Entry). e .number)) in
+    rw (zeros-all-zero zeros, withZeros, brackets-of (entries es), split-entries es some-entry) (read-entries es h)
+read-lines a b (dashes c ds) d zeros p h =
+    ap atLeastOne (dashes-again ds d zeros h) ∙ some-again (dashed-numbers ds) p
 
 -- what is read as the offsets is good
 read-good : (offsets : List ℕ) (t : Bytes) → allZero t ≡ false → indexed (lines t) ≡ some offsets → verdict offsets t ≡ Good
@@ -276,17 +307,17 @@ unfolding verdict judged
 read-good offsets t z h = rw (z, verdict, h, eq-same offsets offsets refl, judged)
 
 -- a rendering of numbers of at most ten digits is a good index of them
-rendering-good : (a b c d : LineEnd) (es : List Entry) (zeros : ℕ) → 1 ≤ length es → ((i : ℕ) → getD (numbers es) i 0 < 10 ^ 10)
-    → verdict (numbers es) (rendering a b c d es zeros) ≡ Good
+rendering-good : (a b : LineEnd) (x : StyledList) (d : LineEnd) (zeros : ℕ) → 1 ≤ length (numbersOf x) → ((i : ℕ) → getD (numbersOf x) i 0 < 10 ^ 10)
+    → verdict (numbersOf x) (rendering a b x d zeros) ≡ Good
 unfolding rendering
-rendering-good a b c d es zeros p h =
-    read-good (numbers es) (rendering a b c d es zeros) refl (ap indexed (lines-rendering a b c d es zeros) ∙ read-lines a b c d es zeros p h)
+rendering-good a b x d zeros p h =
+    read-good (numbersOf x) (rendering a b x d zeros) refl (ap indexed (lines-rendering a b x d zeros) ∙ read-lines a b x d zeros p h)
 
 -- a rendering of the offsets, where they have at most ten digits, is a good index
 pub index-is-good : (offsets : List ℕ) (t : Bytes) → ((i : ℕ) → getD offsets i 0 < 10 ^ 10) → IsIndex offsets t → verdict offsets t ≡ Good
 index-is-good offsets t h i =
     ap₂ verdict (sym (i .same-numbers)) (i .written)
-    ∙ rendering-good (i .first) (i .second) (i .third) (i .fourth) (i .list) (i .zeros) (i .some-number) (λ k. rw (i .same-numbers) (h k))
+    ∙ rendering-good (i .first) (i .second) (i .list) (i .last) (i .zeros) (rw (i .same-numbers) (i .some-number)) (λ k. rw (i .same-numbers) (h k))
 
 -- a number after a comma, as it is written here
 abbrev next : ℕ → Entry
@@ -300,17 +331,16 @@ spaced-numbers (n ∷ ns) = ap (λ (ms : List ℕ). n ∷ ms) (map-map (λ (e : 
 
 -- the index that is written is an index of the offsets
 pub text-is-index : (offsets : List ℕ) → 1 ≤ length offsets → IsIndex offsets (indexText offsets)
-unfolding indexText
+unfolding indexText numbersOf
 text-is-index offsets h = record {
   first = lf;
   second = lf;
-  third = lf;
-  fourth = lf;
-  list = spaced offsets;
+  list = brackets (spaced offsets) lf;
+  last = lf;
   zeros = 0;
   written = refl;
   same-numbers = spaced-numbers offsets;
-  some-number = omega (arith, length-map (spaced offsets) (λ (e : Entry). e .number), ap length (spaced-numbers offsets));
+  some-number = h;
 }
 
 -- how many digits numbers have together
@@ -331,7 +361,7 @@ entries-length e (n ∷ ns) = simp length-append (omega (arith, entry-length (ne
 
 -- the index that is written is as long as its fixed bytes, its digits, and a comma and a space between each two numbers
 pub text-length : (offsets : List ℕ) → 1 ≤ length offsets → length (indexText offsets) ≡ 39 + digitCount offsets + 2 * (length offsets - 1)
-unfolding indexText rendering spaced digitCount
+unfolding indexText rendering styledText spaced digitCount
 text-length [] h = absurd (omega arith)
 text-length (n ∷ ns) h =
     let e : Entry = record { before = 0; number = n; after = 0 } in
@@ -346,6 +376,6 @@ digits-at-most (n ∷ ns) h =
 
 -- the index of at most 64 offsets below 2 ^ 32 takes at most 805 bytes
 pub text-at-most : (offsets : List ℕ) → length offsets ≤ 64 → ((i : ℕ) → getD offsets i 0 < 2 ^ 32) → length (indexText offsets) ≤ 805
-unfolding indexText rendering spaced entries
+unfolding indexText rendering styledText spaced entries
 text-at-most [] h k = omega arith
 text-at-most (n ∷ ns) h k = omega (arith, text-length (n ∷ ns) (omega arith), digits-at-most (n ∷ ns) k)

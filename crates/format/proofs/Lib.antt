@@ -13,6 +13,7 @@ pub mod ByteLaws
 pub mod LineLaws
 pub mod NumeralLaws
 pub mod SpaceLaws
+pub mod DashLaws
 pub mod IndexLaws
 pub mod ReadLaws
 pub mod LocalLaws

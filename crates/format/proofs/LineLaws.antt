@@ -28,6 +28,12 @@ ends-snoc b a [] = refl
 ends-snoc b a (c ∷ []) = refl
 ends-snoc b a (c ∷ d ∷ s) = ends-snoc b a (d ∷ s)
 
+-- a text that lacks a byte does not end in it
+pub lacks-ends : (b : ℕ) (t : Bytes) → lacks b t ≡ true → endsIn b t ≡ false
+lacks-ends b [] h = refl
+lacks-ends b (a ∷ []) h = lacks-head b a [] h
+lacks-ends b (a ∷ c ∷ t) h = lacks-ends b (c ∷ t) (lacks-tail b a (c ∷ t) h)
+
 -- t is the text of a line that ends in e: it has no 0A, and no 0D at its end that would belong to the line end
 pub record IsLine (t : Bytes) (e : LineEnd) : Type 0 where
   pub no-feed : lacks 10 t ≡ true

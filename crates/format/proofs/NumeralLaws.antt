@@ -3,7 +3,7 @@ use Prim.Native.Nat.{ℕ, zero, suc, _+_, _-_, _*_, _/_, _%_, _^_, _≤_, _<_}
 use mathlib.Core.Path.{_≡_, refl, sym, ap, ap₂, _∙_}
 use mathlib.Core.Bool.{Bool, true, false, _&&_, _||_, not, and-assoc, and-true, or-true, true≢false}
 use mathlib.Core.List.{List, [], _∷_, _++_, append-nil}
-use mathlib.Core.Option.{some}
+use mathlib.Core.Option.{Option, none, some, Option·none-ne-some}
 use native.Mathlib.Nat.{pow-suc, pow-succ', one-le-mul, one-le-pow, lt-of-lt-of-le, pow-le-pow-right}
 use native.Mathlib.Omega.{arith}
 use lib.ListN.{length, length-append}
@@ -12,7 +12,7 @@ use lib.Dec.{eqb, leb, ltb}
 use lib.Arith.{digits-lt, digits-div, digits-mod}
 use borrow.Author.Tests.{ltb-true, ltb-false, lt-ltb, le-ltb, leb-true, le-leb, lt-leb, eqb-false, ne-eqb, not-true, eqb-true, eq-eqb}
 use Rattle.format.specs.Bytes.{Bytes, text, begins}
-use Rattle.format.specs.Numeral.{isDigit, allDigits, decimalValue, isNumeral, numeral, split, leadFirst, digitsOf, decimal}
+use Rattle.format.specs.Numeral.{isDigit, allDigits, decimalValue, isNumeral, numeral, both, split, leadFirst, digitsOf, decimal}
 use Rattle.format.proofs.ByteLaws.{and-left, and-right, and-both, lacks, lacks-head, lacks-tail, lacks-cons, lacks-append}
 
 -- t is x in decimal: digits, one or more and no more than it takes, that give x, with no leading zero but in a lone 0
@@ -241,6 +241,14 @@ module _ (most : ℕ) (t : Bytes) (n : ℕ) (h : numeral most t ≡ some n) wher
   numeral-below =
       let few = leb-true (length t) most (and-right (leb 1 (length t)) _ numeral-sized) in
       lt-of-lt-of-le (rw (numeral-value .1) at (value-below t numeral-digits)) (pow-le-pow-right (omega arith) few)
+
+-- numbers that are read together are read one by one
+pub both-some : (x : Option ℕ) (y : Option (List ℕ)) (ns : List ℕ) → both x y ≡ some ns
+    → (n : ℕ) × (ms : List ℕ) × (x ≡ some n) × (y ≡ some ms) × (n ∷ ms ≡ ns)
+unfolding both
+both-some none y ns h = absurd (Option·none-ne-some ns h)
+both-some (some n) none ns h = absurd (Option·none-ne-some ns h)
+both-some (some n) (some ms) ns h = (n, ms, refl, refl, cc)
 
 -- parts with the byte b between them
 unfoldable pub joined : ℕ → List Bytes → Bytes

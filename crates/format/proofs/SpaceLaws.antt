@@ -9,7 +9,7 @@ use lib.ListN.{length, length-reverse, replicate, replicate-append-replicate}
 use lib.Dec.{eqb}
 use borrow.Author.Tests.{eqb-true}
 use Rattle.format.specs.Bytes.{Bytes}
-use Rattle.format.specs.Index.{trimStart, trim}
+use Rattle.format.specs.Index.{trimStart, trimEnd, trim}
 use Rattle.format.proofs.ByteLaws.{lacks, lacks-head, lacks-reverse}
 
 -- so many spaces
@@ -36,7 +36,7 @@ start-spaces (b ∷ s) = go (eqb b 32) refl (start-spaces s)
     go false e i = (0, rw (e, trimStart))
 
 -- what is taken away at the end are spaces
-end-spaces : (s : Bytes) → (n : ℕ) × (s ≡ reverse (trimStart (reverse s)) ++ spaces n)
+pub end-spaces : (s : Bytes) → (n : ℕ) × (s ≡ trimEnd s ++ replicate n 32)
 end-spaces s =
     let i = start-spaces (reverse s) in
     let r = trimStart (reverse s) in
@@ -71,9 +71,13 @@ unfolding trimStart
 start-text [] z p h = absurd (omega arith)
 start-text (b ∷ d) z p h = rw (lacks-head 32 b d h, trimStart)
 
--- a text without spaces is what is left of it with spaces around
-pub trim-text : (i : ℕ) (d : Bytes) (j : ℕ) → 1 ≤ length d → lacks 32 d ≡ true → trim (replicate i 32 ++ d ++ replicate j 32) ≡ d
-trim-text i d j p h =
+-- a text without spaces is what is left of it with spaces after it
+pub end-text : (d : Bytes) (j : ℕ) → 1 ≤ length d → lacks 32 d ≡ true → trimEnd (d ++ replicate j 32) ≡ d
+end-text d j p h =
     let q : 1 ≤ length (reverse d) = rw length-reverse p in
     let kept : trimStart (reverse d) ≡ reverse d = rw append-nil at (start-text (reverse d) [] q (lacks-reverse 32 d h)) in
-    rw (append-assoc, start-run, start-text d (spaces j), reverse-append, reverse-spaces, start-run, kept) (reverse-reverse d)
+    rw (reverse-append, reverse-spaces, start-run, kept) (reverse-reverse d)
+
+-- and with spaces around
+pub trim-text : (i : ℕ) (d : Bytes) (j : ℕ) → 1 ≤ length d → lacks 32 d ≡ true → trim (replicate i 32 ++ d ++ replicate j 32) ≡ d
+trim-text i d j p h = rw (append-assoc, start-run, start-text d (spaces j)) (end-text d j p h)

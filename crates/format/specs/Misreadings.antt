@@ -26,6 +26,10 @@ abbrev pub nested : ℕ → Bytes
 nested zero = fileB
 nested (suc n) = fileA ++ blockOf (nested n)
 
+-- an index with these lines for its list
+abbrev pub indexOfLines : Bytes → Bytes
+indexOfLines t = text "#ASDF BLOCK INDEX\n%YAML 1.1\n" ++ t ++ text "...\n"
+
 abbrev pub misreadings : List Example
 misreadings =
     -- the mark inside a tree begins no block
@@ -61,6 +65,24 @@ misreadings =
     -- an index of nothing, and a number above 2^32
     ∷ Reads (fileB ++ indexWith []) (layoutWith NoTree 1 IgnoredForm)
     ∷ Reads (fileB ++ indexWith (text "4294967308")) (layoutWith NoTree 1 IgnoredList)
+    -- an index with dashes: spaces only after a number, also before a line end of two bytes, and zeros after all
+    ∷ Reads (fileB ++ indexOfLines (text "---\n- 12\n")) (layoutWith NoTree 1 Good)
+    ∷ Reads (fileB ++ indexOfLines (text "---\r\n- 12  \r\n") ++ (0 ∷ [])) (layoutWith NoTree 1 Good)
+    ∷ Reads (fileB ++ indexOfLines (text "---\n-  12\n")) (layoutWith NoTree 1 IgnoredForm)
+    ∷ Reads (fileB ++ indexOfLines (text "---\n - 12\n")) (layoutWith NoTree 1 IgnoredForm)
+    ∷ Reads (fileB ++ indexOfLines (text "---\n- 12\n") ++ text "x") (layoutWith NoTree 1 IgnoredForm)
+    -- its numbers are the offsets in their order, and its form comes first
+    ∷ Reads (fileB ++ emptyBlock ++ indexOfLines (text "---\n- 12\n- 66\n")) (layoutWith NoTree 2 Good)
+    ∷ Reads (fileB ++ emptyBlock ++ indexOfLines (text "---\n- 66\n- 12\n")) (layoutWith NoTree 2 IgnoredList)
+    ∷ Reads (fileB ++ indexOfLines (text "---\n- 12\n- 66\n")) (layoutWith NoTree 1 IgnoredList)
+    ∷ Reads (fileB ++ indexOfLines (text "---\n- 4294967308\n")) (layoutWith NoTree 1 IgnoredList)
+    ∷ Reads (fileB ++ indexOfLines (text "---\n- 13\n- 012\n")) (layoutWith NoTree 1 IgnoredForm)
+    -- there is a number, and no empty line; `--- ` is another start line; and the two styles are not mixed
+    ∷ Reads (fileB ++ indexOfLines (text "---\n")) (layoutWith NoTree 1 IgnoredForm)
+    ∷ Reads (fileB ++ indexOfLines (text "---\n- 12\n\n")) (layoutWith NoTree 1 IgnoredForm)
+    ∷ Reads (fileB ++ indexOfLines (text "--- \n- 12\n")) (layoutWith NoTree 1 IgnoredForm)
+    ∷ Reads (fileB ++ indexOfLines (text "--- [12]\n- 12\n")) (layoutWith NoTree 1 IgnoredForm)
+    ∷ Reads (fileB ++ indexOfLines (text "---\n[12]\n")) (layoutWith NoTree 1 IgnoredForm)
     -- 64 blocks, and the mark of one more
     ∷ Reads (fileA ++ copies 64 emptyBlock) (layoutWith NoTree 64 Absent)
     ∷ Reads (fileA ++ copies 64 emptyBlock ++ mark) (refused (refusal 16 3468))

@@ -10,7 +10,7 @@ use lib.Seq.{take-all, drop-cons}
 use Rattle.format.specs.Bytes.{Bytes, text}
 use Rattle.format.specs.Lent.{placed}
 use Rattle.format.specs.Numeral.{decimal}
-use Rattle.format.specs.Index.{Entry, entry, entries, rendering, spaced, indexText}
+use Rattle.format.specs.Index.{Entry, entry, entries, styledText, rendering, spaced, indexText}
 use Rattle.format.proofs.IndexLaws.{digitCount, text-length}
 use Rattle.put.specs.Decimal.{DecimalLength}
 use Rattle.put.proofs.PutLaws.{placed-append, placed-length, placed-sets, placed-behind}
@@ -48,7 +48,7 @@ back = text "]\n...\n"
 
 -- an index is its list with what stands before and behind it
 index-parts : (ns : List ℕ) → indexText ns ≡ front ++ (listText ns ++ back)
-unfolding indexText rendering
+unfolding indexText rendering styledText
 index-parts ns = ap (λ (t : Bytes). front ++ t) (behind (listText ns))
   where
     behind : (l : Bytes) → l ++ text "]" ++ text "\n" ++ text "..." ++ text "\n" ++ [] ≡ l ++ back

@@ -20,8 +20,8 @@ use Rattle.verdict.proofs.TrimLaws.{last-byte}
 abbrev opening : Bytes
 opening = text "--- ["
 
--- what is left behind p, where p stands, is all but p
-without-begins : (p s : Bytes) → without p s ≡ elim (begins p s) [ true ↦ some (drop (length p) s) | false ↦ none ]
+-- what is left after p, where p stands, is all but p
+pub without-begins : (p s : Bytes) → without p s ≡ elim (begins p s) [ true ↦ some (drop (length p) s) | false ↦ none ]
 unfolding without
 without-begins [] s = refl
 without-begins (a ∷ p) [] = refl
@@ -64,7 +64,6 @@ module _ (c : Bytes) where
 
 -- where there are no numbers there is no list
 pub nowhere : (t : Bytes) (numbers : Option (List ℕ)) → numbers ≡ none → ListRead t numbers Nowhere
-unfolding listed
 nowhere t numbers h = record { is = h; inside = tt }
 
 -- the answer r for the line from one offset of t to another

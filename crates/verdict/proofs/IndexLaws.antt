@@ -2,7 +2,7 @@
 use Prim.Native.Nat.{ℕ, _-_, _≤_}
 use native.Mathlib.Omega.{arith}
 use mathlib.Core.Path.{_≡_, refl, sym, ap, _∙_}
-use mathlib.Core.Bool.{Bool, true, false, _&&_, not}
+use mathlib.Core.Bool.{Bool, true, false, not}
 use mathlib.Core.List.{List}
 use mathlib.Core.Option.{Option, none, some}
 use lib.ListN.{length, take, drop, length-drop}
@@ -14,7 +14,7 @@ use Rattle.format.specs.Bytes.{Bytes, same, allZero}
 use Rattle.format.specs.Line.{Lines, unended, line, lines}
 use Rattle.format.specs.Comments.{indexLine}
 use Rattle.format.specs.Tree.{yamlLine, endLine}
-use Rattle.format.specs.Index.{inBrackets, listed, indexed, judged}
+use Rattle.format.specs.Index.{inBrackets, listed, dashStart, afterWord, withZeros, dashNumbers, atLeastOne, styled, indexed, judged}
 use Rattle.format.proofs.ByteLaws.{eq-same, all-zero-true, lacks-replicate}
 use Rattle.format.proofs.LineLaws.{joinLines, join-lines, lines-unended}
 use Rattle.scan.specs.declared.line.Line.{Line}
@@ -22,76 +22,38 @@ use Rattle.scan.specs.declared.line.Line.the-variants.{Ended, Unended}
 use Rattle.scan.specs.declared.line.Exact.{Exact}
 use Rattle.scan.specs.declared.line.Exact.the-variants.{Behind, Other}
 use Rattle.scan.specs.Line.{LineRead, ExactRead}
-use Rattle.scan.proofs.LineLaws.{unended-lines, ended-first}
+use Rattle.scan.proofs.LineLaws.{unended-lines, ended-first, ended-inside}
 use Rattle.scan.proofs.ExactLaws.{other-text, behind-first}
 use Rattle.verdict.specs.declared.form.ListStep.{ListStep}
-use Rattle.verdict.specs.declared.form.ListStep.the-variants.{Between, Nowhere}
-use Rattle.verdict.specs.Index.{ListRead}
+use Rattle.verdict.specs.declared.form.ListStep.the-variants.{Between, Dashes, Nowhere}
+use Rattle.verdict.specs.Index.{ListRead, EndRead}
 use Rattle.verdict.proofs.BracketLaws.{nowhere}
-
--- what f finds behind the first line, if that is the word
-unfoldable behindWord : Bytes → (Lines → Option (List ℕ)) → Lines → Option (List ℕ)
-behindWord word f (unended t) = none
-behindWord word f (line t e l) = elim (same t word) [ true ↦ f l | false ↦ none ]
-
--- o, if only zeros are left
-unfoldable withZeros : Option (List ℕ) → Lines → Option (List ℕ)
-withZeros o (unended z) = elim (allZero z) [ true ↦ o | false ↦ none ]
-withZeros o (line t e l) = none
-
--- the numbers of the list's line, if the end of an index stands behind it
-unfoldable withEnd : Lines → Option (List ℕ)
-withEnd (unended t) = none
-withEnd (line t e l) = behindWord endLine (withZeros (listed (inBrackets t))) l
-
--- nothing is found, whether the test holds or not
-never : (x : Bool) (o : Option (List ℕ)) → none ≡ o → _≡_ {A = Option (List ℕ)} none (elim x [ true ↦ o | false ↦ none ])
-never true o h = h
-never false o h = refl
-
--- an index is read line by line
-index-lines : (l : Lines) → indexed l ≡ behindWord indexLine (behindWord yamlLine withEnd) l
-unfolding indexed behindWord withEnd withZeros
-index-lines (unended t) = refl
-index-lines (line a _ (unended t)) = never (same a indexLine) _ refl
-index-lines (line a _ (line b _ (unended t))) = never (same a indexLine) _ (never (same b yamlLine) _ refl)
-index-lines (line a _ (line b _ (line c _ (unended t)))) = never (same a indexLine) _ (never (same b yamlLine) _ refl)
-index-lines (line a _ (line b _ (line c _ (line d _ (line t _ l))))) =
-    never (same a indexLine) _ (never (same b yamlLine) _ (never (same d endLine) _ refl))
-index-lines (line a _ (line b _ (line c _ (line d _ (unended z))))) = tests (same a indexLine) (same b yamlLine) (same d endLine) (allZero z) _
-  where
-    tests : (x y z w : Bool) (o : Option (List ℕ)) → _≡_ {A = Option (List ℕ)} (elim (x && y && z && w) [ true ↦ o | false ↦ none ])
-        (elim x [ true ↦ elim y [ true ↦ elim z [ true ↦ elim w [ true ↦ o | false ↦ none ] | false ↦ none ] | false ↦ none ] | false ↦ none ])
-    tests true true true w o = refl
-    tests true true false w o = refl
-    tests true false z w o = refl
-    tests false y z w o = refl
 
 module _ (t : Bytes) (at : ℕ) (word : Bytes) (r : Exact) (read : ExactRead t word at r) where
   -- the line is another
-  word-other : (f : Lines → Option (List ℕ)) → r ≡ Other → behindWord word f (lines (drop at t)) ≡ none
-  unfolding behindWord
+  word-other : (f : Lines → Option (List ℕ)) → r ≡ Other → afterWord word f (lines (drop at t)) ≡ none
+  unfolding afterWord
   word-other f e = go (lines (drop at t)) refl
     where
-      go : (l : Lines) → lines (drop at t) ≡ l → behindWord word f l ≡ none
+      go : (l : Lines) → lines (drop at t) ≡ l → afterWord word f l ≡ none
       go (unended u) h = refl
-      go (line u k l) h = rw (other-text t word at r read u k l e h, behindWord)
+      go (line u k l) h = rw (other-text t word at r read u k l e h, afterWord)
 
   -- the next line begins inside
   pub behind-inside : (next : ℕ) → r ≡ Behind next → next ≤ length t
   behind-inside next e = (rw e at (read .inside)) .1
 
   -- the line is the word
-  word-behind : (f : Lines → Option (List ℕ)) (next : ℕ) → r ≡ Behind next → behindWord word f (lines (drop at t)) ≡ f (lines (drop next t))
-  unfolding behindWord
-  word-behind f next e = rw (behind-first t word at r read next e .cut, behindWord, eq-same word word refl)
+  word-after : (f : Lines → Option (List ℕ)) (next : ℕ) → r ≡ Behind next → afterWord word f (lines (drop at t)) ≡ f (lines (drop next t))
+  unfolding afterWord
+  word-after f next e = rw (behind-first t word at r read next e .cut, afterWord, eq-same word word refl)
 
 -- zeros have no line
 zeros-unended : (z : Bytes) → allZero z ≡ true → lines z ≡ unended z
 zeros-unended z h = lines-unended z (rw (all-zero-true z h) (lacks-replicate 10 0 (length z) refl))
 
 -- whether only zeros are left is seen in the bytes
-with-zeros : (o : Option (List ℕ)) (z : Bytes) (x : Bool) → x ≡ allZero z → withZeros o (lines z) ≡ elim x [ true ↦ o | false ↦ none ]
+pub with-zeros : (o : Option (List ℕ)) (z : Bytes) (x : Bool) → x ≡ allZero z → withZeros o (lines z) ≡ elim x [ true ↦ o | false ↦ none ]
 unfolding withZeros joinLines
 with-zeros o z true h = rw (zeros-unended z (sym h), withZeros, sym h)
 with-zeros o z false h = go (lines z) refl
@@ -100,6 +62,10 @@ with-zeros o z false h = go (lines z) refl
     go (unended u) e = rw (ap allZero (sym (ap joinLines e) ∙ join-lines z) ∙ sym h, withZeros)
     go (line u k l) e = refl
 
+-- the bytes up to the end are all
+pub take-rest : (t : Bytes) (n : ℕ) → take (length t - n) (drop n t) ≡ drop n t
+take-rest t n = take-all (length t - n) (drop n t) (simp length-drop (omega arith))
+
 -- the answer r for the tail t
 abbrev IndexRead : Bytes → ListStep → Type 0
 IndexRead t r = ListRead t (indexed (lines t)) r
@@ -107,60 +73,76 @@ IndexRead t r = ListRead t (indexed (lines t)) r
 module _ (t : Bytes) (a : Exact) (first : ExactRead t indexLine 0 a) where
   -- the first line is another
   pub index-other : a ≡ Other → IndexRead t Nowhere
-  index-other h = nowhere t _ (index-lines (lines t) ∙ word-other t 0 indexLine a first _ h)
+  unfolding indexed
+  index-other h = nowhere t _ (word-other t 0 indexLine a first _ h)
 
   module _ (second : ℕ) (p : a ≡ Behind second) (b : Exact) (then : ExactRead t yamlLine second b) where
     -- the second line is next
-    index-behind : indexed (lines t) ≡ behindWord yamlLine withEnd (lines (drop second t))
-    index-behind = index-lines (lines t) ∙ word-behind t 0 indexLine a first _ second p
+    index-after : indexed (lines t) ≡ afterWord yamlLine styled (lines (drop second t))
+    unfolding indexed
+    index-after = word-after t 0 indexLine a first _ second p
 
     -- the second line is another
     pub yaml-other : b ≡ Other → IndexRead t Nowhere
-    yaml-other h = nowhere t _ (index-behind ∙ word-other t second yamlLine b then _ h)
+    yaml-other h = nowhere t _ (index-after ∙ word-other t second yamlLine b then _ h)
 
-    module _ (third : ℕ) (q : b ≡ Behind third) (c : Line) (read : LineRead t third c) where
-      -- the third line is next
-      yaml-behind : indexed (lines t) ≡ withEnd (lines (drop third t))
-      yaml-behind = index-behind ∙ word-behind t second yamlLine b then _ third q
+    -- the list is next
+    pub yaml-after : (third : ℕ) → b ≡ Behind third → (r : ListStep) → ListRead t (styled (lines (drop third t))) r → IndexRead t r
+    yaml-after third q r found = rw (index-after ∙ word-after t second yamlLine b then _ third q) found
 
-      -- there is no third line
-      pub list-unended : c ≡ Unended → IndexRead t Nowhere
-      unfolding withEnd
-      list-unended h = nowhere t _ (yaml-behind ∙ ap withEnd (unended-lines t third c read h))
+module _ (t : Bytes) (at : ℕ) (d : Exact) (read : ExactRead t endLine at d) where
+  -- there is no end line
+  pub end-other : d ≡ Other → EndRead t at false
+  end-other h = record { is = λ ns. word-other t at endLine d read _ h }
 
-      module _ (m next : ℕ) (e : c ≡ Ended m next) (d : Exact) (last : ExactRead t endLine next d) where
-        -- the numbers of the third line
-        abbrev numbers : Option (List ℕ)
-        numbers = listed (inBrackets (take (m - third) (drop third t)))
+  -- there is one, and zeros after it or not
+  pub end-zeros : (end : ℕ) → d ≡ Behind end → (z : Bool) → z ≡ allZero (take (length t - end) (drop end t)) → EndRead t at z
+  end-zeros end h z zeros = record {
+    is = λ ns. word-after t at endLine d read _ end h ∙ with-zeros ns (drop end t) z (zeros ∙ ap allZero (take-rest t end));
+  }
 
-        -- the fourth line is next
-        list-behind : indexed (lines t) ≡ behindWord endLine (withZeros numbers) (lines (drop next t))
-        unfolding withEnd
-        list-behind = yaml-behind ∙ ap withEnd (ended-first t third c read m next e .cut)
+-- the answer r for the list whose start line begins at an offset
+abbrev StyledRead : Bytes → ℕ → ListStep → Type 0
+StyledRead t at r = ListRead t (styled (lines (drop at t))) r
 
-        -- the fourth line is another
-        pub end-other : d ≡ Other → IndexRead t Nowhere
-        end-other h = nowhere t _ (list-behind ∙ word-other t next endLine d last _ h)
+module _ (t : Bytes) (at : ℕ) (c : Line) (read : LineRead t at c) where
+  -- there is no start line
+  pub start-unended : c ≡ Unended → StyledRead t at Nowhere
+  unfolding styled
+  start-unended h = nowhere t _ (ap styled (unended-lines t at c read h))
 
-        module _ (end : ℕ) (g : d ≡ Behind end) (z : Bool) (zeros : z ≡ allZero (take (length t - end) (drop end t))) where
-          -- the zeros are next
-          end-behind : indexed (lines t) ≡ elim z [ true ↦ numbers | false ↦ none ]
-          end-behind =
-              let all = take-all (length t - end) (drop end t) (simp length-drop (omega arith)) in
-              list-behind ∙ word-behind t next endLine d last _ end g ∙ with-zeros numbers (drop end t) z (zeros ∙ ap allZero all)
+  module _ (m next : ℕ) (e : c ≡ Ended m next) (x : Bool) (style : x ≡ same (take (m - at) (drop at t)) dashStart) where
+    -- the numbers of the start line, between brackets
+    abbrev numbers : Option (List ℕ)
+    numbers = listed (inBrackets (take (m - at) (drop at t)))
 
-          -- more than zeros stands behind
-          pub zeros-other : not z ≡ true → IndexRead t Nowhere
-          zeros-other h = nowhere t _ (rw (not-true z h) at end-behind)
+    -- the start line tells the style
+    start-read : styled (lines (drop at t))
+        ≡ elim x [ true ↦ atLeastOne (dashNumbers (lines (drop next t))) | false ↦ afterWord endLine (withZeros numbers) (lines (drop next t)) ]
+    unfolding styled
+    start-read = ap styled (ended-first t at c read m next e .cut) ∙ rw style
 
-          -- the numbers are those of the third line
-          pub zeros-only : not z ≡ false → (r : ListStep) → ListRead t (listed (inBrackets (take (m - third) (drop third t)))) r → IndexRead t r
-          zeros-only h r found = rw (rw (not-false z h) at end-behind) found
+    -- numbers after dashes are next
+    pub start-dashes : x ≡ true → StyledRead t at (Dashes next)
+    start-dashes h = record { is = rw h at start-read; inside = ended-inside t at c read m next e .inside }
+
+    module _ (h : x ≡ false) (z : Bool) (last : EndRead t next z) where
+      -- the numbers of the start line count if the index ends after it
+      start-after : styled (lines (drop at t)) ≡ elim z [ true ↦ numbers | false ↦ none ]
+      start-after = rw h at start-read ∙ last .is numbers
+
+      -- it does not
+      pub start-other : not z ≡ true → StyledRead t at Nowhere
+      start-other o = nowhere t _ (rw (not-true z o) at start-after)
+
+      -- it does
+      pub start-brackets : not z ≡ false → (r : ListStep) → ListRead t (listed (inBrackets (take (m - at) (drop at t)))) r → StyledRead t at r
+      start-brackets o r found = rw (rw (not-false z o) at start-after) found
 
 module _ (t : Bytes) (numbers : Option (List ℕ)) (r : ListStep) (read : ListRead t numbers r) where
   -- there is no list
   pub verdict-nowhere : (offsets : List ℕ) → r ≡ Nowhere → IgnoredForm ≡ judged offsets numbers
-  unfolding judged listed
+  unfolding judged
   verdict-nowhere offsets e = rw (read .is, e)
 
   module _ (from to : ℕ) (e : r ≡ Between from to) where
@@ -174,3 +156,13 @@ module _ (t : Bytes) (numbers : Option (List ℕ)) (r : ListStep) (read : ListRe
     -- its numbers are judged
     pub verdict-between : (offsets : List ℕ) (v : Verdict) → v ≡ judged offsets (listed (some (take (to - from) (drop from t)))) → v ≡ judged offsets numbers
     verdict-between offsets v h = rw (read .is, e) h
+
+  module _ (from : ℕ) (e : r ≡ Dashes from) where
+    -- the lines begin inside
+    pub dashes-inside : from ≤ length t
+    dashes-inside = rw e at (read .inside)
+
+    -- their numbers are judged
+    pub verdict-dashes : (offsets : List ℕ) (v : Verdict)
+        → v ≡ judged offsets (atLeastOne (dashNumbers (lines (take (length t - from) (drop from t))))) → v ≡ judged offsets numbers
+    verdict-dashes offsets v h = rw (read .is, e) (rw (take-rest t from) at h)

@@ -3,3 +3,4 @@ pub mod TrimLaws
 pub mod ListLaws
 pub mod BracketLaws
 pub mod IndexLaws
+pub mod DashLaws

@@ -61,7 +61,7 @@ judged-begin offsets none = refl
 judged-begin offsets (some ns) = refl
 
 -- one number more stands before the others
-judged-next : (equal : Bool) (k : ℕ) (offsets : List ℕ) (x : ℕ) (o : Option (List ℕ))
+pub judged-next : (equal : Bool) (k : ℕ) (offsets : List ℕ) (x : ℕ) (o : Option (List ℕ))
     → judgedFrom equal k offsets (both (some x) o) ≡ judgedFrom (agreesAt equal offsets k x) (k + 1) offsets o
 unfolding judgedFrom both
 judged-next equal k offsets x none = refl
@@ -72,21 +72,22 @@ judged-next equal k offsets x (some ns) = ap goodIf (go (ltb k (length offsets))
     go true e = rw (drop-cons offsets k 0 (ltb-true k (length offsets) e), add-one k, and-true equal) (sym (and-assoc equal _ _))
     go false e = rw (drop-of-length-le offsets (ltb-false k (length offsets) e), and-false equal)
 
--- no number is left, and if those before agree, so is no offset
-judged-last : (equal : Bool) (k : ℕ) (offsets : List ℕ) (x : ℕ)
-    → judgedFrom (agreesAt equal offsets k x) (k + 1) offsets (some []) ≡ goodIf (agreesAt equal offsets k x && eqb (length offsets) (k + 1))
-unfolding judgedFrom
-judged-last equal k offsets x = ap goodIf (go (agreesAt equal offsets k x) refl)
-  where
-    left : (n : ℕ) → n ≤ length offsets → (b : Bool) → eqb (length offsets) n ≡ b → same [] (drop n offsets) ≡ b
-    left n h true e = let all : length offsets ≤ n = omega (arith, eqb-true (length offsets) n e) in rw (drop-of-length-le offsets all)
-    left n h false e = rw (drop-cons offsets n 0 (omega (arith, eqb-false (length offsets) n e)))
+-- numbers that agree are not more than the offsets
+pub agrees-inside : (equal : Bool) (offsets : List ℕ) (k x : ℕ) (agree : Bool) → agree ≡ agreesAt equal offsets k x
+    → agree ≡ true → k + 1 ≤ length offsets
+agrees-inside equal offsets k x agree a e =
+    omega (arith, ltb-true k (length offsets) (and-right equal _ (and-left (equal && ltb k (length offsets)) _ (sym a ∙ e))))
 
-    go : (b : Bool) → agreesAt equal offsets k x ≡ b → (b && same [] (drop (k + 1) offsets)) ≡ (b && eqb (length offsets) (k + 1))
-    go false e = refl
-    go true e =
-        let inside = ltb-true k (length offsets) (and-right equal _ (and-left (equal && ltb k (length offsets)) _ e)) in
-        left (k + 1) (omega arith) (eqb (length offsets) (k + 1)) refl
+-- no number is left, and if those before agree, so is no offset
+pub judged-last : (equal : Bool) (k : ℕ) (offsets : List ℕ) → (equal ≡ true → k ≤ length offsets)
+    → judgedFrom equal k offsets (some []) ≡ goodIf (equal && eqb (length offsets) k)
+unfolding judgedFrom
+judged-last false k offsets h = refl
+judged-last true k offsets h = ap goodIf (left (eqb (length offsets) k) refl)
+  where
+    left : (b : Bool) → eqb (length offsets) k ≡ b → same [] (drop k offsets) ≡ b
+    left true e = let all : length offsets ≤ k = omega (arith, eqb-true (length offsets) k e) in rw (drop-of-length-le offsets all)
+    left false e = rw (drop-cons offsets k 0 (omega (arith, h refl, eqb-false (length offsets) k e)))
 
 -- t is what stands before the next comma, trimmed, and v is what is to be thought of the numbers that are left
 module _ (offsets : List ℕ) (list : Bytes) (at end : ℕ) (f : end ≡ at + indexOf 44 (slice at (length list) list))
@@ -115,4 +116,5 @@ module _ (offsets : List ℕ) (list : Bytes) (at end : ℕ) (f : end ≡ at + in
     -- there is none
     pub list-done : end ≡ length list → (w : Verdict) → w ≡ goodIf (agree && eqb (length offsets) (k + 1)) → w ≡ v
     unfolding numerals
-    list-done h w d = d ∙ rw a (sym (judged-last equal k offsets x)) ∙ rw (a, others-none 44 list end h) at next-left
+    list-done h w d =
+        d ∙ sym (judged-last agree (k + 1) offsets (agrees-inside equal offsets k x agree a)) ∙ rw (others-none 44 list end h) at next-left

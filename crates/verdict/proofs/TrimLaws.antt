@@ -8,8 +8,7 @@ use lib.ListN.{length, take, drop, getD, drop-of-length-le, length-drop}
 use lib.Seq.{drop-cons, take-suc, take-all, getD-drop}
 use borrow.Author.Tests.{eq-eqb, ne-eqb}
 use Rattle.format.specs.Bytes.{Bytes}
-use Rattle.format.specs.Index.{trimStart, trim}
-use Rattle.verdict.specs.Index.{trimEnd}
+use Rattle.format.specs.Index.{trimStart, trimEnd, trim}
 
 -- a first byte that is no space stays
 start-other : (b : ℕ) (s : Bytes) → (b ≡ 32 → ⊥) → trimStart (b ∷ s) ≡ b ∷ s

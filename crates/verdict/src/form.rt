@@ -2,8 +2,8 @@
 ghost use Prim.Native.Nat.{_-_, _≤_};
 ghost use lib.ListN.{length, take, drop};
 ghost use Rattle.format.specs.Line.{lines};
-ghost use Rattle.format.specs.Index.{indexed, listed, inBrackets};
-ghost use Rattle.verdict.specs.Index.{ListRead};
+ghost use Rattle.format.specs.Index.{indexed, styled, listed, inBrackets};
+ghost use Rattle.verdict.specs.Index.{ListRead, EndRead};
 use scan::line;
 use scan::line::Exact;
 use scan::line::Line;
@@ -11,7 +11,10 @@ use scan::text;
 
 // Where the list of an index stands.
 pub enum ListStep {
+    // Between brackets.
     Between { from: usize, to: usize },
+    // On the lines from here on, each number after a dash. The end line is not looked for yet.
+    Dashes(usize),
     Nowhere,
 }
 
@@ -25,16 +28,33 @@ pub(crate) fn index_list(t: &[u8]) -> ListStep
     let Exact::Behind(third) = line::exact_line(t, second, b"%YAML 1.1") else {
         return ListStep::Nowhere;
     };
-    let Line::Ended { text_end, next } = line::line_at(t, third) else {
+    styled_list(t, third)
+}
+
+// Where the list stands whose start line begins at an offset. That line tells the style.
+fn styled_list(t: &[u8], at: usize) -> ListStep
+    ensures { λ r. ⌜ ListRead (now (t .entry)) (styled (lines (drop at (now (t .entry))))) r ⌝ }
+{
+    let Line::Ended { text_end, next } = line::line_at(t, at) else {
         return ListStep::Nowhere;
     };
-    let Exact::Behind(end) = line::exact_line(t, next, b"...") else {
-        return ListStep::Nowhere;
-    };
-    if !text::only_zeros(&t[end..]) {
+    if text::is(&t[at..text_end], b"---") {
+        return ListStep::Dashes(next);
+    }
+    if !ends_at(t, next) {
         return ListStep::Nowhere;
     }
-    in_brackets(t, third, text_end)
+    in_brackets(t, at, text_end)
+}
+
+// Whether an index ends at an offset: with the end line, and zeros after it.
+fn ends_at(t: &[u8], at: usize) -> bool
+    ensures { λ r. ⌜ EndRead (now (t .entry)) at r ⌝ }
+{
+    let Exact::Behind(end) = line::exact_line(t, at, b"...") else {
+        return false;
+    };
+    text::only_zeros(&t[end..])
 }
 
 // What stands between `--- [` and the `]` at the end of a line.

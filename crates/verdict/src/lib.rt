@@ -1,4 +1,5 @@
 // The verdict on a block index.
+mod dashes;
 mod form;
 mod list;
 mod spaces;
@@ -17,5 +18,6 @@ pub fn judge(t: &[u8], offsets: &[u64]) -> Verdict
     match form::index_list(t) {
         ListStep::Nowhere => Verdict::IgnoredForm,
         ListStep::Between { from, to } => list::judge_list(&t[from..to], offsets),
+        ListStep::Dashes(from) => dashes::judge_lines(&t[from..], offsets),
     }
 }

@@ -11,7 +11,7 @@ use format::layout::Verdict;
 use scan::number;
 use scan::number::Number;
 
-// What to think of the numbers in a list. All of them are read, also behind one that does not agree: the form comes first.
+// What to think of the numbers in a list. All of them are read, also after one that does not agree: the form comes first.
 pub(crate) fn judge_list(list: &[u8], offsets: &[u64]) -> Verdict
     ensures { λ r. ⌜ r ≡ judged (now (offsets .entry)) (listed (some (now (list .entry)))) ⌝ }
 {
@@ -34,7 +34,7 @@ pub(crate) fn judge_list(list: &[u8], offsets: &[u64]) -> Verdict
 }
 
 // Whether the numbers so far agree with the offsets, and x with offset k.
-fn agrees(agree: bool, offsets: &[u64], k: usize, x: u64) -> bool
+pub(crate) fn agrees(agree: bool, offsets: &[u64], k: usize, x: u64) -> bool
     ensures { λ r. ⌜ r ≡ agreesAt agree (now (offsets .entry)) k x ⌝ }
 {
     if !agree {
@@ -47,7 +47,7 @@ fn agrees(agree: bool, offsets: &[u64], k: usize, x: u64) -> bool
 }
 
 // The verdict on k numbers that agree with the offsets, or do not.
-fn all_agree(equal: bool, offsets: &[u64], k: usize) -> Verdict
+pub(crate) fn all_agree(equal: bool, offsets: &[u64], k: usize) -> Verdict
     ensures { λ r. ⌜ r ≡ goodIf (equal && eqb (length (now (offsets .entry))) k) ⌝ }
 {
     if !equal {

@@ -2,8 +2,7 @@
 ghost use Prim.Native.Nat.{_-_, _≤_};
 ghost use mathlib.Core.Path.{_≡_};
 ghost use lib.ListN.{length, take, drop};
-ghost use Rattle.format.specs.Index.{trimStart, trim as Index·trim};
-ghost use Rattle.verdict.specs.Index.{trimEnd};
+ghost use Rattle.format.specs.Index.{trimStart, trimEnd, trim as Index·trim};
 
 // t without its spaces in front and at the end.
 pub(crate) fn trim(t: &[u8]) -> &[u8]
@@ -27,7 +26,8 @@ fn spaces_in_front(t: &[u8]) -> usize
     i
 }
 
-fn spaces_at_end(t: &[u8], from: usize) -> usize
+// Where the spaces at the end of t begin. None before an offset is counted.
+pub(crate) fn spaces_at_end(t: &[u8], from: usize) -> usize
     requires { ⌜ from ≤ length (now t) ⌝ }
     ensures { λ r. ⌜ (from ≤ r) × (r ≤ length (now (t .entry))) × (take (r - from) (drop from (now (t .entry))) ≡ trimEnd (drop from (now (t .entry)))) ⌝ }
 {

@@ -1,6 +1,6 @@
 -- The verdict on a list is that on the lines around it.
 use borrow.Author.Needs.{needs}
-use Rattle.verdict.proofs.IndexLaws.{between-order, between-end, verdict-nowhere, verdict-between}
+use Rattle.verdict.proofs.IndexLaws.{between-order, between-end, dashes-inside, verdict-nowhere, verdict-between, verdict-dashes}
 use Rattle.verdict.proofs.judge.Statement.{statement}
 use Rattle.verdict.proofs.judge.Tie as tie
 
@@ -15,5 +15,11 @@ judge-spec =
     (λ c. search (between-order, needs))
     (λ c. search (between-end, needs))
     (λ c κs. search needs)
+    (λ c. search needs)
+    (λ c. search (dashes-inside, needs))
+    (λ c. search (dashes-inside, needs))
+    (λ c. search needs)
+    (λ c κs. search needs)
     (λ c. search (verdict-nowhere, needs))
-    (λ c. search (verdict-between, needs)))
+    (λ c. search (verdict-between, needs))
+    (λ c. search (verdict-dashes, needs)))

@@ -3,7 +3,7 @@ use Prim.Native.Nat.{_-_, _≤_}
 use mathlib.Core.Path.{_≡_}
 use lib.ListN.{length, take, drop}
 use borrow.Author.Needs.{needs}
-use Rattle.verdict.specs.Index.{trimEnd}
+use Rattle.format.specs.Index.{trimEnd}
 use Rattle.verdict.proofs.TrimLaws.{end-begin, end-kept, end-step, end-done}
 use Rattle.verdict.proofs.spaces.spaces_at_end.Statement.{statement}
 use Rattle.verdict.proofs.spaces.spaces_at_end.Tie as tie
