@@ -1,18 +1,20 @@
-//! The block index: judging one, and writing one.
+//! The block index: judging one of either style, and writing one with brackets.
 
 use crate::block::{only_zeros, Block};
 use crate::layout::judge;
 use crate::line::{after_exact_line, decimal, line_at};
 use crate::refusal::*;
-use crate::tree::{END_LINE, YAML_LINE};
+use crate::tree::{END_LINE, START_LINE, YAML_LINE};
 use std::fmt;
 
 /// The first line of an index.
 pub(crate) const INDEX_LINE: &[u8] = b"#ASDF BLOCK INDEX";
-/// What stands before the numbers of the list line.
+/// What stands before the numbers of the bracket style.
 const LIST_BEGIN: &[u8] = b"--- [";
-/// What stands behind them.
+/// What stands after them.
 const LIST_END: &[u8] = b"]";
+/// What stands before each number of the dash style.
+const DASH: &[u8] = b"- ";
 const MOST_OFFSET_DIGITS: usize = 10;
 
 /// The length of the longest index that is written: 64 numbers of 10 digits.
@@ -25,7 +27,7 @@ pub enum Verdict {
     Absent,
     /// The form is right and the list equals the walked offsets.
     Good,
-    /// The text has not the form.
+    /// The text has the form of neither style.
     IgnoredForm,
     /// The form is right, the list is another.
     IgnoredList,
@@ -55,29 +57,66 @@ pub(crate) fn judge_index(tail: &[u8], blocks: &[Block]) -> Verdict {
 fn list_equals(tail: &[u8], blocks: &[Block]) -> Option<bool> {
     let mut offsets = blocks.iter().map(|block| u64::from(block.offset.0));
     let mut equal = true;
-    for item in list_of_index(tail)?.split(|&byte| byte == b',') {
-        let number = decimal(without_outer_spaces(item), MOST_OFFSET_DIGITS)?;
-        equal &= offsets.next() == Some(number);
-    }
+    each_number(tail, &mut |number| equal &= offsets.next() == Some(number))?;
     Some(equal && offsets.next().is_none())
 }
 
-/// What stands between the brackets, if everything around is as it must be.
-fn list_of_index(tail: &[u8]) -> Option<&[u8]> {
-    let behind = after_exact_line(tail, INDEX_LINE)?;
-    let behind = after_exact_line(behind, YAML_LINE)?;
-    let line = line_at(behind, 0)?;
-    let list = line.text.strip_prefix(LIST_BEGIN)?.strip_suffix(LIST_END)?;
-    let behind = after_exact_line(&behind[line.end..], END_LINE)?;
-    only_zeros(behind).then_some(list)
+/// Hands each number of the index to `take`, in order; none where the form is not right,
+/// which may be seen only after numbers were handed on.
+fn each_number(tail: &[u8], take: &mut impl FnMut(u64)) -> Option<()> {
+    let after = after_exact_line(tail, INDEX_LINE)?;
+    let after = after_exact_line(after, YAML_LINE)?;
+    // The start line tells the style, so no text can mix the two.
+    let after = match after_exact_line(after, START_LINE) {
+        Some(lines) => after_dash_lines(lines, take)?,
+        None => after_bracket_line(after, take)?,
+    };
+    let after = after_exact_line(after, END_LINE)?;
+    only_zeros(after).then_some(())
 }
 
-/// The bytes without the spaces before and behind them.
+/// Passes the one line that holds the list of the bracket style.
+fn after_bracket_line<'a>(bytes: &'a [u8], take: &mut impl FnMut(u64)) -> Option<&'a [u8]> {
+    let line = line_at(bytes, 0)?;
+    let list = line.text.strip_prefix(LIST_BEGIN)?.strip_suffix(LIST_END)?;
+    for item in list.split(|&byte| byte == b',') {
+        take(list_number(without_outer_spaces(item))?);
+    }
+    Some(&bytes[line.end..])
+}
+
+/// Passes the lines of the dash style, one for each number. There is at least one.
+fn after_dash_lines<'a>(bytes: &'a [u8], take: &mut impl FnMut(u64)) -> Option<&'a [u8]> {
+    let mut after = after_dash_line(bytes, take)?;
+    while after.starts_with(DASH) {
+        after = after_dash_line(after, take)?;
+    }
+    Some(after)
+}
+
+/// Passes one line of the dash style. Only after its number more spaces may stand.
+fn after_dash_line<'a>(bytes: &'a [u8], take: &mut impl FnMut(u64)) -> Option<&'a [u8]> {
+    let line = line_at(bytes, 0)?;
+    let item = line.text.strip_prefix(DASH)?;
+    take(list_number(without_spaces_after(item))?);
+    Some(&bytes[line.end..])
+}
+
+/// A number of the list, which is the same in both styles.
+fn list_number(digits: &[u8]) -> Option<u64> {
+    decimal(digits, MOST_OFFSET_DIGITS)
+}
+
+/// The bytes without the spaces before and after them.
 fn without_outer_spaces(bytes: &[u8]) -> &[u8] {
-    let start = bytes.iter().take_while(|&&byte| byte == b' ').count();
-    let rest = &bytes[start..];
-    let behind = rest.iter().rev().take_while(|&&byte| byte == b' ').count();
-    &rest[..rest.len() - behind]
+    let spaces = bytes.iter().take_while(|&&byte| byte == b' ').count();
+    without_spaces_after(&bytes[spaces..])
+}
+
+/// The bytes without the spaces after them.
+fn without_spaces_after(bytes: &[u8]) -> &[u8] {
+    let spaces = bytes.iter().rev().take_while(|&&byte| byte == b' ').count();
+    &bytes[..bytes.len() - spaces]
 }
 
 /// Writes the index of a file into the lent buffer and returns its length (1 to 17, 22, 21).
@@ -94,7 +133,7 @@ pub fn write_index(file: &[u8], out: &mut [u8]) -> Result<usize, Refusal> {
     Ok(text.len())
 }
 
-/// The one text that is written for these blocks.
+/// The one text that is written for these blocks, always in the bracket style.
 fn index_text(blocks: &[Block]) -> Vec<u8> {
     let mut text = [INDEX_LINE, b"\n", YAML_LINE, b"\n", LIST_BEGIN].concat();
     for block in blocks {

@@ -2,8 +2,9 @@
 //!
 //! It works on plain slices, keeps nothing between calls and exists to be
 //! compared with the verified implementation. The rules of the order decide,
-//! with request W-204 (space between blocks), and then the ASDF standard 1.1.1
-//! (file layout). NOTES.md lists what was decided where they leave room.
+//! with requests W-201 (index written with dashes) and W-204 (space between
+//! blocks), and then the ASDF standard 1.1.1 (file layout). NOTES.md lists what
+//! was decided where they leave room.
 
 #![forbid(unsafe_code)]
 

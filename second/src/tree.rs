@@ -5,6 +5,8 @@ use crate::refusal::*;
 
 /// The first line of a tree, and the second of an index.
 pub(crate) const YAML_LINE: &[u8] = b"%YAML 1.1";
+/// A start line with nothing in it but its dashes.
+pub(crate) const START_LINE: &[u8] = b"---";
 /// The last line of a tree and of an index.
 pub(crate) const END_LINE: &[u8] = b"...";
 
@@ -56,5 +58,5 @@ fn tree_line(bytes: &[u8], start: usize) -> Result<Line<'_>, Refusal> {
 
 /// `---` alone, or `---` and a space and anything.
 fn is_start_line(text: &[u8]) -> bool {
-    text == b"---" || text.starts_with(b"--- ")
+    text == START_LINE || text.starts_with(b"--- ")
 }

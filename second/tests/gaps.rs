@@ -408,8 +408,7 @@ fn outline_has_no_trace_of_a_gap_but_the_offset_after_it() {
 fn real_file_with_a_gap_has_the_blocks_that_its_own_index_lists() {
     let folder = Path::new(env!("CARGO_MANIFEST_DIR")).join("../tests/data");
     let file = fs::read(folder.join("updated-gap.asdf")).unwrap();
-    // The list has a line for each number, which is not our form.
     assert!(file.ends_with(b"\n- 703\n- 1026\n- 1366\n...\n"));
-    let expected = accepted(&[703, 1026, 1366], Verdict::IgnoredForm);
+    let expected = accepted(&[703, 1026, 1366], Verdict::Good);
     assert_eq!(chain(&file), expected);
 }

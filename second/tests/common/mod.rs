@@ -132,7 +132,7 @@ pub fn tree_of(content: &str) -> Vec<u8> {
     format!("%YAML 1.1\n---\n{content}...\n").into_bytes()
 }
 
-/// An index in the written form, with this text between the brackets.
+/// An index in the bracket style, as it is written, with this text between the brackets.
 pub fn index_of(list: &str) -> Vec<u8> {
     format!("#ASDF BLOCK INDEX\n%YAML 1.1\n--- [{list}]\n...\n").into_bytes()
 }
