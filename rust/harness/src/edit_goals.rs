@@ -5,6 +5,7 @@ use crate::edit_answers::{is_one_tree, EditAnswers};
 use crate::gaps::gaps;
 use crate::generate::{behind_first_line, places_of, MARK, YAML_LINE};
 use crate::goals::{Goal, VERDICTS};
+use crate::index_goals::{has_dashes, index};
 use asdf_second::{Block, Inner, Record, Verdict};
 
 /// A goal of edits.
@@ -78,6 +79,11 @@ impl<'a> Seen<'a> {
     /// The bytes of the room.
     fn room(&self) -> usize {
         self.room_end - self.start
+    }
+
+    /// Whether the file has an index with dashes.
+    fn has_dashes(&self) -> bool {
+        index(self.bytes, &self.answers.file).is_some_and(has_dashes)
     }
 
     /// Whether the room reaches to the end of the file.
@@ -286,15 +292,23 @@ fn files() -> Vec<EditGoal> {
     ]
 }
 
-/// Each verdict on the index of an edited file.
+/// Each verdict on the index of an edited file, and those on an index with dashes.
 fn verdicts() -> Vec<EditGoal> {
-    VERDICTS
-        .map(|verdict| {
-            edited(format!("edited, index {verdict}"), move |seen| {
-                seen.answers.file.verdict() == Some(verdict)
-            })
+    let any = VERDICTS.map(|verdict| {
+        edited(format!("edited, index {verdict}"), move |seen| {
+            seen.answers.file.verdict() == Some(verdict)
         })
-        .into()
+    });
+    let with_dashes = VERDICTS
+        .into_iter()
+        .filter(|&verdict| verdict != Verdict::Absent);
+    let with_dashes = with_dashes.map(|verdict| {
+        edited(
+            format!("edited, index with dashes {verdict}"),
+            move |seen| seen.answers.file.verdict() == Some(verdict) && seen.has_dashes(),
+        )
+    });
+    any.into_iter().chain(with_dashes).collect()
 }
 
 /// A goal that a text reaches that is not exactly one tree.

@@ -5,6 +5,7 @@ use crate::fields::{FIELD_BYTES, HEADER_SIZE};
 use crate::gaps::{gap_before, gaps, Gap};
 use crate::generate::{places_of, INDEX_LINE, MARK};
 use crate::goals::Goal;
+use crate::index_goals::{index, numbers_in};
 use crate::nest_goals::{content, is_opened, refused_inside, unused, DEEPEST};
 use crate::nests::MOST_BLOCKS;
 use crate::searches::BLOCK;
@@ -258,12 +259,6 @@ fn indexes() -> Vec<Goal> {
     ]
 }
 
-/// What begins as an index directly after the last block.
-fn index<'a>(file: &'a [u8], answers: &Answers) -> Option<&'a [u8]> {
-    let tail = &file[answers.chain_end()?..];
-    tail.starts_with(INDEX_LINE).then_some(tail)
-}
-
 /// Where the first mark stands in an index, which then has not the form.
 fn mark_in_index(file: &[u8], answers: &Answers) -> Option<usize> {
     let ignored = answers.verdict() == Some(Verdict::IgnoredForm);
@@ -276,10 +271,6 @@ fn lists_ends(file: &[u8], answers: &Answers) -> bool {
     let blocks = answers.blocks();
     let first = blocks.iter().take(1).map(|block| block.offset.0 as usize);
     let ends = blocks.windows(2).map(|pair| block_end(&pair[0]));
-    let numbers: Vec<String> = first.chain(ends).map(|number| number.to_string()).collect();
-    let list = format!("[{}]", numbers.join(","));
-    index(file, answers).is_some_and(|index| {
-        let unspaced: Vec<u8> = index.iter().copied().filter(|&byte| byte != b' ').collect();
-        !places_of(&unspaced, list.as_bytes()).is_empty()
-    })
+    let numbers: Vec<u64> = first.chain(ends).map(|number| number as u64).collect();
+    index(file, answers).is_some_and(|index| numbers_in(index) == numbers)
 }

@@ -3,6 +3,7 @@
 use crate::answers::Answers;
 use crate::gap_goals::gap_goals;
 use crate::generate::{places_of, MARK};
+use crate::index_goals::index_goals;
 use crate::limits::limits;
 use crate::nest_goals::nest_goals;
 use crate::searches::BLOCK;
@@ -109,6 +110,7 @@ pub fn goals() -> Vec<Goal> {
         verdicts(),
         parts(),
         limits(),
+        index_goals(),
         gap_goals(),
         nest_goals(),
     ]

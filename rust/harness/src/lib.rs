@@ -20,6 +20,7 @@ mod gap_goals;
 mod gaps;
 mod generate;
 mod goals;
+mod index_goals;
 mod limits;
 mod loan;
 pub mod long_edits;

@@ -4,7 +4,7 @@ use crate::answers::content_start;
 use crate::fields::{
     Field, ALLOCATED, DATA_SIZE, FIELD_BYTES, HEADER_SIZE, HEADER_SIZE_COUNTS_FROM, USED,
 };
-use crate::generate::{places_of, FILE_BEGIN, INDEX_LINE, MARK, YAML_LINE};
+use crate::generate::{FILE_BEGIN, INDEX_LINE, MARK, YAML_LINE};
 use crate::goals::Goal;
 use asdf_second::{Block, Inner, Verdict};
 
@@ -13,7 +13,6 @@ pub fn limits() -> Vec<Goal> {
     [
         block_counts(),
         text_limits(),
-        index_limits(),
         header_size_limits(),
         size_limits(),
         streamed_blocks(),
@@ -76,51 +75,6 @@ fn text_limits() -> Vec<Goal> {
             file[place..] == INDEX_LINE[..16]
         }),
     ]
-}
-
-/// Indexes at the limits of their form.
-fn index_limits() -> Vec<Goal> {
-    vec![
-        of_index("good index with 0D 0A", Verdict::Good, |tail| {
-            tail.contains(&b'\r')
-        }),
-        of_index("good index with zeros behind", Verdict::Good, |tail| {
-            tail.ends_with(b"\0")
-        }),
-        of_index("good index with odd spaces", Verdict::Good, |tail| {
-            !places_of(tail, b"  ").is_empty()
-        }),
-        of_index("empty list (ignored-form)", Verdict::IgnoredForm, |tail| {
-            !places_of(tail, b"--- []").is_empty()
-        }),
-        of_index("ten digits (ignored-list)", Verdict::IgnoredList, |tail| {
-            most_digits(tail) == 10
-        }),
-        of_index(
-            "eleven digits (ignored-form)",
-            Verdict::IgnoredForm,
-            |tail| most_digits(tail) == 11,
-        ),
-        of_index("65 numbers (ignored-list)", Verdict::IgnoredList, |tail| {
-            places_of(tail, b",").len() >= 64
-        }),
-    ]
-}
-
-/// A goal that an index reaches, if it has this verdict and more holds of the tail.
-fn of_index(name: &str, verdict: Verdict, reached: fn(&[u8]) -> bool) -> Goal {
-    Goal::of_file(name, move |file, answers| {
-        answers.verdict() == Some(verdict)
-            && answers.chain_end().is_some_and(|end| reached(&file[end..]))
-    })
-}
-
-/// How many digits stand together at most.
-fn most_digits(text: &[u8]) -> usize {
-    text.split(|byte| !byte.is_ascii_digit())
-        .map(<[u8]>::len)
-        .max()
-        .unwrap_or(0)
 }
 
 /// Both sides of the limits on H.

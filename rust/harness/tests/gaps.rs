@@ -7,18 +7,12 @@ mod common;
 use asdf_harness::exports;
 use asdf_harness::nests::{file_of, file_with_gaps};
 use asdf_harness::sparse::{block_header, HEADER_LINE, INDEX_LINE, LEAST_TREE, MARK};
-use common::{assert_writes, numbers, one_block};
+use common::{assert_writes, numbers, one_block, verdict};
 
 /// The index of a block at 12: 41 bytes.
 const INDEX_OF_12: &[u8] = b"#ASDF BLOCK INDEX\n%YAML 1.1\n--- [12]\n...\n";
 /// A file in which the library of the ASDF project left a gap.
 const UPDATED_GAP: &[u8] = include_bytes!("../../../tests/data/updated-gap.asdf");
-
-/// The verdicts on an index.
-const ABSENT: u64 = 0;
-const GOOD: u64 = 1;
-const IGNORED_FORM: u64 = 2;
-const IGNORED_LIST: u64 = 3;
 
 const STREAMED: u32 = 1;
 
@@ -74,10 +68,10 @@ fn block(file: &[u8], ordinal: u64) -> [u64; 4] {
 }
 
 /// A file that is accepted with blocks at these offsets, none of them with a file inside, and this verdict.
-fn assert_blocks(file: &[u8], offsets: &[u64], verdict: u64) {
-    let layout = numbers::<11>(|out| exports::read(file, out));
+fn assert_blocks(file: &[u8], offsets: &[u64], expected: &str) {
+    let [.., blocks, _] = numbers::<11>(|out| exports::read(file, out));
     let count = offsets.len() as u64;
-    assert_eq!(layout[9..], [count, verdict]);
+    assert_eq!((blocks, verdict(file)), (count, expected));
     assert_eq!(exports::count(file), count);
     for (ordinal, offset) in (0..).zip(offsets) {
         assert_eq!(block(file, ordinal)[0], *offset);
@@ -138,7 +132,7 @@ fn next_block_is_at_the_first_mark() {
     ];
     for (gap, second) in cases {
         let file = after_one_block(&[gap, &empty_block()]);
-        assert_blocks(&file, &[12, second], ABSENT);
+        assert_blocks(&file, &[12, second], "absent");
     }
 }
 
@@ -146,14 +140,14 @@ fn next_block_is_at_the_first_mark() {
 fn gap_may_have_any_length() {
     for length in 0..=200 {
         let file = after_one_block(&[&vec![b' '; length], &empty_block()]);
-        assert_blocks(&file, &[12, 66 + length as u64], ABSENT);
+        assert_blocks(&file, &[12, 66 + length as u64], "absent");
     }
 }
 
 #[test]
 fn every_block_may_follow_a_gap() {
     let file = file_with_gaps([&b"a"[..], b"", b"bc", b""], b"\0\xD3BL");
-    assert_blocks(&file, &[12, 71, 129, 189], ABSENT);
+    assert_blocks(&file, &[12, 71, 129, 189], "absent");
 }
 
 #[test]
@@ -189,7 +183,7 @@ fn wrong_block_is_not_passed_over_for_a_later_one() {
 #[test]
 fn tail_without_a_mark_is_empty_or_zeros_or_refused_at_the_end_of_the_last_block() {
     for zeros in [0, 1, 100] {
-        assert_blocks(&after_one_block(&[&vec![0; zeros]]), &[12], ABSENT);
+        assert_blocks(&after_one_block(&[&vec![0; zeros]]), &[12], "absent");
     }
     let index_after_zero = [b"\0", INDEX_OF_12].concat();
     let stray: [&[u8]; 6] = [
@@ -212,7 +206,7 @@ fn index_ends_the_chain_whatever_follows() {
     for index in [INDEX_LINE, INDEX_OF_12] {
         for after in [MARK, &empty_block(), &block_with(LOW_H, 47)] {
             let file = after_one_block(&[index, after]);
-            assert_blocks(&file, &[12], IGNORED_FORM);
+            assert_blocks(&file, &[12], "ignored-form");
         }
     }
 }
@@ -222,9 +216,9 @@ fn index_lists_the_marks_and_not_the_ends() {
     let file = after_one_block(&[b"  ", &empty_block()]);
     let index = b"#ASDF BLOCK INDEX\n%YAML 1.1\n--- [12, 68]\n...\n";
     assert_writes(|out| exports::index(&file, out), index);
-    assert_blocks(&[&file[..], index].concat(), &[12, 68], GOOD);
+    assert_blocks(&[&file[..], index].concat(), &[12, 68], "good");
     let of_ends = b"#ASDF BLOCK INDEX\n%YAML 1.1\n--- [12, 66]\n...\n";
-    assert_blocks(&[&file[..], of_ends].concat(), &[12, 68], IGNORED_LIST);
+    assert_blocks(&[&file[..], of_ends].concat(), &[12, 68], "ignored-list");
 }
 
 #[test]
@@ -239,10 +233,10 @@ fn mark_after_64_blocks_is_refused_where_it_stands() {
 fn tail_of_64_blocks_without_a_mark_is_judged_as_any_other() {
     let offsets: Vec<u64> = (0..64).map(|ordinal| 12 + 54 * ordinal).collect();
     for tail in [&b""[..], b"\0"] {
-        assert_blocks(&after_64_blocks(tail), &offsets, ABSENT);
+        assert_blocks(&after_64_blocks(tail), &offsets, "absent");
     }
     let index_and_mark = [INDEX_LINE, MARK].concat();
-    assert_blocks(&after_64_blocks(&index_and_mark), &offsets, IGNORED_FORM);
+    assert_blocks(&after_64_blocks(&index_and_mark), &offsets, "ignored-form");
     assert_refused(&after_64_blocks(b"x"), 17, 3468);
 }
 
@@ -250,7 +244,7 @@ fn tail_of_64_blocks_without_a_mark_is_judged_as_any_other() {
 fn mark_that_begins_in_a_block_is_none() {
     let content_then_gap = [&file_of([&b"ab\xD3B"[..]]), &b"LK"[..]].concat();
     let file = [content_then_gap, empty_block()].concat();
-    assert_blocks(&file, &[12, 72], ABSENT);
+    assert_blocks(&file, &[12, 72], "absent");
 }
 
 #[test]
@@ -258,19 +252,19 @@ fn mark_inside_a_block_is_none() {
     let in_content = file_of([MARK]);
     let in_unused_space = [HEADER_LINE, &block_with(ALLOCATED, 4), MARK].concat();
     for file in [in_content, in_unused_space] {
-        assert_blocks(&file, &[12], ABSENT);
+        assert_blocks(&file, &[12], "absent");
         let followed = [&file[..], b"\0", &empty_block()].concat();
-        assert_blocks(&followed, &[12, 71], ABSENT);
+        assert_blocks(&followed, &[12, 71], "absent");
     }
 }
 
 #[test]
 fn streamed_block_after_a_gap_takes_the_rest() {
     let file = after_one_block(&[b"xyz", &block_header(STREAMED, 0), b"hello"]);
-    assert_blocks(&file, &[12, 69], ABSENT);
+    assert_blocks(&file, &[12, 69], "absent");
     assert_eq!(block(&file, 1), [69, STREAMED.into(), 5, 5]);
     let with_mark = after_one_block(&[b"xyz", &block_header(STREAMED, 0), MARK]);
-    assert_blocks(&with_mark, &[12, 69], ABSENT);
+    assert_blocks(&with_mark, &[12, 69], "absent");
 }
 
 #[test]
@@ -278,7 +272,7 @@ fn nothing_changes_before_the_first_block() {
     let padded = [HEADER_LINE, b" ", &empty_block()].concat();
     assert_refused(&padded, 7, 12);
     let index_in_free_space = [HEADER_LINE, LEAST_TREE, INDEX_LINE, &empty_block()].concat();
-    assert_blocks(&index_in_free_space, &[47], ABSENT);
+    assert_blocks(&index_in_free_space, &[47], "absent");
 }
 
 #[test]
@@ -309,10 +303,10 @@ fn edit_leaves_gaps_as_they_are() {
     let text = b"%YAML 1.1\n---\nxxxxxxxxx\n...\n";
     assert_eq!(exports::edit(&mut file, text), 0);
     assert_eq!(file, [HEADER_LINE, text, &chain].concat());
-    assert_blocks(&file, &[40, 98], ABSENT);
+    assert_blocks(&file, &[40, 98], "absent");
 }
 
 #[test]
 fn blocks_of_a_real_file_with_a_gap_are_found() {
-    assert_blocks(UPDATED_GAP, &[703, 1026, 1366], IGNORED_FORM);
+    assert_blocks(UPDATED_GAP, &[703, 1026, 1366], "good");
 }

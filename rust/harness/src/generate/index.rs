@@ -1,15 +1,10 @@
-//! Block indexes: good ones, lists of other numbers, and texts that have not the form.
+//! Block indexes, in brackets and with dashes: good ones, lists of other numbers, and texts that have not the form.
 
-use super::text::{lines, END_LINE, INDEX_LINE, YAML_LINE};
+use super::text::{lines, DASH_START, END_LINE, INDEX_LINE, YAML_LINE};
 use crate::rng::Rng;
 
-/// What may stand wrongly in the place of each of the four lines.
-const WRONG_LINES: [&[&[u8]]; 4] = [
-    WRONG_FIRST_LINES,
-    WRONG_SECOND_LINES,
-    WRONG_LIST_LINES,
-    WRONG_LAST_LINES,
-];
+/// Where the start line stands among the lines.
+const START: usize = 2;
 
 const WRONG_FIRST_LINES: &[&[u8]] = &[
     b"#ASDF BLOCK INDEX ",
@@ -34,6 +29,7 @@ const WRONG_SECOND_LINES: &[&[u8]] = &[
     b"#ASDF BLOCK INDEX",
 ];
 
+/// What may stand wrongly in the place of the start line of an index in brackets.
 const WRONG_LIST_LINES: &[&[u8]] = &[
     b"",
     b"---",
@@ -80,7 +76,6 @@ const WRONG_LIST_LINES: &[&[u8]] = &[
     b"--- [12\n]",
     b"--- [12,\n66]",
     b"---\n[12]",
-    b"---\n- 12",
     b"--- [12345678901]",
     b"--- [00000000012]",
     b"--- [10000000000]",
@@ -100,12 +95,104 @@ const WRONG_LIST_LINES: &[&[u8]] = &[
     b"--- [12]\0",
 ];
 
+/// What may stand wrongly in the place of the start line of an index with dashes.
+pub const WRONG_START_LINES: &[&[u8]] = &[
+    b"",
+    b"-",
+    b"--",
+    b"----",
+    b"--- ",
+    b"---  ",
+    b"---\t",
+    b"---\r\r",
+    b"---\0",
+    b" ---",
+    b"--- 12",
+    b"--- []",
+    b"--- [12]",
+    b"--- #",
+    b"+++",
+    b"...",
+    b"%YAML 1.1",
+    b"- 12",
+    b"\n---",
+    b"---\n",
+    b"---\n---",
+    b"---\n--- ",
+    b"---\n#",
+    b"#\n---",
+    b"%\n---",
+    b"...\n---",
+];
+
+/// What may stand wrongly in the place of a line with a dash.
+pub const WRONG_DASH_LINES: &[&[u8]] = &[
+    b"",
+    b" ",
+    b"-",
+    b"- ",
+    b"-  ",
+    b"-12",
+    b"-  12",
+    b" - 12",
+    b"\t- 12",
+    b"-\t12",
+    b"- \t12",
+    b"- 12\t",
+    b"- 12 \t",
+    b"- 12\r\r",
+    b"- 12 \r\r",
+    b"- 12\0",
+    b"- \xA012",
+    b"- 012",
+    b"- 00",
+    b"- 0012",
+    b"- 12345678901",
+    b"- 10000000000",
+    b"- 00000000012",
+    b"- 18446744073709551628",
+    b"- +12",
+    b"- -12",
+    b"- - 12",
+    b"-- 12",
+    b"--12",
+    b"+ 12",
+    b"* 12",
+    b"12",
+    b" 12",
+    b"- x",
+    b"- 12x",
+    b"- /2",
+    b"- :2",
+    b"- 0x0c",
+    b"- 1_2",
+    b"- 1e1",
+    b"- 12.0",
+    b"- 1 2",
+    b"- 12 66",
+    b"- 12,",
+    b"- 12, 66",
+    b"- [12]",
+    b"[12]",
+    b"[12, 66]",
+    b"--- [12]",
+    b"---",
+    b"--- ",
+    b"#",
+    b"- 12 #",
+    b"- 12\n\n- 12",
+    b"- 13\n- 012",
+    b"... ",
+    b"....",
+    b"..",
+];
+
 const WRONG_LAST_LINES: &[&[u8]] = &[
     b"", b".", b"..", b"....", b"... ", b"...\r\r", b"...\0", b" ...", b"---", b"abc", b"\n...",
 ];
 
-/// What may not stand behind the last line.
-const WRONG_BEHIND: &[&[u8]] = &[
+/// What may not stand after the last line.
+const WRONG_AFTER: &[&[u8]] = &[
     b" ",
     b"\n",
     b"\r\n",
@@ -121,10 +208,10 @@ const WRONG_BEHIND: &[&[u8]] = &[
 /// Bytes that disturb a list, or only change its numbers.
 const ODD_BYTES: &[u8] = b"00,, \t\r\n+-_.[]x\0\x3A\x2F9";
 
-/// An index as its texts, line by line, and what stands behind them.
+/// An index as its texts, line by line, and what stands after them.
 struct Index {
     texts: Vec<Vec<u8>>,
-    behind: Vec<u8>,
+    after: Vec<u8>,
 }
 
 /// An index that is good for blocks at these offsets.
@@ -141,48 +228,97 @@ pub fn index_of_other_list(rng: &mut Rng, offsets: &[u64]) -> Vec<u8> {
 /// Something that begins with the 17 bytes and mostly has not the form.
 pub fn index_of_wrong_form(rng: &mut Rng, offsets: &[u64]) -> Vec<u8> {
     let mut index = Index::of(rng, offsets);
-    match rng.below(8) {
-        0..=2 => index.replace_line(rng),
-        3 => index.disturb_list(rng),
-        4 => drop(index.texts.remove(rng.between(1, 3))),
-        5 => index.texts.insert(rng.between(1, 4), Vec::new()),
-        6 => index.behind = rng.pick(WRONG_BEHIND).to_vec(),
+    match rng.below(10) {
+        0..=3 => index.replace_line(rng),
+        4 => index.disturb_list(rng),
+        5 => index.mix_styles(rng),
+        6 => drop(index.texts.remove(rng.between(1, index.last()))),
+        7 => index
+            .texts
+            .insert(rng.between(1, index.texts.len()), Vec::new()),
+        8 => index.after = rng.pick(WRONG_AFTER).to_vec(),
         _ => return index.cut(rng),
     }
     index.bytes(rng)
 }
 
 impl Index {
-    /// The index of these numbers, sometimes with zeros behind.
+    /// The index of these numbers in either style, sometimes with zeros after it.
     fn of(rng: &mut Rng, numbers: &[u64]) -> Index {
-        let list = list_text(rng, numbers);
-        let zeros = rng.pick(&[0, 0, 0, 1, 16]);
-        Index {
-            texts: vec![
-                INDEX_LINE.to_vec(),
-                YAML_LINE.to_vec(),
-                [b"--- [", &list[..], b"]"].concat(),
-                END_LINE.to_vec(),
-            ],
-            behind: vec![0; zeros],
+        if rng.chance(2) {
+            Index::in_brackets(rng, numbers)
+        } else {
+            Index::with_dashes(rng, numbers)
         }
     }
 
-    /// Puts a wrong line in the place of one of the four.
-    fn replace_line(&mut self, rng: &mut Rng) {
-        let place = rng.pick(&[0, 1, 2, 2, 2, 3]);
-        self.texts[place] = rng.pick(WRONG_LINES[place]).to_vec();
+    /// The index of these numbers in brackets.
+    fn in_brackets(rng: &mut Rng, numbers: &[u64]) -> Index {
+        let list = list_text(rng, numbers);
+        Index::with_list(rng, vec![[b"--- [", &list[..], b"]"].concat()])
     }
 
-    /// Puts an odd byte somewhere in the list line.
+    /// The index of these numbers with dashes.
+    fn with_dashes(rng: &mut Rng, numbers: &[u64]) -> Index {
+        let list = [vec![DASH_START.to_vec()], dash_lines(rng, numbers)].concat();
+        Index::with_list(rng, list)
+    }
+
+    /// The index with these lines for its list.
+    fn with_list(rng: &mut Rng, list: Vec<Vec<u8>>) -> Index {
+        let first = vec![INDEX_LINE.to_vec(), YAML_LINE.to_vec()];
+        let zeros = rng.pick(&[0, 0, 0, 1, 16]);
+        Index {
+            texts: [first, list, vec![END_LINE.to_vec()]].concat(),
+            after: vec![0; zeros],
+        }
+    }
+
+    /// Where its last line stands among its lines.
+    fn last(&self) -> usize {
+        self.texts.len() - 1
+    }
+
+    /// Whether its start line is that of the dash style.
+    fn has_dashes(&self) -> bool {
+        self.texts[START] == DASH_START
+    }
+
+    /// Puts a wrong line in the place of one of its lines.
+    fn replace_line(&mut self, rng: &mut Rng) {
+        let last = self.last();
+        let (place, wrong) = match rng.below(8) {
+            0 => (0, WRONG_FIRST_LINES),
+            1 => (1, WRONG_SECOND_LINES),
+            2 => (last, WRONG_LAST_LINES),
+            _ if !self.has_dashes() => (START, WRONG_LIST_LINES),
+            3 => (START, WRONG_START_LINES),
+            _ => (rng.between(START + 1, last), WRONG_DASH_LINES),
+        };
+        self.texts[place] = rng.pick(wrong).to_vec();
+    }
+
+    /// Puts an odd byte somewhere in a line of the list.
     fn disturb_list(&mut self, rng: &mut Rng) {
-        let list_line = &mut self.texts[2];
-        list_line.insert(rng.between(0, list_line.len()), rng.pick(ODD_BYTES));
+        let place = rng.between(START, self.last() - 1);
+        let line = &mut self.texts[place];
+        line.insert(rng.between(0, line.len()), rng.pick(ODD_BYTES));
+    }
+
+    /// Puts a line of the other style somewhere among its lines, from the list on.
+    fn mix_styles(&mut self, rng: &mut Rng) {
+        let other: &[&[u8]] = if self.has_dashes() {
+            &[b"--- [12]", b"[12]", b"- [12]"]
+        } else {
+            &[b"---", b"- 12"]
+        };
+        let place = rng.between(START, self.last());
+        self.texts.insert(place, rng.pick(other).to_vec());
     }
 
     /// The index's first bytes: the 17, and not all.
     fn cut(mut self, rng: &mut Rng) -> Vec<u8> {
-        self.behind.clear();
+        self.after.clear();
         let mut bytes = self.bytes(rng);
         bytes.truncate(rng.between(INDEX_LINE.len(), bytes.len() - 1));
         bytes
@@ -190,7 +326,7 @@ impl Index {
 
     /// The index's bytes, each line ended either way.
     fn bytes(&self, rng: &mut Rng) -> Vec<u8> {
-        [lines(rng, &self.texts), self.behind.clone()].concat()
+        [lines(rng, &self.texts), self.after.clone()].concat()
     }
 }
 
@@ -200,12 +336,26 @@ fn list_text(rng: &mut Rng, numbers: &[u64]) -> Vec<u8> {
     let items: Vec<String> = numbers
         .iter()
         .map(|number| {
-            let before = " ".repeat(rng.between(0, most_spaces));
-            let behind = " ".repeat(rng.between(0, most_spaces));
-            format!("{before}{number}{behind}")
+            let before = spaces(rng, most_spaces);
+            let after = spaces(rng, most_spaces);
+            format!("{before}{number}{after}")
         })
         .collect();
     items.join(rng.pick(&[",", ", "])).into_bytes()
+}
+
+/// Lines with a dash and a number each, some with spaces after the number.
+fn dash_lines(rng: &mut Rng, numbers: &[u64]) -> Vec<Vec<u8>> {
+    let most_spaces = rng.pick(&[0, 0, 0, 3, 40]);
+    numbers
+        .iter()
+        .map(|number| format!("- {number}{}", spaces(rng, most_spaces)).into_bytes())
+        .collect()
+}
+
+/// At most so many spaces.
+fn spaces(rng: &mut Rng, most: usize) -> String {
+    " ".repeat(rng.between(0, most))
 }
 
 /// Another list than this one; at least one number.
@@ -215,7 +365,7 @@ fn other_numbers(rng: &mut Rng, offsets: &[u64]) -> Vec<u64> {
         return vec![0];
     }
     let place = rng.below(numbers.len());
-    match rng.below(8) {
+    match rng.below(9) {
         0 => numbers[place] += 1,
         1 => numbers[place] = 0,
         2 => numbers[place] += 1 << 32,
@@ -223,6 +373,7 @@ fn other_numbers(rng: &mut Rng, offsets: &[u64]) -> Vec<u64> {
         4 => numbers.insert(place, numbers[place]),
         5 => numbers.push(numbers[place] + 54),
         6 if numbers.len() > 1 => drop(numbers.remove(place)),
+        7 if numbers.len() > 1 => numbers.reverse(),
         _ => numbers = vec![12; rng.between(65, 80)],
     }
     numbers
@@ -233,13 +384,17 @@ mod tests {
     use super::*;
     use asdf_second::{read, Verdict};
 
-    /// The verdicts on many indexes behind a file with one block, each once.
+    /// The verdict on an index after a file with one block.
+    fn verdict(index: &[u8]) -> Verdict {
+        let file = [b"#ASDF 1.0.0\n\xD3BLK\0\x30", &[0; 48][..], index].concat();
+        read(&file).unwrap().index
+    }
+
+    /// The verdicts on many such indexes, each once.
     fn verdicts(index: fn(&mut Rng, &[u64]) -> Vec<u8>) -> Vec<Verdict> {
-        let file = [b"#ASDF 1.0.0\n\xD3BLK\0\x30", &[0; 48][..]].concat();
         let mut found = Vec::new();
         for number in 0..1_000 {
-            let text = index(&mut Rng::for_file(0, number), &[12]);
-            let verdict = read(&[&file[..], &text].concat()).unwrap().index;
+            let verdict = verdict(&index(&mut Rng::for_file(0, number), &[12]));
             if !found.contains(&verdict) {
                 found.push(verdict);
             }
@@ -259,11 +414,45 @@ mod tests {
 
     #[test]
     fn each_wrong_line_is_ignored_for_its_form() {
-        let wrong_line = |rng: &mut Rng, offsets: &[u64]| {
+        let brackets: [(usize, &[&[u8]]); 4] = [
+            (0, WRONG_FIRST_LINES),
+            (1, WRONG_SECOND_LINES),
+            (START, WRONG_LIST_LINES),
+            (3, WRONG_LAST_LINES),
+        ];
+        let dashes: [(usize, &[&[u8]]); 5] = [
+            (0, WRONG_FIRST_LINES),
+            (1, WRONG_SECOND_LINES),
+            (START, WRONG_START_LINES),
+            (3, WRONG_DASH_LINES),
+            (4, WRONG_LAST_LINES),
+        ];
+        assert_wrong(Index::in_brackets, &brackets);
+        assert_wrong(Index::with_dashes, &dashes);
+    }
+
+    /// Every one of these lines has to be wrong in its place, in the index of one block, whatever the line ends are.
+    fn assert_wrong(index: fn(&mut Rng, &[u64]) -> Index, wrong: &[(usize, &[&[u8]])]) {
+        for (place, lines) in wrong {
+            for line in *lines {
+                for number in 0..20 {
+                    let rng = &mut Rng::for_file(0, number);
+                    let mut index = index(rng, &[12]);
+                    index.texts[*place] = line.to_vec();
+                    let verdict = verdict(&index.bytes(rng));
+                    assert_eq!(verdict, Verdict::IgnoredForm, "{}", line.escape_ascii());
+                }
+            }
+        }
+    }
+
+    #[test]
+    fn mixed_styles_are_ignored_for_their_form() {
+        let mixed = |rng: &mut Rng, offsets: &[u64]| {
             let mut index = Index::of(rng, offsets);
-            index.replace_line(rng);
+            index.mix_styles(rng);
             index.bytes(rng)
         };
-        assert_eq!(verdicts(wrong_line), [Verdict::IgnoredForm]);
+        assert_eq!(verdicts(mixed), [Verdict::IgnoredForm]);
     }
 }

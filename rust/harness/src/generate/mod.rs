@@ -18,9 +18,10 @@ mod tree;
 mod wrong_block;
 
 pub use cut::places_of;
+pub use index::{WRONG_DASH_LINES, WRONG_START_LINES};
 pub use replacement::{behind_first_line, replacement, LEAST_TREE};
 pub use shape::{Part, Shape};
-pub use text::{FILE_BEGIN, INDEX_LINE, MARK, YAML_LINE};
+pub use text::{DASH_START, END_LINE, FILE_BEGIN, INDEX_LINE, MARK, YAML_LINE};
 
 use crate::rng::Rng;
 

@@ -10,6 +10,8 @@ pub const MARK: &[u8] = &[0xD3, 0x42, 0x4C, 0x4B];
 pub const INDEX_LINE: &[u8] = b"#ASDF BLOCK INDEX";
 /// The first line of a tree, and the second of an index.
 pub const YAML_LINE: &[u8] = b"%YAML 1.1";
+/// The start line of an index with dashes.
+pub const DASH_START: &[u8] = b"---";
 /// The last line of a tree and of an index.
 pub const END_LINE: &[u8] = b"...";
 

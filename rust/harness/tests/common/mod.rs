@@ -1,5 +1,6 @@
 //! What the tests of the exported functions share.
 
+use asdf_harness::exports;
 use asdf_harness::nests::file_of;
 
 /// What every lent buffer holds before a call.
@@ -8,10 +9,18 @@ const UNTOUCHED: u8 = 0xA5;
 const LENT: usize = 100;
 /// The bytes of a number.
 const NUMBER: usize = 8;
+/// The words for the verdicts on an index, in the order of their numbers.
+const VERDICTS: [&str; 4] = ["absent", "good", "ignored-form", "ignored-list"];
 
 /// The file with one empty block: 66 bytes.
 pub fn one_block() -> Vec<u8> {
     file_of([&b""[..]])
+}
+
+/// The verdict on the index of a file: the last number of its layout.
+pub fn verdict(file: &[u8]) -> &'static str {
+    let [.., verdict] = numbers::<11>(|out| exports::read(file, out));
+    VERDICTS[verdict as usize]
 }
 
 /// A lent buffer that begins with these bytes.

@@ -1,0 +1,292 @@
+//! Indexes with dashes, as run: the verdict on both sides of every rule.
+//!
+//! Most indexes stand after the file of 66 bytes that has an empty block at 12.
+
+mod common;
+
+use asdf_harness::exports;
+use asdf_harness::nests::file_of;
+use asdf_harness::sparse::{HEADER_LINE, LEAST_TREE};
+use common::{assert_writes, numbers, one_block, verdict};
+
+/// The first two lines of every index.
+const FIRST_LINES: &str = "#ASDF BLOCK INDEX\n%YAML 1.1\n";
+/// The index of a block at 12, as it is written.
+const WRITTEN: &[u8] = b"#ASDF BLOCK INDEX\n%YAML 1.1\n--- [12]\n...\n";
+
+/// A file with an index of these lines from its start line on, and no end line but one that is among them.
+fn with_index(file: &[u8], rest: &str) -> Vec<u8> {
+    [file, FIRST_LINES.as_bytes(), rest.as_bytes()].concat()
+}
+
+/// The verdict on the index of these lines after one block.
+fn after_one_block(rest: &str) -> &'static str {
+    verdict(&with_index(&one_block(), rest))
+}
+
+/// The verdict on the index of these lines after blocks at 12 and 66.
+fn after_two_blocks(rest: &str) -> &'static str {
+    verdict(&with_index(&file_of([&b""[..]; 2]), rest))
+}
+
+/// Each of these as the lines of the index of one block has to have this verdict.
+fn assert_all(expected: &str, lists: &[&str]) {
+    for list in lists {
+        assert_eq!(after_one_block(list), expected, "{list:?}");
+    }
+}
+
+/// Each of these lines, before an end line, in place of the only line with a dash: the form has to be wrong.
+fn assert_wrong_lines(lines: &[&str]) {
+    for line in lines {
+        for line_end in ["\n", "\r\n"] {
+            let list = format!("---\n{line}{line_end}...\n");
+            assert_eq!(after_one_block(&list), "ignored-form", "{list:?}");
+        }
+    }
+}
+
+#[test]
+fn list_of_the_offsets_is_good() {
+    assert_eq!(after_one_block("---\n- 12\n...\n"), "good");
+    assert_eq!(after_two_blocks("---\n- 12\n- 66\n...\n"), "good");
+    let sixty_four = file_of([&b""[..]; 64]);
+    let lines: String = (0..64).map(|n| format!("- {}\n", 12 + 54 * n)).collect();
+    let list = format!("---\n{lines}...\n");
+    assert_eq!(verdict(&with_index(&sixty_four, &list)), "good");
+}
+
+#[test]
+fn each_line_ends_either_way() {
+    let ends = ["\n", "\r\n"];
+    for (first, second) in ends.iter().flat_map(|a| ends.map(|b| (a, b))) {
+        for (third, fourth) in ends.iter().flat_map(|a| ends.map(|b| (a, b))) {
+            for last in ends {
+                let start = format!("#ASDF BLOCK INDEX{first}%YAML 1.1{second}---{third}");
+                let index = format!("{start}- 12{fourth}...{last}");
+                let file = [&one_block()[..], index.as_bytes()].concat();
+                assert_eq!(verdict(&file), "good", "{index:?}");
+            }
+        }
+    }
+}
+
+#[test]
+fn any_number_of_spaces_may_follow_a_number() {
+    for count in [0, 1, 2, 3, 63, 64, 65, 200] {
+        let spaces = " ".repeat(count);
+        for line_end in ["\n", "\r\n"] {
+            let list = format!("---\n- 12{spaces}{line_end}...\n");
+            assert_eq!(after_one_block(&list), "good", "{list:?}");
+        }
+        let different = format!("---\n- 12{spaces}\n- 66\n...\n");
+        assert_eq!(after_two_blocks(&different), "good");
+    }
+}
+
+#[test]
+fn only_zeros_may_follow_the_end_line() {
+    for zeros in [1, 2, 100] {
+        let list = format!("---\n- 12\n...\n{}", "\0".repeat(zeros));
+        assert_eq!(after_one_block(&list), "good");
+    }
+    for after in [" ", "x", "\0x", "\n", "\r\n", "...\n", "- 12\n", "\0\n"] {
+        let list = format!("---\n- 12\n...\n{after}");
+        assert_eq!(after_one_block(&list), "ignored-form", "{list:?}");
+    }
+}
+
+#[test]
+fn other_list_is_ignored_for_its_list() {
+    let many = format!("---\n{}...\n", "- 12\n".repeat(65));
+    assert_all(
+        "ignored-list",
+        &[
+            "---\n- 13\n...\n",
+            "---\n- 0\n...\n",
+            "---\n- 12\n- 66\n...\n",
+            "---\n- 4294967308\n...\n",
+            "---\n- 9999999999\n...\n",
+            "---\n- 13  \r\n...\r\n\0",
+            &many,
+        ],
+    );
+    for list in [
+        "---\n- 66\n- 12\n...\n",
+        "---\n- 12\n...\n",
+        "---\n- 66\n...\n",
+        "---\n- 12\n- 12\n...\n",
+        "---\n- 12\n- 66\n- 120\n...\n",
+    ] {
+        assert_eq!(after_two_blocks(list), "ignored-list", "{list:?}");
+    }
+}
+
+#[test]
+fn dash_and_one_space_stand_before_a_number() {
+    assert_wrong_lines(&[
+        "-  12", "-12", " - 12", "  - 12", "\t- 12", "-\t12", "- \t12", "-", "- ", "-  ", "12",
+        "+ 12", "* 12", "-- 12", "- - 12",
+    ]);
+}
+
+#[test]
+fn only_spaces_stand_after_a_number() {
+    assert_wrong_lines(&[
+        "- 12\t",
+        "- 12 \t",
+        "- 12\r\r",
+        "- 12 \r\r",
+        "- 12\0",
+        "- 12,",
+        "- 12 #",
+        "- 12x",
+        "- 1 2",
+        "- 12 66",
+        "- 12, 66",
+    ]);
+}
+
+#[test]
+fn number_has_1_to_10_digits_and_no_leading_zero() {
+    assert_wrong_lines(&[
+        "- 012",
+        "- 00",
+        "- 10000000000",
+        "- 00000000012",
+        "- 18446744073709551628",
+        "- +12",
+        "- -12",
+        "- 0x0c",
+        "- 1_2",
+        "- 12.0",
+        "- x",
+    ]);
+}
+
+#[test]
+fn form_is_judged_to_its_end_before_the_list() {
+    assert_wrong_lines(&["- 13\n- 012", "- 13\n-  12", "- 12\n- 66\n- "]);
+    assert_all(
+        "ignored-form",
+        &["---\n- 13\n...\nx", "---\n- 13\n", "---\n- 13\n..."],
+    );
+}
+
+#[test]
+fn there_is_a_number() {
+    assert_all("ignored-form", &["---\n...\n", "---\r\n...\r\n\0"]);
+}
+
+#[test]
+fn start_line_is_exactly_three_dashes() {
+    for start in [
+        "--- ",
+        "---  ",
+        "---\t",
+        "---\r\r",
+        "----",
+        "--",
+        " ---",
+        "---\n---",
+        "---\n--- ",
+        "# c\n---",
+        "%\n---",
+        "...\n---",
+        "--- #",
+        "",
+        "- 12",
+    ] {
+        let list = format!("{start}\n- 12\n...\n");
+        assert_eq!(after_one_block(&list), "ignored-form", "{list:?}");
+    }
+}
+
+#[test]
+fn styles_are_not_mixed() {
+    assert_all(
+        "ignored-form",
+        &[
+            "--- [12]\n- 12\n...\n",
+            "--- [\n- 12\n]\n...\n",
+            "---\n[12]\n...\n",
+            "---\n--- [12]\n...\n",
+            "---\n- 12\n[12]\n...\n",
+            "---\n- 12\n--- [12]\n...\n",
+            "---\n- [12]\n...\n",
+            "--- - 12\n...\n",
+            "--- [- 12]\n...\n",
+        ],
+    );
+    assert_eq!(after_two_blocks("--- [12]\n- 66\n...\n"), "ignored-form");
+}
+
+#[test]
+fn empty_line_is_wrong_anywhere() {
+    assert_all(
+        "ignored-form",
+        &[
+            "\n---\n- 12\n...\n",
+            "---\n\n- 12\n...\n",
+            "---\n- 12\n\n...\n",
+            "---\n- 12\n \n...\n",
+            "---\n- 12\r\r\n...\n",
+            "---\n- 12\n...\n\n",
+        ],
+    );
+    assert_eq!(after_two_blocks("---\n- 12\n\n- 66\n...\n"), "ignored-form");
+}
+
+#[test]
+fn end_line_is_exactly_three_points_and_ended() {
+    assert_all(
+        "ignored-form",
+        &[
+            "---",
+            "---\n",
+            "---\n- 12",
+            "---\n- 12\n",
+            "---\n- 12\n...",
+            "---\n- 12\n...\r",
+            "---\n- 12\n...\0\0",
+            "---\n- 12\n... \n",
+            "---\n- 12\n ...\n",
+            "---\n- 12\n....\n",
+            "---\n- 12\n..\n",
+            "---\n- 12\nabc\n",
+        ],
+    );
+}
+
+#[test]
+fn index_is_written_in_brackets() {
+    let file = with_index(&one_block(), "---\n- 12\n...\n");
+    assert_writes(|out| exports::index(&file, out), WRITTEN);
+}
+
+#[test]
+fn verdict_is_the_same_after_an_edit() {
+    let block = &one_block()[HEADER_LINE.len()..];
+    let file = [HEADER_LINE, LEAST_TREE, b"     ", block].concat();
+    let text = b"%YAML 1.1\n---\nabcd\n...\n";
+    for (list, expected) in [
+        ("---\n- 35  \n...\n", "good"),
+        ("---\n- 12\n...\n", "ignored-list"),
+        ("---\n-  35\n...\n", "ignored-form"),
+    ] {
+        let mut edited = with_index(&file, list);
+        assert_eq!(verdict(&edited), expected);
+        assert_eq!(exports::edit(&mut edited, text), 0);
+        assert_eq!(verdict(&edited), expected);
+    }
+}
+
+#[test]
+fn index_of_a_file_inside_decides_nothing() {
+    for list in ["---\n- 12\n...\n", "---\n-  12\n...\n"] {
+        let file = file_of([&with_index(&one_block(), list)[..]]);
+        let [.., blocks, _] = numbers::<11>(|out| exports::read(&file, out));
+        assert_eq!((blocks, exports::count(&file)), (1, 2));
+        assert_eq!(verdict(&file), "absent");
+    }
+}
