@@ -31,6 +31,10 @@ def index(numbers):
     return INDEX_LINE + b"\n%YAML 1.1\n--- [" + numbers + b"]\n...\n"
 
 
+def dashes(lines, start=b"---\n"):
+    return INDEX_LINE + b"\n%YAML 1.1\n" + start + lines + b"...\n"
+
+
 def inside(file, times):
     """A file in a block of a file, in a block of a file: so many around it."""
     for _ in range(times):
@@ -86,6 +90,23 @@ CASES = {
     "gap-inside": inside(B + bytes(2) + block(), 1),
     "gap-after-a-refused-file": A + block(B + b"q") + b"gap" + block(),
     "gap-before-the-first": A + b" " + block(),
+    # an index with dashes
+    "dashes-good": B + dashes(b"- 12\n"),
+    "dashes-spaces-line-ends-zeros": B + block() + dashes(b"- 12  \r\n- 66 \n", b"---\r\n") + bytes(3),
+    "dashes-of-64-blocks": A + block() * 64 + dashes(b"".join(b"- %d\n" % (12 + 54 * i) for i in range(64))),
+    "dashes-after-a-gap": B + b"  " + block() + dashes(b"- 12\n- 68\n"),
+    "dashes-other-number": B + dashes(b"- 13\n"),
+    "dashes-other-order": B + block() + dashes(b"- 66\n- 12\n"),
+    "dashes-one-more": B + dashes(b"- 12\n- 66\n"),
+    "dashes-two-spaces": B + dashes(b"-  12\n"),
+    "dashes-space-before": B + dashes(b" - 12\n"),
+    "dashes-leading-zero-after-another-number": B + dashes(b"- 13\n- 012\n"),
+    "dashes-no-number": B + dashes(b""),
+    "dashes-space-after-the-start": B + dashes(b"- 12\n", b"--- \n"),
+    "dashes-and-brackets": B + dashes(b"- 12\n", b"--- [12]\n"),
+    "dashes-empty-line": B + dashes(b"- 12\n\n"),
+    "dashes-no-end-line": B + dashes(b"- 12\n")[:-4],
+    "dashes-more-than-zeros": B + dashes(b"- 12\n") + b"\0x",
 }
 
 

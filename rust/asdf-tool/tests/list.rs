@@ -49,7 +49,7 @@ fn table_shows_depth_sizes_and_words() {
     assert!(lines[13].ends_with("a file, too deep to be read"));
     assert_eq!(
         lines[15],
-        "index     ignored: its text has not the form of an index"
+        "index     good: it lists the offsets of the blocks"
     );
     assert_eq!(lines.len(), 16);
 }
