@@ -8,6 +8,7 @@ use asdf_harness::exports;
 use asdf_harness::nests::file_of;
 use asdf_harness::sparse::{HEADER_LINE, LEAST_TREE};
 use common::{assert_writes, numbers, one_block, verdict};
+use std::collections::HashSet;
 
 /// The first two lines of every index.
 const FIRST_LINES: &str = "#ASDF BLOCK INDEX\n%YAML 1.1\n";
@@ -222,19 +223,18 @@ fn styles_are_not_mixed() {
 }
 
 #[test]
-fn empty_line_is_wrong_anywhere() {
-    assert_all(
-        "ignored-form",
-        &[
-            "\n---\n- 12\n...\n",
-            "---\n\n- 12\n...\n",
-            "---\n- 12\n\n...\n",
-            "---\n- 12\n \n...\n",
-            "---\n- 12\r\r\n...\n",
-            "---\n- 12\n...\n\n",
-        ],
-    );
-    assert_eq!(after_two_blocks("---\n- 12\n\n- 66\n...\n"), "ignored-form");
+fn no_other_line_stands_anywhere() {
+    for other in ["", " ", "#", "# first", "%", "---", "-", "\0"] {
+        for list in [
+            format!("{other}\n---\n- 12\n- 66\n...\n"),
+            format!("---\n{other}\n- 12\n- 66\n...\n"),
+            format!("---\n- 12\n{other}\n- 66\n...\n"),
+            format!("---\n- 12\n- 66\n{other}\n...\n"),
+            format!("---\n- 12\n- 66\n...\n{other}\n"),
+        ] {
+            assert_eq!(after_two_blocks(&list), "ignored-form", "{list:?}");
+        }
+    }
 }
 
 #[test]
@@ -256,6 +256,73 @@ fn end_line_is_exactly_three_points_and_ended() {
             "---\n- 12\nabc\n",
         ],
     );
+}
+
+#[test]
+fn brackets_keep_their_own_spaces() {
+    assert_all("good", &["--- [12]\n...\n", "--- [  12 ]\n...\n"]);
+    assert_eq!(after_two_blocks("--- [ 12 ,66  ]\n...\n"), "good");
+    assert_all(
+        "ignored-form",
+        &[
+            "--- [12] \n...\n",
+            "---  [12]\n...\n",
+            " --- [12]\n...\n",
+            "--- [1 2]\n...\n",
+            "--- [ ]\n...\n",
+        ],
+    );
+}
+
+/// All texts of at most so many of these parts.
+fn texts(parts: &[&str], most: usize) -> Vec<String> {
+    let mut texts = vec![String::new()];
+    let mut longest = texts.clone();
+    for _ in 0..most {
+        let longer = |text: &String| parts.iter().map(|part| format!("{text}{part}")).collect();
+        longest = longest.iter().flat_map::<Vec<String>, _>(longer).collect();
+        texts.extend(longest.iter().cloned());
+    }
+    texts
+}
+
+/// After one block, each of these has to have the verdict of the second program, and every verdict on an index has to come up.
+fn assert_as_second(lists: impl Iterator<Item = String>) {
+    let mut found = HashSet::new();
+    for list in lists {
+        let file = with_index(&one_block(), &list);
+        let expected = asdf_second::read(&file).unwrap().index.to_string();
+        assert_eq!(verdict(&file), expected, "{list:?}");
+        found.insert(expected);
+    }
+    assert_eq!(found.len(), 3);
+}
+
+#[test]
+fn short_texts_of_lines_are_judged_as_by_the_second_program() {
+    let lines = [
+        "---\n",
+        "--- \n",
+        "---\r\n",
+        "- 12\n",
+        "- 12 \r\n",
+        "- 13\n",
+        "-  12\n",
+        "[12]\n",
+        "--- [12]\n",
+        "...\n",
+        "...",
+        "\n",
+        "\0",
+    ];
+    assert_as_second(texts(&lines, 5).into_iter());
+}
+
+#[test]
+fn short_lines_are_judged_as_by_the_second_program() {
+    let parts = ["-", " ", "12", "0", "\r", "\n", "\t", ","];
+    let lines = texts(&parts, 6).into_iter();
+    assert_as_second(lines.map(|line| format!("---\n{line}\n...\n")));
 }
 
 #[test]
