@@ -3,6 +3,7 @@
 #![deny(unsafe_code)]
 
 mod edit;
+mod index;
 mod measure;
 mod outline;
 mod read;

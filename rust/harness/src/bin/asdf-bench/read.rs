@@ -1,5 +1,6 @@
 //! The layout of one file by itself, beside the second program and a bare search of libc.
 
+use crate::index::indexed_files;
 use crate::measure::medians;
 use asdf_harness::exports::{self, SparseFile};
 use asdf_harness::nests::file_with_gaps;
@@ -47,7 +48,7 @@ pub fn print_table() -> io::Result<()> {
 /// All files that are measured.
 fn cases() -> io::Result<Vec<Case>> {
     let long_line = [vec![b'x'; MIB - 1], vec![b'\n']].concat();
-    Ok(vec![
+    let mut cases = vec![
         tree_case("tree of 1 MiB in lines of 41 bytes", LINE_OF_41)?,
         tree_case("tree of 1 MiB in lines of 1 byte", b"\n")?,
         tree_case("tree of 1 MiB in one line", &long_line)?,
@@ -66,7 +67,15 @@ fn cases() -> io::Result<Vec<Case>> {
             "64 blocks, 1 MiB of random bytes between each two",
             &random_bytes(),
         )?,
-    ])
+    ];
+    for (name, file) in indexed_files() {
+        cases.push(Case {
+            name,
+            file: SparseFile::new(file.len(), &[(0, &file)])?,
+            floor: find_line_ends,
+        });
+    }
+    Ok(cases)
 }
 
 /// A file whose tree has 1 MiB of content in copies of a line.

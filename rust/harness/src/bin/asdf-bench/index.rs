@@ -1,0 +1,47 @@
+//! Files with a block index, in brackets and with dashes.
+
+use crate::read::MIB;
+use asdf_harness::nests::{file_of, MOST_BLOCKS};
+use asdf_harness::sparse::{block_header, HEADER_LINE};
+
+/// The lines of an index before its start line.
+const INDEX_BEGIN: &str = "#ASDF BLOCK INDEX\n%YAML 1.1\n";
+/// The greatest number that an index may list. It takes ten digits.
+const GREATEST: usize = 9_999_999_999;
+
+/// Files with their names: the index of as many blocks as there may be, and a long one of other numbers.
+pub fn indexed_files() -> [(&'static str, Vec<u8>); 4] {
+    let block = block_header(0, 0).len();
+    let offsets: Vec<usize> = (0..MOST_BLOCKS)
+        .map(|ordinal| HEADER_LINE.len() + ordinal * block)
+        .collect();
+    let all = |index: String| [file_of([&b""[..]; MOST_BLOCKS]), index.into_bytes()].concat();
+    let one = |index: String| [file_of([&b""[..]]), index.into_bytes()].concat();
+    [
+        ("64 blocks, index in brackets", all(in_brackets(&offsets))),
+        ("64 blocks, index with dashes", all(with_dashes(&offsets))),
+        (
+            "index of 1 MiB in brackets",
+            one(in_brackets(&[GREATEST; MIB / 12])),
+        ),
+        (
+            "index of 1 MiB with dashes",
+            one(with_dashes(&[GREATEST; MIB / 13])),
+        ),
+    ]
+}
+
+/// The index of these numbers in brackets, as it is written.
+fn in_brackets(numbers: &[usize]) -> String {
+    let numbers: Vec<String> = numbers.iter().map(usize::to_string).collect();
+    format!("{INDEX_BEGIN}--- [{}]\n...\n", numbers.join(", "))
+}
+
+/// The index of these numbers with dashes.
+fn with_dashes(numbers: &[usize]) -> String {
+    let lines: String = numbers
+        .iter()
+        .map(|number| format!("- {number}\n"))
+        .collect();
+    format!("{INDEX_BEGIN}---\n{lines}...\n")
+}
