@@ -45,7 +45,7 @@ module _ (c : Bytes) where
   unfolding inBrackets
   none-opens h = rw (without-begins opening c, h, inBrackets)
 
-  -- a bracket opens, and nothing stands behind it
+  -- a bracket opens, and nothing stands after it
   opens-alone : begins opening c ≡ true → length c < 6 → inBrackets c ≡ none
   unfolding inBrackets without
   opens-alone h k = let all : length c ≤ 5 = omega arith in rw (without-begins opening c, h, drop-of-length-le c all, inBrackets)
@@ -97,7 +97,7 @@ module _ (t : Bytes) (from to : ℕ) where
     abbrev inner : Bytes
     inner = take (to - 1 - (from + 5)) (drop (from + 5) t)
 
-    -- behind the bracket that opens stands that, and the line's last byte
+    -- after the bracket that opens stands that, and the line's last byte
     line-last : drop 5 (take (to - from) (drop from t)) ≡ inner ++ (getD t (to - 1) 0 ∷ [])
     line-last =
         let front : 5 + (to - (from + 5)) ≡ to - from = omega arith in

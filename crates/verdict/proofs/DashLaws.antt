@@ -25,9 +25,10 @@ use Rattle.scan.specs.Number.{numberOf, NumeralRead}
 use Rattle.scan.proofs.LineLaws.{unended-lines, ended-first, ended-inside}
 use Rattle.scan.proofs.TextLaws.{begins-inside}
 use Rattle.verdict.specs.Index.{agreesAt, goodIf, judgedIf}
+use Rattle.verdict.proofs.TrimLaws.{part-all}
 use Rattle.verdict.proofs.ListLaws.{judgedFrom, judged-begin, judged-next, judged-last}
 use Rattle.verdict.proofs.BracketLaws.{without-begins}
-use Rattle.verdict.proofs.IndexLaws.{with-zeros, take-rest}
+use Rattle.verdict.proofs.IndexLaws.{with-zeros}
 
 module _ (t : Bytes) (x : Bool) (b : x ≡ begins dash (drop 0 t)) where
   -- no dash stands in front
@@ -123,7 +124,7 @@ module _ (offsets : List ℕ) (t : Bytes) (at : ℕ) (c : Line) (read : LineRead
     lines-done h inside w d =
         d
         ∙ sym (others-end equal k offsets _ inside)
-        ∙ rw (ended-first t at c read m next e .cut, dashNumbers, sym end ∙ h, with-zeros (some []) (drop next t) _ (ap allZero (take-rest t next))) at left
+        ∙ rw (ended-first t at c read m next e .cut, dashNumbers, sym end ∙ h, with-zeros (some []) (drop next t) _ (ap allZero (part-all t next))) at left
 
     module _ (h : x ≡ false) (r : Number) (number : numberOf r ≡ dashed (take (m - at) (drop at t))) where
       -- the numbers that are left are that of the line and those after it

@@ -1,12 +1,10 @@
 -- The lines of an index and the verdict on it: one law for each way out.
 use Prim.Native.Nat.{ℕ, _-_, _≤_}
-use native.Mathlib.Omega.{arith}
 use mathlib.Core.Path.{_≡_, refl, sym, ap, _∙_}
 use mathlib.Core.Bool.{Bool, true, false, not}
 use mathlib.Core.List.{List}
 use mathlib.Core.Option.{Option, none, some}
-use lib.ListN.{length, take, drop, length-drop}
-use lib.Seq.{take-all}
+use lib.ListN.{length, take, drop}
 use borrow.Author.Tests.{not-true, not-false}
 use Rattle.format.specs.declared.layout.Verdict.{Verdict}
 use Rattle.format.specs.declared.layout.Verdict.the-variants.{IgnoredForm}
@@ -27,6 +25,7 @@ use Rattle.scan.proofs.ExactLaws.{other-text, behind-first}
 use Rattle.verdict.specs.declared.form.ListStep.{ListStep}
 use Rattle.verdict.specs.declared.form.ListStep.the-variants.{Between, Dashes, Nowhere}
 use Rattle.verdict.specs.Index.{ListRead, EndRead}
+use Rattle.verdict.proofs.TrimLaws.{part-all}
 use Rattle.verdict.proofs.BracketLaws.{nowhere}
 
 module _ (t : Bytes) (at : ℕ) (word : Bytes) (r : Exact) (read : ExactRead t word at r) where
@@ -62,10 +61,6 @@ with-zeros o z false h = go (lines z) refl
     go (unended u) e = rw (ap allZero (sym (ap joinLines e) ∙ join-lines z) ∙ sym h, withZeros)
     go (line u k l) e = refl
 
--- the bytes up to the end are all
-pub take-rest : (t : Bytes) (n : ℕ) → take (length t - n) (drop n t) ≡ drop n t
-take-rest t n = take-all (length t - n) (drop n t) (simp length-drop (omega arith))
-
 -- the answer r for the tail t
 abbrev IndexRead : Bytes → ListStep → Type 0
 IndexRead t r = ListRead t (indexed (lines t)) r
@@ -98,7 +93,7 @@ module _ (t : Bytes) (at : ℕ) (d : Exact) (read : ExactRead t endLine at d) wh
   -- there is one, and zeros after it or not
   pub end-zeros : (end : ℕ) → d ≡ Behind end → (z : Bool) → z ≡ allZero (take (length t - end) (drop end t)) → EndRead t at z
   end-zeros end h z zeros = record {
-    is = λ ns. word-after t at endLine d read _ end h ∙ with-zeros ns (drop end t) z (zeros ∙ ap allZero (take-rest t end));
+    is = λ ns. word-after t at endLine d read _ end h ∙ with-zeros ns (drop end t) z (zeros ∙ ap allZero (part-all t end));
   }
 
 -- the answer r for the list whose start line begins at an offset
@@ -165,4 +160,4 @@ module _ (t : Bytes) (numbers : Option (List ℕ)) (r : ListStep) (read : ListRe
     -- their numbers are judged
     pub verdict-dashes : (offsets : List ℕ) (v : Verdict)
         → v ≡ judged offsets (atLeastOne (dashNumbers (lines (take (length t - from) (drop from t))))) → v ≡ judged offsets numbers
-    verdict-dashes offsets v h = rw (read .is, e) (rw (take-rest t from) at h)
+    verdict-dashes offsets v h = rw (read .is, e) (rw (part-all t from) at h)

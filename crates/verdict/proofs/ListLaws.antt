@@ -49,12 +49,12 @@ module _ (equal : Bool) (count k : ℕ) where
   pub all-good : not equal ≡ false → count ≡ k → Good ≡ goodIf (equal && eqb count k)
   all-good h e = rw (not-false equal h, eq-eqb count k e)
 
--- what is to be thought of numbers that stand behind k others, which agree with the offsets or do not
+-- what is to be thought of numbers that stand after k others, which agree with the offsets or do not
 unfoldable pub judgedFrom : Bool → ℕ → List ℕ → Option (List ℕ) → Verdict
 judgedFrom equal k offsets none = IgnoredForm
 judgedFrom equal k offsets (some ns) = goodIf (equal && same ns (drop k offsets))
 
--- of numbers behind no others it is the verdict
+-- of numbers after no others it is the verdict
 pub judged-begin : (offsets : List ℕ) (o : Option (List ℕ)) → judgedFrom true 0 offsets o ≡ judged offsets o
 unfolding judgedFrom judged
 judged-begin offsets none = refl
@@ -93,7 +93,7 @@ judged-last true k offsets h = ap goodIf (left (eqb (length offsets) k) refl)
 module _ (offsets : List ℕ) (list : Bytes) (at end : ℕ) (f : end ≡ at + indexOf 44 (slice at (length list) list))
     (t : Bytes) (part : t ≡ trim (take (end - at) (drop at list))) (r : Number) (read : NumeralRead t 10 r)
     (equal : Bool) (k : ℕ) (v : Verdict) (left : judgedFrom equal k offsets (listed (some (drop at list))) ≡ v) where
-  -- the numbers that are left are that of t and those behind the comma
+  -- the numbers that are left are that of t and those after the comma
   next-number : listed (some (drop at list)) ≡ both (numberOf r) (numerals 10 (map trim (others 44 (drop end list))))
   unfolding listed numerals
   next-number = rw (split-found 44 list at end f, ← part, ← read .is)
@@ -104,7 +104,7 @@ module _ (offsets : List ℕ) (list : Bytes) (at end : ℕ) (f : end ≡ at + in
   list-malformed e = rw (next-number, e) at left
 
   module _ (x : ℕ) (e : r ≡ Value x) (agree : Bool) (a : agree ≡ agreesAt equal offsets k x) where
-    -- those behind the comma are left
+    -- those after the comma are left
     next-left : judgedFrom agree (k + 1) offsets (numerals 10 (map trim (others 44 (drop end list)))) ≡ v
     next-left = rw a (sym (judged-next equal k offsets x _) ∙ rw (next-number, e) at left)
 

@@ -52,9 +52,13 @@ last-byte s from to h k =
     let there : from + (to - 1 - from) ≡ to - 1 = omega arith in
     rw (more, take-suc (drop from s) (to - 1 - from) 0 (simp length-drop (omega arith)), getD-drop, there)
 
--- the bytes up to the end are all
+-- the bytes from an offset up to the end are all from there on
+pub part-all : (t : Bytes) (n : ℕ) → take (length t - n) (drop n t) ≡ drop n t
+part-all t n = take-all (length t - n) (drop n t) (simp length-drop (omega arith))
+
+-- so they are trimmed
 pub end-begin : (t : Bytes) (from : ℕ) → trimEnd (take (length t - from) (drop from t)) ≡ trimEnd (drop from t)
-end-begin t from = ap trimEnd (take-all (length t - from) (drop from t) (simp length-drop (omega arith)))
+end-begin t from = ap trimEnd (part-all t from)
 
 module _ (t : Bytes) (from i : ℕ) (x : Bytes) (left : trimEnd (take (i - from) (drop from t)) ≡ x) where
   -- the byte before is no space

@@ -1,4 +1,4 @@
--- What is to be thought of the numbers from an offset on, behind k numbers that agree or do not, is the verdict on all of them.
+-- What is to be thought of the numbers from an offset on, after k numbers that agree or do not, is the verdict on all of them.
 use Prim.Native.Nat.{_-_, _≤_}
 use mathlib.Core.Path.{_≡_}
 use mathlib.Core.Option.{some}
