@@ -81,7 +81,7 @@ enum asdf_layout_number {
     ASDF_LAYOUT_VERDICT
 };
 
-/* What is to be thought of the block index. */
+/* What is to be thought of the block index, which may be written in brackets or with dashes. */
 enum asdf_verdict {
     ASDF_INDEX_ABSENT,
     ASDF_INDEX_GOOD,
@@ -162,7 +162,7 @@ uint64_t asdf_record(const uint8_t *file, size_t file_length, uint64_t k, uint8_
 /* The records of all rows in walking order, by one call: ASDF_RECORD_BYTES for each. */
 uint64_t asdf_records(const uint8_t *file, size_t file_length, uint8_t *out, size_t out_length);
 
-/* The text of a block index, to stand directly behind the last block: at most ASDF_LONGEST_INDEX bytes. */
+/* The text of a block index, in brackets, to stand directly after the last block: at most ASDF_LONGEST_INDEX bytes. */
 uint64_t asdf_index(const uint8_t *file, size_t file_length, uint8_t *out, size_t out_length);
 
 /* How many rows a stored outline has. Refuses it with 23 or 24, as the next two do. */

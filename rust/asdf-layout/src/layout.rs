@@ -42,7 +42,7 @@ pub struct Tree {
     pub room_end: usize,
 }
 
-/// What is to be thought of the block index.
+/// What is to be thought of the block index, which may be written in brackets or with dashes.
 #[derive(Debug, Clone, Copy, PartialEq, Eq)]
 pub enum Verdict {
     /// There is none.

@@ -4,7 +4,7 @@ use crate::answer::{answer, written};
 use crate::Refusal;
 use asdf_sys::LONGEST_INDEX;
 
-/// The text of a file's block index, to be set directly behind its last block.
+/// The text of a file's block index, in brackets, to be set directly after its last block.
 ///
 /// ```
 /// use asdf_layout::{index_text, Layout, Verdict};

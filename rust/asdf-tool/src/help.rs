@@ -37,9 +37,9 @@ Prints the text of the tree, from `%YAML 1.1` through `...`; nothing where there
 pub const INDEX: &str = "\
 asdf-layout index FILE [--write]
 
-Prints what is to be thought of the block index.
+Prints what is to be thought of the block index, which may be written in brackets or with dashes.
 
-  --write   prints the text of the right index instead, to be set directly behind the last block
+  --write   prints the text of the right index instead, in brackets, to be set directly after the last block
 ";
 
 pub const OUTLINE: &str = "\

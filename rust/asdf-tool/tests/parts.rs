@@ -35,6 +35,24 @@ fn index_is_judged_and_written() {
 }
 
 #[test]
+fn index_with_dashes_is_judged_and_the_written_one_has_brackets() {
+    let path = |name: &str| format!("{DATA}/{name}.asdf");
+    let verdict = |name: &str| printed(&["index", &path(name)]);
+    assert_eq!(
+        verdict("three-blocks"),
+        "good: it lists the offsets of the blocks\n"
+    );
+    assert_eq!(
+        verdict("updated-stale"),
+        "ignored: it lists other offsets than those of the blocks\n"
+    );
+    assert_eq!(
+        printed(&["index", "--write", &path("updated-stale")]),
+        "#ASDF BLOCK INDEX\n%YAML 1.1\n--- [686, 1026, 1366]\n...\n"
+    );
+}
+
+#[test]
 fn stored_outline_has_the_rows_of_the_listing() {
     let folder = folder("parts-outline");
     for name in ["nested-8", "sixty-blocks", "tree-only"] {
