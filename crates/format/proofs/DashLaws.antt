@@ -114,7 +114,7 @@ dash-join (d ∷ ds) l =
     ap (λ (x : Bytes). dashText d ++ (lineEnd (d .ending) ++ x)) (dash-join ds l)
     ∙ simp append-assoc
 
--- a number after a dash has the text of a line
+-- a dash line has no other bytes than those of a dash, spaces and digits
 dash-lacks : (b : ℕ) → lacks b dash ≡ true → eqb 32 b ≡ false → isDigit b ≡ false → (d : DashLine) → lacks b (dashText d) ≡ true
 unfolding dashText
 dash-lacks b p h k d =
