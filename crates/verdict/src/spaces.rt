@@ -26,7 +26,7 @@ fn spaces_in_front(t: &[u8]) -> usize
     i
 }
 
-// Where the spaces at the end of t begin. None before an offset is counted.
+// Where the spaces at the end of t begin. Spaces before an offset do not count.
 pub(crate) fn spaces_at_end(t: &[u8], from: usize) -> usize
     requires { ⌜ from ≤ length (now t) ⌝ }
     ensures { λ r. ⌜ (from ≤ r) × (r ≤ length (now (t .entry))) × (take (r - from) (drop from (now (t .entry))) ≡ trimEnd (drop from (now (t .entry)))) ⌝ }
