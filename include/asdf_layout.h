@@ -58,13 +58,14 @@ enum asdf_refusal {
 /* Counts from the first byte of what was lent; of a refused inner file, from that file's first byte. */
 #define ASDF_REFUSAL_PLACE(word) ((word) & ((UINT64_C(1) << 56) - 1))
 
-/* The bytes of each result. */
-#define ASDF_LAYOUT_BYTES 88
+/* The bytes of each result. A layout had 88 bytes before ASDF_LAYOUT_LINE_END was added: who still lends 88 is refused with
+ * 21. */
+#define ASDF_LAYOUT_BYTES 96
 #define ASDF_BLOCK_BYTES 80
 #define ASDF_RECORD_BYTES 120
 #define ASDF_ROW_BYTES 16
 #define ASDF_STORED_ROW_BYTES 80
-#define ASDF_LONGEST_INDEX 805
+#define ASDF_LONGEST_INDEX 809
 
 /* The numbers of a layout. Ends are exclusive. Without a tree its three places are 0. */
 enum asdf_layout_number {
@@ -78,7 +79,14 @@ enum asdf_layout_number {
     ASDF_LAYOUT_TREE_END,
     ASDF_LAYOUT_ROOM_END, /* the first block, or the end of the file: how far an edit may fill */
     ASDF_LAYOUT_BLOCKS,
-    ASDF_LAYOUT_VERDICT
+    ASDF_LAYOUT_VERDICT,
+    ASDF_LAYOUT_LINE_END /* of the header line; the lines of a written index end so too */
+};
+
+/* How a line ends. */
+enum asdf_line_end {
+    ASDF_LINE_END_LF,  /* 0A */
+    ASDF_LINE_END_CRLF /* 0D 0A */
 };
 
 /* What is to be thought of the block index, which may be written in brackets or with dashes. */
@@ -162,7 +170,8 @@ uint64_t asdf_record(const uint8_t *file, size_t file_length, uint64_t k, uint8_
 /* The records of all rows in walking order, by one call: ASDF_RECORD_BYTES for each. */
 uint64_t asdf_records(const uint8_t *file, size_t file_length, uint8_t *out, size_t out_length);
 
-/* The text of a block index, in brackets, to stand directly after the last block: at most ASDF_LONGEST_INDEX bytes. */
+/* The text of a block index, in brackets, to stand directly after the last block: at most ASDF_LONGEST_INDEX bytes. Its
+ * lines end as the file's header line does. */
 uint64_t asdf_index(const uint8_t *file, size_t file_length, uint8_t *out, size_t out_length);
 
 /* How many rows a stored outline has. Refuses it with 23 or 24, as the next two do. */

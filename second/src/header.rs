@@ -1,7 +1,7 @@
 //! The header line and the comments behind it.
 
 use crate::index::INDEX_LINE;
-use crate::line::{after_line_end, decimal, line_at};
+use crate::line::{decimal, line_at, LineEnd};
 use crate::refusal::*;
 
 /// The six bytes with which every file begins.
@@ -16,9 +16,10 @@ pub struct Version {
     pub patch: u16,
 }
 
-/// The header line: its version and where it ends.
+/// The header line: its version, its line end and where the next line starts.
 pub(crate) struct Header {
     pub version: Version,
+    pub line_end: LineEnd,
     pub end: usize,
 }
 
@@ -29,46 +30,37 @@ pub(crate) fn begins_like_file(bytes: &[u8]) -> bool {
 
 /// Reads the header line (2, 3, 4).
 pub(crate) fn read_header(file: &[u8]) -> Result<Header, Refusal> {
+    if !begins_like_file(file) {
+        return Err(Refusal::of_whole(NOT_ASDF));
+    }
     let version_start = FILE_BEGIN.len();
-    let version_bytes = file
-        .strip_prefix(FILE_BEGIN)
-        .ok_or(Refusal::of_whole(NOT_ASDF))?;
-    let (version, behind) =
-        version_line(version_bytes).ok_or(Refusal::at(VERSION_MALFORMED, version_start))?;
+    let refused = |number| Refusal::at(number, version_start);
+    let line = line_at(file, version_start).ok_or(refused(VERSION_MALFORMED))?;
+    let version = version(line.text).ok_or(refused(VERSION_MALFORMED))?;
     if version.major != 1 {
-        return Err(Refusal::at(VERSION_NOT_ONE, version_start));
+        return Err(refused(VERSION_NOT_ONE));
     }
     Ok(Header {
         version,
-        end: file.len() - behind.len(),
+        line_end: line.line_end,
+        end: line.next,
     })
 }
 
-/// The version with its line end, and what stands behind.
-fn version_line(bytes: &[u8]) -> Option<(Version, &[u8])> {
-    let (major, behind) = version_number(bytes)?;
-    let (minor, behind) = version_number(behind.strip_prefix(b".")?)?;
-    let (patch, behind) = version_number(behind.strip_prefix(b".")?)?;
-    Some((
-        Version {
-            major,
-            minor,
-            patch,
-        },
-        after_line_end(behind)?,
-    ))
+/// The version that this text is, from its first byte to its last.
+fn version(text: &[u8]) -> Option<Version> {
+    let mut numbers = text.split(|&byte| byte == b'.').map(version_number);
+    let version = Version {
+        major: numbers.next()??,
+        minor: numbers.next()??,
+        patch: numbers.next()??,
+    };
+    numbers.next().is_none().then_some(version)
 }
 
-/// One number of a version, and what stands behind its digits.
-fn version_number(bytes: &[u8]) -> Option<(u16, &[u8])> {
-    let looked_at = &bytes[..bytes.len().min(MOST_VERSION_DIGITS + 1)];
-    let length = looked_at
-        .iter()
-        .take_while(|byte| byte.is_ascii_digit())
-        .count();
-    let (digits, behind) = bytes.split_at(length);
-    let value = decimal(digits, MOST_VERSION_DIGITS)?;
-    Some((value as u16, behind))
+/// One number of a version.
+fn version_number(digits: &[u8]) -> Option<u16> {
+    decimal(digits, MOST_VERSION_DIGITS).map(|value| value as u16)
 }
 
 /// Where the comments that start at `start` end (5, 6).
@@ -79,7 +71,7 @@ pub(crate) fn comments_end(file: &[u8], start: usize) -> Result<usize, Refusal> 
         if line.text == INDEX_LINE {
             return Err(Refusal::at(INDEX_AMONG_COMMENTS, at));
         }
-        at = line.end;
+        at = line.next;
     }
     Ok(at)
 }

@@ -1,8 +1,9 @@
-//! The block index: judging one of either style, and writing one with brackets.
+//! The block index: judging one of either style, and writing one with brackets and the
+//! header's line end.
 
-use crate::block::{only_zeros, Block};
+use crate::block::{only_zeros, Block, MOST_BLOCKS};
 use crate::layout::judge;
-use crate::line::{after_exact_line, decimal, line_at};
+use crate::line::{decimal, exact_line_at, line_at, Line, LineEnd};
 use crate::refusal::*;
 use crate::tree::{END_LINE, START_LINE, YAML_LINE};
 use std::fmt;
@@ -15,10 +16,20 @@ const LIST_BEGIN: &[u8] = b"--- [";
 const LIST_END: &[u8] = b"]";
 /// What stands before each number of the dash style.
 const DASH: &[u8] = b"- ";
+/// What is written between two numbers.
+const BETWEEN_NUMBERS: &str = ", ";
 const MOST_OFFSET_DIGITS: usize = 10;
 
-/// The length of the longest index that is written: 64 numbers of 10 digits.
-pub const LONGEST_INDEX: usize = 805;
+/// The length of the longest index that is written: 64 numbers of 10 digits, and four lines
+/// that end with 0D 0A.
+pub const LONGEST_INDEX: usize = INDEX_LINE.len()
+    + YAML_LINE.len()
+    + LIST_BEGIN.len()
+    + MOST_BLOCKS * MOST_OFFSET_DIGITS
+    + (MOST_BLOCKS - 1) * BETWEEN_NUMBERS.len()
+    + LIST_END.len()
+    + END_LINE.len()
+    + 4 * LineEnd::Crlf.bytes().len();
 
 /// What is said of a file's index. An ignored one never refuses the file.
 #[derive(Debug, Clone, Copy, PartialEq, Eq)]
@@ -64,42 +75,42 @@ fn list_equals(tail: &[u8], blocks: &[Block]) -> Option<bool> {
 /// Hands each number of the index to `take`, in order; none where the form is not right,
 /// which may be seen only after numbers were handed on.
 fn each_number(tail: &[u8], take: &mut impl FnMut(u64)) -> Option<()> {
-    let after = after_exact_line(tail, INDEX_LINE)?;
-    let after = after_exact_line(after, YAML_LINE)?;
+    let first = exact_line_at(tail, 0, INDEX_LINE)?;
+    let second = exact_line_at(tail, first.next, YAML_LINE)?;
     // The start line tells the style, so no text can mix the two.
-    let after = match after_exact_line(after, START_LINE) {
-        Some(lines) => after_dash_lines(lines, take)?,
-        None => after_bracket_line(after, take)?,
+    let last_of_list = match exact_line_at(tail, second.next, START_LINE) {
+        Some(start_line) => dash_lines(tail, start_line.next, take)?,
+        None => bracket_line(tail, second.next, take)?,
     };
-    let after = after_exact_line(after, END_LINE)?;
-    only_zeros(after).then_some(())
+    let end_line = exact_line_at(tail, last_of_list.next, END_LINE)?;
+    only_zeros(&tail[end_line.next..]).then_some(())
 }
 
-/// Passes the one line that holds the list of the bracket style.
-fn after_bracket_line<'a>(bytes: &'a [u8], take: &mut impl FnMut(u64)) -> Option<&'a [u8]> {
-    let line = line_at(bytes, 0)?;
+/// The one line that holds the list of the bracket style.
+fn bracket_line<'a>(tail: &'a [u8], start: usize, take: &mut impl FnMut(u64)) -> Option<Line<'a>> {
+    let line = line_at(tail, start)?;
     let list = line.text.strip_prefix(LIST_BEGIN)?.strip_suffix(LIST_END)?;
     for item in list.split(|&byte| byte == b',') {
         take(list_number(without_outer_spaces(item))?);
     }
-    Some(&bytes[line.end..])
+    Some(line)
 }
 
-/// Passes the lines of the dash style, one for each number. There is at least one.
-fn after_dash_lines<'a>(bytes: &'a [u8], take: &mut impl FnMut(u64)) -> Option<&'a [u8]> {
-    let mut after = after_dash_line(bytes, take)?;
-    while after.starts_with(DASH) {
-        after = after_dash_line(after, take)?;
+/// The last of the lines of the dash style, one for each number. There is at least one.
+fn dash_lines<'a>(tail: &'a [u8], start: usize, take: &mut impl FnMut(u64)) -> Option<Line<'a>> {
+    let mut line = dash_line(tail, start, take)?;
+    while tail[line.next..].starts_with(DASH) {
+        line = dash_line(tail, line.next, take)?;
     }
-    Some(after)
+    Some(line)
 }
 
-/// Passes one line of the dash style. Only after its number more spaces may stand.
-fn after_dash_line<'a>(bytes: &'a [u8], take: &mut impl FnMut(u64)) -> Option<&'a [u8]> {
-    let line = line_at(bytes, 0)?;
+/// One line of the dash style. Only after its number more spaces may stand.
+fn dash_line<'a>(tail: &'a [u8], start: usize, take: &mut impl FnMut(u64)) -> Option<Line<'a>> {
+    let line = line_at(tail, start)?;
     let item = line.text.strip_prefix(DASH)?;
     take(list_number(without_spaces_after(item))?);
-    Some(&bytes[line.end..])
+    Some(line)
 }
 
 /// A number of the list, which is the same in both styles.
@@ -121,11 +132,12 @@ fn without_spaces_after(bytes: &[u8]) -> &[u8] {
 
 /// Writes the index of a file into the lent buffer and returns its length (1 to 17, 22, 21).
 pub fn write_index(file: &[u8], out: &mut [u8]) -> Result<usize, Refusal> {
-    let blocks = judge(file)?.chain.blocks;
+    let judged = judge(file)?;
+    let blocks = &judged.chain.blocks;
     if blocks.last().is_none_or(Block::is_streamed) {
         return Err(Refusal::of_whole(NO_INDEX_POSSIBLE));
     }
-    let text = index_text(&blocks);
+    let text = index_text(blocks, judged.line_end);
     let place = out
         .get_mut(..text.len())
         .ok_or(Refusal::of_whole(BUFFER_TOO_SHORT))?;
@@ -133,18 +145,48 @@ pub fn write_index(file: &[u8], out: &mut [u8]) -> Result<usize, Refusal> {
     Ok(text.len())
 }
 
-/// The one text that is written for these blocks, always in the bracket style.
-fn index_text(blocks: &[Block]) -> Vec<u8> {
-    let mut text = [INDEX_LINE, b"\n", YAML_LINE, b"\n", LIST_BEGIN].concat();
-    for block in blocks {
-        if block.ordinal > 0 {
-            text.extend_from_slice(b", ");
+/// The one text that is written for these blocks: always in the bracket style, and all four
+/// lines with the same line end.
+fn index_text(blocks: &[Block], line_end: LineEnd) -> Vec<u8> {
+    let offsets: Vec<String> = blocks
+        .iter()
+        .map(|block| block.offset.0.to_string())
+        .collect();
+    let list = offsets.join(BETWEEN_NUMBERS);
+    let list_line = [LIST_BEGIN, list.as_bytes(), LIST_END].concat();
+    [INDEX_LINE, YAML_LINE, list_line.as_slice(), END_LINE]
+        .map(|line| [line, line_end.bytes()].concat())
+        .concat()
+}
+
+#[cfg(test)]
+mod tests {
+    use super::*;
+    use crate::offset::InFile;
+
+    #[test]
+    fn longest_text_has_805_bytes_with_0a_and_809_with_0d_0a() {
+        let offset = |ordinal: u8| 4_000_000_000 + 54 * u32::from(ordinal);
+        let blocks: Vec<Block> = (0..64)
+            .map(|ordinal| Block {
+                ordinal,
+                offset: InFile(offset(ordinal)),
+                header_size: 48,
+                flags: 0,
+                compression: [0; 4],
+                allocated: 0,
+                used: 0,
+                data_size: 0,
+                checksum: [0; 16],
+            })
+            .collect();
+        let numbers: Vec<String> = (0..64).map(|i| offset(i).to_string()).collect();
+        let list = numbers.join(", ");
+        for (line_end, end, length) in [(LineEnd::Lf, "\n", 805), (LineEnd::Crlf, "\r\n", 809)] {
+            let expected = format!("#ASDF BLOCK INDEX{end}%YAML 1.1{end}--- [{list}]{end}...{end}");
+            assert_eq!(index_text(&blocks, line_end), expected.as_bytes());
+            assert_eq!(expected.len(), length);
         }
-        text.extend_from_slice(block.offset.0.to_string().as_bytes());
+        assert_eq!(LONGEST_INDEX, 809);
     }
-    text.extend_from_slice(LIST_END);
-    text.extend_from_slice(b"\n");
-    text.extend_from_slice(END_LINE);
-    text.extend_from_slice(b"\n");
-    text
 }

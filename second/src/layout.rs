@@ -3,6 +3,7 @@
 use crate::block::{find_mark, mark_at, walk_chain, Block, Chain, Tail};
 use crate::header::{comments_end, read_header, Version};
 use crate::index::{judge_index, Verdict};
+use crate::line::LineEnd;
 use crate::offset::InFile;
 use crate::refusal::*;
 use crate::tree::tree_end;
@@ -30,6 +31,8 @@ pub struct Tree {
 #[derive(Debug, Clone, PartialEq, Eq)]
 pub struct Layout {
     pub version: Version,
+    /// The header's line end; the file's other lines may end otherwise.
+    pub line_end: LineEnd,
     pub header_end: InFile,
     pub comments: Stretch,
     pub tree: Option<Tree>,
@@ -40,6 +43,7 @@ pub struct Layout {
 /// A file whose layout was accepted; the index is not looked at yet.
 pub(crate) struct Judged {
     pub version: Version,
+    pub line_end: LineEnd,
     pub comments: Stretch,
     pub tree: Option<Tree>,
     pub chain: Chain,
@@ -60,6 +64,7 @@ pub fn read(file: &[u8]) -> Result<Layout, Refusal> {
     let judged = judge(file)?;
     Ok(Layout {
         version: judged.version,
+        line_end: judged.line_end,
         header_end: judged.comments.start,
         comments: judged.comments,
         tree: judged.tree,
@@ -81,6 +86,7 @@ pub(crate) fn judge(file: &[u8]) -> Result<Judged, Refusal> {
     };
     Ok(Judged {
         version: header.version,
+        line_end: header.line_end,
         comments: Stretch {
             start: InFile::at(header.end),
             end: InFile::at(comments_end),

@@ -2,9 +2,9 @@
 //!
 //! It works on plain slices, keeps nothing between calls and exists to be
 //! compared with the verified implementation. The rules of the order decide,
-//! with requests W-201 (index written with dashes) and W-204 (space between
-//! blocks), and then the ASDF standard 1.1.1 (file layout). NOTES.md lists what
-//! was decided where they leave room.
+//! with requests W-201 (index written with dashes), W-204 (space between blocks)
+//! and W-205 (DOS files stay DOS), and then the ASDF standard 1.1.1 (file
+//! layout). NOTES.md lists what was decided where they leave room.
 
 #![forbid(unsafe_code)]
 
@@ -26,6 +26,7 @@ pub use edit::edit;
 pub use header::Version;
 pub use index::{write_index, Verdict, LONGEST_INDEX};
 pub use layout::{read, Layout, Stretch, Tree};
+pub use line::LineEnd;
 pub use listing::{listing, PROGRAM_LIMIT};
 pub use offset::{InFile, Outermost};
 pub use outline::{

@@ -1,9 +1,29 @@
 //! Lines and decimal numbers, the text parts of a file.
 
-/// A line that is ended: its text without the line end, and where the next line starts.
+/// The two ways in which a line may end.
+#[derive(Debug, Clone, Copy, PartialEq, Eq)]
+pub enum LineEnd {
+    /// 0A, as UNIX writes it.
+    Lf,
+    /// 0D 0A, as DOS writes it.
+    Crlf,
+}
+
+impl LineEnd {
+    /// The bytes of this line end.
+    pub(crate) const fn bytes(self) -> &'static [u8] {
+        match self {
+            LineEnd::Lf => b"\n",
+            LineEnd::Crlf => b"\r\n",
+        }
+    }
+}
+
+/// A line that is ended: its text, the line end after it, and where the next line starts.
 pub(crate) struct Line<'a> {
     pub text: &'a [u8],
-    pub end: usize,
+    pub line_end: LineEnd,
+    pub next: usize,
 }
 
 /// The line that starts at `start`, or none where no 0A follows.
@@ -11,25 +31,23 @@ pub(crate) fn line_at(bytes: &[u8], start: usize) -> Option<Line<'_>> {
     let rest = &bytes[start..];
     let length = rest.iter().position(|&byte| byte == b'\n')?;
     let before_newline = &rest[..length];
-    let text = before_newline.strip_suffix(b"\r").unwrap_or(before_newline);
+    let (text, line_end) = match before_newline.strip_suffix(b"\r") {
+        Some(text) => (text, LineEnd::Crlf),
+        None => (before_newline, LineEnd::Lf),
+    };
     Some(Line {
         text,
-        end: start + length + 1,
+        line_end,
+        next: start + length + 1,
     })
 }
 
-/// What stands behind the line end with which `bytes` begin.
-pub(crate) fn after_line_end(bytes: &[u8]) -> Option<&[u8]> {
-    bytes
-        .strip_prefix(b"\r")
-        .unwrap_or(bytes)
-        .strip_prefix(b"\n")
-}
-
-/// What stands behind the first line of `bytes`, if that line is exactly `text` and ended.
-/// Looks at no byte behind that line.
-pub(crate) fn after_exact_line<'a>(bytes: &'a [u8], text: &[u8]) -> Option<&'a [u8]> {
-    after_line_end(bytes.strip_prefix(text)?)
+/// The line that starts at `start`, if it is exactly `text` and ended.
+/// Looks no further than such a line may reach.
+pub(crate) fn exact_line_at<'a>(bytes: &'a [u8], start: usize, text: &[u8]) -> Option<Line<'a>> {
+    let furthest = start + text.len() + LineEnd::Crlf.bytes().len();
+    let line = line_at(&bytes[..furthest.min(bytes.len())], start)?;
+    (line.text == text).then_some(line)
 }
 
 /// The value of a decimal number of 1 to `most_digits` digits without a leading zero.
@@ -44,4 +62,59 @@ pub(crate) fn decimal(digits: &[u8], most_digits: usize) -> Option<u64> {
             .iter()
             .fold(0, |value, digit| 10 * value + u64::from(digit - b'0')),
     )
+}
+
+#[cfg(test)]
+mod tests {
+    use super::*;
+
+    /// All that is told of a line.
+    fn told(line: Option<Line<'_>>) -> Option<(&[u8], LineEnd, usize)> {
+        line.map(|line| (line.text, line.line_end, line.next))
+    }
+
+    #[test]
+    fn line_tells_its_text_its_line_end_and_where_the_next_starts() {
+        let bytes = b"a\nb\r\n\n\r\nc\r\r\nd\re\nf\r";
+        let mut start = 0;
+        for expected in [
+            (&b"a"[..], LineEnd::Lf, 2),
+            (b"b", LineEnd::Crlf, 5),
+            (b"", LineEnd::Lf, 6),
+            (b"", LineEnd::Crlf, 8),
+            (b"c\r", LineEnd::Crlf, 12),
+            (b"d\re", LineEnd::Lf, 16),
+        ] {
+            assert_eq!(told(line_at(bytes, start)), Some(expected));
+            start = expected.2;
+        }
+        assert_eq!(told(line_at(bytes, start)), None);
+        assert_eq!(told(line_at(bytes, bytes.len())), None);
+    }
+
+    #[test]
+    fn exact_line_tells_the_same() {
+        for (bytes, line_end, next) in [
+            (&b"x\n..\n"[..], LineEnd::Lf, 5),
+            (b"x\n..\r\n", LineEnd::Crlf, 6),
+            (b"x\n..\n\r\n", LineEnd::Lf, 5),
+            (b"x\n..\r\n..\n", LineEnd::Crlf, 6),
+        ] {
+            let expected = Some((&b".."[..], line_end, next));
+            assert_eq!(told(exact_line_at(bytes, 2, b"..")), expected, "{bytes:?}");
+        }
+        for other in [
+            "x\n",
+            "x\n.\n",
+            "x\n..",
+            "x\n..\r",
+            "x\n..\r\r\n",
+            "x\n.. \n",
+            "x\n...\n",
+            "x\n\n..\n",
+        ] {
+            let found = exact_line_at(other.as_bytes(), 2, b"..");
+            assert_eq!(told(found), None, "{other:?}");
+        }
+    }
 }

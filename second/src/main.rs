@@ -4,7 +4,7 @@
 
 use asdf_second::{
     edit, listing, most_rows, outline, read, read_outline, records, write_index, Block, Inner,
-    Layout, Record, Refusal, LONGEST_INDEX, PROGRAM_LIMIT, ROW_LENGTH,
+    Layout, LineEnd, Record, Refusal, LONGEST_INDEX, PROGRAM_LIMIT, ROW_LENGTH,
 };
 use std::ffi::OsString;
 use std::io::{self, Read, Write};
@@ -19,6 +19,7 @@ Commands, each for standard input of any length:
   layout         print the file's own layout:
                    version MAJOR MINOR PATCH
                    header END
+                   line-end lf, or line-end crlf: that of the header
                    comments START END
                    tree START END ROOM_END, or tree none
                    block ORDINAL OFFSET H FLAGS COMPRESSION ALLOCATED USED DATA_SIZE CHECKSUM
@@ -28,7 +29,7 @@ Commands, each for standard input of any length:
                    and then plain, opened, refused NUMBER PLACE, or too-deep
   outline        write the file's outline, raw bytes
   read-outline   read a stored outline, print one line for each row
-  index          write the file's index, raw bytes
+  index          write the file's index with the header's line end, raw bytes
   edit TEXTFILE  put the text in the place of the tree, write the whole file, raw bytes
 
 Flags, compression and checksum are hexadecimal, all else is decimal.
@@ -128,6 +129,7 @@ fn layout_text(layout: Layout) -> String {
         version.major, version.minor, version.patch
     );
     text += &format!("header {}\n", layout.header_end.0);
+    text += &format!("line-end {}\n", line_end_text(layout.line_end));
     text += &format!("comments {} {}\n", comments.start.0, comments.end.0);
     text += &match layout.tree {
         None => "tree none\n".to_string(),
@@ -137,6 +139,13 @@ fn layout_text(layout: Layout) -> String {
         text += &format!("block {}\n", block_fields(block, block.offset.0));
     }
     text + &format!("index {}\n", layout.index)
+}
+
+fn line_end_text(line_end: LineEnd) -> &'static str {
+    match line_end {
+        LineEnd::Lf => "lf",
+        LineEnd::Crlf => "crlf",
+    }
 }
 
 fn records_text(records: Vec<Record>) -> String {

@@ -1,6 +1,6 @@
 //! The tree's extent. Its content is not interpreted.
 
-use crate::line::{after_exact_line, line_at, Line};
+use crate::line::{exact_line_at, line_at, Line};
 use crate::refusal::*;
 
 /// The first line of a tree, and the second of an index.
@@ -12,10 +12,10 @@ pub(crate) const END_LINE: &[u8] = b"...";
 
 /// Where the tree that starts at `start` ends; none where no tree starts there (8, 9, 10).
 pub(crate) fn tree_end(bytes: &[u8], start: usize) -> Result<Option<usize>, Refusal> {
-    match after_exact_line(&bytes[start..], YAML_LINE) {
+    match exact_line_at(bytes, start, YAML_LINE) {
         None => Ok(None),
-        Some(behind) => {
-            let content_start = behind_start_line(bytes, bytes.len() - behind.len())?;
+        Some(line) => {
+            let content_start = behind_start_line(bytes, line.next)?;
             behind_end_line(bytes, content_start).map(Some)
         }
     }
@@ -27,12 +27,12 @@ fn behind_start_line(bytes: &[u8], from: usize) -> Result<usize, Refusal> {
     loop {
         let line = tree_line(bytes, at)?;
         if is_start_line(line.text) {
-            return Ok(line.end);
+            return Ok(line.next);
         }
         if !matches!(line.text.first(), Some(b'%' | b'#')) {
             return Err(Refusal::at(WRONG_LINE_BEFORE_START, at));
         }
-        at = line.end;
+        at = line.next;
     }
 }
 
@@ -42,12 +42,12 @@ fn behind_end_line(bytes: &[u8], from: usize) -> Result<usize, Refusal> {
     loop {
         let line = tree_line(bytes, at)?;
         if line.text == END_LINE {
-            return Ok(line.end);
+            return Ok(line.next);
         }
         if is_start_line(line.text) {
             return Err(Refusal::at(SECOND_START_LINE, at));
         }
-        at = line.end;
+        at = line.next;
     }
 }
 

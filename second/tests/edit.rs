@@ -124,6 +124,7 @@ fn everything_outside_the_room_reads_the_same() {
     assert_eq!(before_layout.index, Verdict::Good);
     assert_eq!(after_layout.index, Verdict::Good);
     assert_eq!(after_layout.version, before_layout.version);
+    assert_eq!(after_layout.line_end, before_layout.line_end);
     assert_eq!(after_layout.header_end, before_layout.header_end);
     assert_eq!(after_layout.comments, before_layout.comments);
     assert_eq!(after_layout.blocks, before_layout.blocks);

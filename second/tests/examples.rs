@@ -27,6 +27,7 @@ fn p2_header_alone_is_accepted() {
             patch: 0
         }
     );
+    assert_eq!(layout.line_end, LineEnd::Lf);
     assert_eq!(layout.header_end, InFile(12));
     assert_eq!(
         layout.comments,

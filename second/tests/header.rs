@@ -106,6 +106,7 @@ fn header_may_end_with_crlf() {
             patch: 0
         }
     );
+    assert_eq!(layout.line_end, LineEnd::Crlf);
     assert_eq!(layout.header_end, InFile(13));
 }
 

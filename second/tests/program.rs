@@ -152,7 +152,8 @@ fn most_rows_is_a_bound_that_is_reached() {
 
 #[test]
 fn program_without_arguments_prints_the_listing_with_status_0() {
-    for input in [b(), t(), A[..11].to_vec()] {
+    let dos = join(&[DOS_A, &block().bytes()]);
+    for input in [b(), t(), dos, A[..11].to_vec()] {
         let output = run(&[], &input);
         assert_eq!(output.stdout, listing(&input));
         assert_eq!(output.status.code(), Some(0));
@@ -170,12 +171,17 @@ fn layout_command() {
         &block_of(b"abc").bytes(),
         &index_of("34"),
     ]);
-    let expected = "version 1 0 0\nheader 12\ncomments 12 14\ntree 14 32 34\n\
+    let expected = "version 1 0 0\nheader 12\nline-end lf\ncomments 12 14\ntree 14 32 34\n\
                     block 0 34 48 00000000 00000000 3 3 3 00000000000000000000000000000000\n\
                     index good\n";
     assert_eq!(
         String::from_utf8(run(&["layout"], &file).stdout).unwrap(),
         expected
+    );
+    let dos = run(&["layout"], DOS_A);
+    assert_eq!(
+        String::from_utf8(dos.stdout).unwrap(),
+        "version 1 0 0\nheader 13\nline-end crlf\ncomments 13 13\ntree none\nindex absent\n"
     );
     let refused = run(&["layout"], b"");
     assert_eq!(
@@ -238,6 +244,8 @@ fn commands_take_more_than_the_program_s_limit() {
 #[test]
 fn index_command() {
     assert_eq!(run(&["index"], &b()).stdout, index_of("12"));
+    let dos = join(&[DOS_A, &block().bytes()]);
+    assert_eq!(run(&["index"], &dos).stdout, with_crlf(&index_of("13")));
     let refused = run(&["index"], A);
     assert_eq!(
         (refused.stderr.as_slice(), refused.status.code()),

@@ -15,7 +15,7 @@ use format::answer::EditAnswer;
 use format::answer::LayoutAnswer;
 use format::answer::RowAnswer;
 
-// The layout of a file: 88 bytes.
+// The layout of a file: 96 bytes.
 #[no_mangle]
 pub extern "C" fn asdf_read(file: &[u8], out: &mut [u8]) -> u64
     ensures { λ r. ⌜ Exported (now (file .entry)) (layoutBytes (now (file .entry))) (now (out .entry)) (now (out .exit)) r ⌝ }
@@ -76,7 +76,7 @@ pub extern "C" fn asdf_records(file: &[u8], out: &mut [u8]) -> u64
     word::counted(nest::records(file, out))
 }
 
-// The text of a block index for a file: at most 805 bytes.
+// The text of a block index for a file: at most 809 bytes.
 #[no_mangle]
 pub extern "C" fn asdf_index(file: &[u8], out: &mut [u8]) -> u64
     ensures { λ r. ⌜ IndexExported (now (file .entry)) (now (out .entry)) (now (out .exit)) r ⌝ }

@@ -13,7 +13,7 @@ use Rattle.format.specs.declared.offset.Offset.{Offset}
 use Rattle.format.specs.declared.refusal.Refusal.{Refusal}
 use Rattle.format.specs.declared.row.Row.{Row}
 use Rattle.format.specs.Bytes.{bit}
-use Rattle.format.specs.Fields.{blockFields, layoutFields, recordFields, refusalFields, rowFields, treeFields, verdictNumber}
+use Rattle.format.specs.Fields.{blockFields, layoutFields, lineEndNumber, recordFields, refusalFields, rowFields, treeFields, verdictNumber}
 use Rattle.format.specs.Outline.{innerNumber}
 
 -- a refused inner state's numbers
@@ -53,6 +53,7 @@ four-fields (Found a e m) others = refl
 
 -- a tree's four numbers stand among a layout's
 pub layout-four : (l : Layout) (four : List ℕ) → four ≡ treeFields (l .tree) → (v : ℕ) → v ≡ verdictNumber (l .verdict)
+    → (k : ℕ) → k ≡ lineEndNumber (l .header .«line_end»)
     → l .header .version .major ∷ l .header .version .minor ∷ l .header .version .patch ∷ l .header .end .0 ∷ l .«comments_end» .0
     ∷ getD four 0 0
     ∷ getD four 1 0
@@ -60,7 +61,8 @@ pub layout-four : (l : Layout) (four : List ℕ) → four ≡ treeFields (l .tre
     ∷ getD four 3 0
     ∷ l .blocks
     ∷ v
+    ∷ k
     ∷ []
     ≡ layoutFields l
 unfolding layoutFields
-layout-four l four f v e = rw (f, e, four-fields (l .tree) (l .blocks ∷ verdictNumber (l .verdict) ∷ []))
+layout-four l four f v e k d = rw (f, e, d, four-fields (l .tree) (l .blocks ∷ verdictNumber (l .verdict) ∷ lineEndNumber (l .header .«line_end») ∷ []))

@@ -2,7 +2,7 @@
 ghost use Prim.Native.Nat.{_<_};
 ghost use mathlib.Core.Path.{_≡_};
 ghost use Rattle.format.specs.Bytes.{bit as Bytes·bit};
-ghost use Rattle.format.specs.Fields.{blockFields, layoutFields, recordFields, refusalFields, rowFields, treeFields, verdictNumber};
+ghost use Rattle.format.specs.Fields.{blockFields, layoutFields, lineEndNumber, recordFields, refusalFields, rowFields, treeFields, verdictNumber};
 ghost use Rattle.format.specs.Outline.{innerNumber};
 use format::block::Block;
 use format::block::Inner;
@@ -10,13 +10,16 @@ use format::block::Record;
 use format::layout::Layout;
 use format::layout::Tree;
 use format::layout::Verdict;
+use format::line::LineEnd;
 use format::row::Row;
 
-// A layout: the version, the header's end, the comments' end, the tree, the number of blocks, the verdict.
-pub fn layout_fields(l: Layout) -> [u64; 11]
+// A layout: the version, the header's end, the comments' end, the tree, the number of blocks, the verdict, the header's line end.
+pub fn layout_fields(l: Layout) -> [u64; 12]
     ensures { λ r. ⌜ r ≡ layoutFields l ⌝ }
 {
-    let version = l.header.version;
+    let header = l.header;
+    let version = header.version;
+    let line_end = header.line_end;
     let tree = l.tree;
     let verdict = l.verdict;
     let four = tree_fields(tree);
@@ -24,7 +27,7 @@ pub fn layout_fields(l: Layout) -> [u64; 11]
         version.major as u64,
         version.minor as u64,
         version.patch as u64,
-        l.header.end.0,
+        header.end.0,
         l.comments_end.0,
         four[0],
         four[1],
@@ -32,6 +35,7 @@ pub fn layout_fields(l: Layout) -> [u64; 11]
         four[3],
         l.blocks as u64,
         verdict_number(verdict),
+        line_end_number(line_end),
     ]
 }
 
@@ -58,6 +62,16 @@ fn verdict_number(v: Verdict) -> u64
         Verdict::Good => 1,
         Verdict::IgnoredForm => 2,
         Verdict::IgnoredList => 3,
+    }
+}
+
+// The line end of the header.
+fn line_end_number(e: LineEnd) -> u64
+    ensures { λ r. ⌜ r ≡ lineEndNumber e ⌝ }
+{
+    match e {
+        LineEnd::Lf => 0,
+        LineEnd::Crlf => 1,
     }
 }
 

@@ -234,6 +234,11 @@ module _ (s : Bytes) (a : LayoutAnswer) (judged : layoutAnswer a ≡ layout s) w
       go (accepted f) h = let clash = sym (ap layoutAnswer e) ∙ rw (layout, h) at judged in cc
       go (refused q) h = let same : _≡_ {A = Outcome Layout} (refused r) (refused q) = sym (ap layoutAnswer e) ∙ rw (layout, h) at judged in cc
 
+  -- an accepted file has the layout that is answered
+  pub accepted-as : (l : Layout) → a ≡ LayoutAnswer·is.Accepted l → layout s ≡ accepted l
+  unfolding layoutAnswer
+  accepted-as l e = sym judged ∙ ap layoutAnswer e
+
   -- a refused file has no blocks
   pub block-refused : (j : ℕ) (r : Refusal) → a ≡ LayoutAnswer·is.Refused r → blockAnswer (BlockAnswer·is.Refused r) ≡ blockAt s j
   unfolding blockAnswer blockAt

@@ -7,9 +7,10 @@ use mathlib.Core.Option.{Option, none, some, Option·none-ne-some}
 use native.Mathlib.Omega.{arith}
 use lib.ListN.{length, replicate, getD}
 use lib.Dec.{eqb}
+use Rattle.format.specs.declared.line.LineEnd.{LineEnd}
 use Rattle.format.specs.Bytes.{Bytes, same, allZero}
 use Rattle.format.specs.Numeral.{isDigit, both, decimal}
-use Rattle.format.specs.Line.{LineEnd, lineEnd, Lines, unended, line}
+use Rattle.format.specs.Line.{lineEnd, Lines, unended, line}
 use Rattle.format.specs.Tree.{endLine}
 use Rattle.format.specs.Index.{without, trimEnd, dash, dashed, withZeros, dashNumbers, atLeastOne, DashLine, dashText, dashLine}
 use Rattle.format.proofs.ByteLaws.{same-true, all-zero-true, zeros-all-zero, without-some, lacks, lacks-append, lacks-replicate}

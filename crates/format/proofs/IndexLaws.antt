@@ -8,9 +8,11 @@ use native.Mathlib.Omega.{arith}
 use lib.ListN.{length, replicate, getD, length-append, length-map, length-replicate}
 use lib.Dec.{eqb}
 use Rattle.format.specs.declared.layout.Verdict.the-variants.{Absent, Good, IgnoredList}
+use Rattle.format.specs.declared.line.LineEnd.{LineEnd}
+use Rattle.format.specs.declared.line.LineEnd.the-variants.{Lf, Crlf}
 use Rattle.format.specs.Bytes.{Bytes, text, same, allZero}
 use Rattle.format.specs.Numeral.{isDigit, numeral, both, numerals, split, decimal}
-use Rattle.format.specs.Line.{LineEnd, lf, lineEnd, Lines, unended, line, lines}
+use Rattle.format.specs.Line.{lineEnd, Lines, unended, line, lines}
 use Rattle.format.specs.Comments.{indexLine}
 use Rattle.format.specs.Tree.{yamlLine, endLine}
 use Rattle.format.specs.Index.{without, trim, inBrackets, listed, dashStart, afterWord, withZeros, dashNumbers, atLeastOne, styled, indexed, judged, verdict, Entry, entry, entries, dashLine, StyledList, brackets, dashes, styledText, numbersOf, rendering, spaced, indexText, IsIndex}
@@ -330,13 +332,13 @@ spaced-numbers [] = refl
 spaced-numbers (n ∷ ns) = ap (λ (ms : List ℕ). n ∷ ms) (map-map (λ (e : Entry). e .number) next ns ∙ map-id ns)
 
 -- the index that is written is an index of the offsets
-pub text-is-index : (offsets : List ℕ) → 1 ≤ length offsets → IsIndex offsets (indexText offsets)
+pub text-is-index : (e : LineEnd) (offsets : List ℕ) → 1 ≤ length offsets → IsIndex offsets (indexText e offsets)
 unfolding indexText numbersOf
-text-is-index offsets h = record {
-  first = lf;
-  second = lf;
-  list = brackets (spaced offsets) lf;
-  last = lf;
+text-is-index e offsets h = record {
+  first = e;
+  second = e;
+  list = brackets (spaced offsets) e;
+  last = e;
   zeros = 0;
   written = refl;
   same-numbers = spaced-numbers offsets;
@@ -359,13 +361,14 @@ unfolding entries digitCount
 entries-length e [] = omega arith
 entries-length e (n ∷ ns) = simp length-append (omega (arith, entry-length (next n), entries-length (next n) ns))
 
--- the index that is written is as long as its fixed bytes, its digits, and a comma and a space between each two numbers
-pub text-length : (offsets : List ℕ) → 1 ≤ length offsets → length (indexText offsets) ≡ 39 + digitCount offsets + 2 * (length offsets - 1)
+-- the index that is written is as long as its words, four line ends, its digits, and a comma and a space between each two numbers
+pub text-length : (e : LineEnd) (offsets : List ℕ) → 1 ≤ length offsets
+    → length (indexText e offsets) ≡ 35 + 4 * length (lineEnd e) + digitCount offsets + 2 * (length offsets - 1)
 unfolding indexText rendering styledText spaced digitCount
-text-length [] h = absurd (omega arith)
-text-length (n ∷ ns) h =
-    let e : Entry = record { before = 0; number = n; after = 0 } in
-    simp length-append (omega (arith, entry-length e, entries-length e ns))
+text-length e [] h = absurd (omega arith)
+text-length e (n ∷ ns) h =
+    let first : Entry = record { before = 0; number = n; after = 0 } in
+    simp length-append (omega (arith, entry-length first, entries-length first ns))
 
 -- numbers below 2 ^ 32 have at most ten digits each
 digits-at-most : (ns : List ℕ) → ((i : ℕ) → getD ns i 0 < 2 ^ 32) → digitCount ns ≤ 10 * length ns
@@ -374,8 +377,12 @@ digits-at-most [] h = omega arith
 digits-at-most (n ∷ ns) h =
     omega (arith, decimal-is n .few 10 (omega arith) (omega (arith, h 0)), digits-at-most ns (λ i. h (suc i)))
 
--- the index of at most 64 offsets below 2 ^ 32 takes at most 805 bytes
-pub text-at-most : (offsets : List ℕ) → length offsets ≤ 64 → ((i : ℕ) → getD offsets i 0 < 2 ^ 32) → length (indexText offsets) ≤ 805
-unfolding indexText rendering styledText spaced entries
-text-at-most [] h k = omega arith
-text-at-most (n ∷ ns) h k = omega (arith, text-length (n ∷ ns) (omega arith), digits-at-most (n ∷ ns) k)
+-- a line end has at most two bytes
+end-at-most : (e : LineEnd) → length (lineEnd e) ≤ 2
+end-at-most Lf = omega arith
+end-at-most Crlf = omega arith
+
+-- the index of at most 64 offsets below 2 ^ 32 takes at most 809 bytes
+pub text-at-most : (e : LineEnd) (offsets : List ℕ) → 1 ≤ length offsets → length offsets ≤ 64 → ((i : ℕ) → getD offsets i 0 < 2 ^ 32)
+    → length (indexText e offsets) ≤ 809
+text-at-most e offsets some-number few small = omega (arith, text-length e offsets some-number, end-at-most e, digits-at-most offsets small)

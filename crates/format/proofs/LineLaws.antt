@@ -7,8 +7,10 @@ use lib.ListN.{length, drop}
 use lib.Seq.{drop-append-add, drop-append-seam}
 use lib.Dec.{eqb}
 use borrow.Author.Tests.{eqb-true}
+use Rattle.format.specs.declared.line.LineEnd.{LineEnd}
+use Rattle.format.specs.declared.line.LineEnd.the-variants.{Lf, Crlf}
 use Rattle.format.specs.Bytes.{Bytes}
-use Rattle.format.specs.Line.{LineEnd, lf, crlf, lineEnd, Lines, unended, line, lead, lines}
+use Rattle.format.specs.Line.{lineEnd, Lines, unended, line, lead, lines}
 use Rattle.format.proofs.ByteLaws.{lacks, lacks-head, lacks-tail, lacks-cons}
 
 -- the bytes of lines
@@ -37,7 +39,7 @@ lacks-ends b (a ∷ c ∷ t) h = lacks-ends b (c ∷ t) (lacks-tail b a (c ∷ t
 -- t is the text of a line that ends in e: it has no 0A, and no 0D at its end that would belong to the line end
 pub record IsLine (t : Bytes) (e : LineEnd) : Type 0 where
   pub no-feed : lacks 10 t ≡ true
-  pub no-return : e ≡ lf → endsIn 13 t ≡ false
+  pub no-return : e ≡ Lf → endsIn 13 t ≡ false
 
 -- every text is that of a line with its line end, and the bytes behind the last line have no 0A
 abbrev pub AreLines : Lines → Type 0
@@ -48,12 +50,12 @@ AreLines (line t e l) = IsLine t e × AreLines l
 join-lead : (b : ℕ) (l : Lines) → joinLines (lead b l) ≡ b ∷ joinLines l
 unfolding joinLines lead
 join-lead b (unended t) = refl
-join-lead b (line [] lf l) = go (eqb b 13) refl
+join-lead b (line [] Lf l) = go (eqb b 13) refl
   where
-    go : (x : Bool) → eqb b 13 ≡ x → joinLines (lead b (line [] lf l)) ≡ b ∷ 10 ∷ joinLines l
+    go : (x : Bool) → eqb b 13 ≡ x → joinLines (lead b (line [] Lf l)) ≡ b ∷ 10 ∷ joinLines l
     go true h = rw (h, lead) (cc (eqb-true b 13 h))
     go false h = rw (h, lead)
-join-lead b (line [] crlf l) = refl
+join-lead b (line [] Crlf l) = refl
 join-lead b (line (a ∷ t) e l) = refl
 
 -- the lines of a byte string, joined, are the byte string
@@ -84,15 +86,15 @@ line-tail b (a ∷ t) e h = record { no-feed = lacks-tail 10 b (a ∷ t) (h .no-
 -- a byte in front of a line becomes its text's first
 lead-line : (b : ℕ) (t : Bytes) (e : LineEnd) (l : Lines) → IsLine (b ∷ t) e → lead b (line t e l) ≡ line (b ∷ t) e l
 unfolding lead
-lead-line b [] lf l h = rw (h .no-return refl, lead)
-lead-line b [] crlf l h = refl
+lead-line b [] Lf l h = rw (h .no-return refl, lead)
+lead-line b [] Crlf l h = refl
 lead-line b (a ∷ t) e l h = refl
 
 -- a line's text, its line end and more bytes are that line and the lines of those bytes
 pub lines-line : (t : Bytes) (e : LineEnd) (s : Bytes) → IsLine t e → lines (t ++ (lineEnd e ++ s)) ≡ line t e (lines s)
 unfolding lines lead
-lines-line [] lf s h = refl
-lines-line [] crlf s h = refl
+lines-line [] Lf s h = refl
+lines-line [] Crlf s h = refl
 lines-line (b ∷ t) e s h =
     rw (lacks-head 10 b t (h .no-feed), lines, lines-line t e s (line-tail b t e h)) (lead-line b t e (lines s) h)
 
@@ -100,12 +102,12 @@ lines-line (b ∷ t) e s h =
 lead-are-lines : (b : ℕ) (l : Lines) → eqb b 10 ≡ false → AreLines l → AreLines (lead b l)
 unfolding lead
 lead-are-lines b (unended t) h a = lacks-cons 10 b t h a
-lead-are-lines b (line [] lf l) h a = go (eqb b 13) refl
+lead-are-lines b (line [] Lf l) h a = go (eqb b 13) refl
   where
-    go : (x : Bool) → eqb b 13 ≡ x → AreLines (lead b (line [] lf l))
-    go true r = rw (r, lead) (plain-line [] crlf refl refl, a .1)
-    go false r = rw (r, lead) (plain-line (b ∷ []) lf (lacks-cons 10 b [] h refl) r, a .1)
-lead-are-lines b (line [] crlf l) h a = (record { no-feed = lacks-cons 10 b [] h refl; no-return = λ q. cc }, a .1)
+    go : (x : Bool) → eqb b 13 ≡ x → AreLines (lead b (line [] Lf l))
+    go true r = rw (r, lead) (plain-line [] Crlf refl refl, a .1)
+    go false r = rw (r, lead) (plain-line (b ∷ []) Lf (lacks-cons 10 b [] h refl) r, a .1)
+lead-are-lines b (line [] Crlf l) h a = (record { no-feed = lacks-cons 10 b [] h refl; no-return = λ q. cc }, a .1)
 lead-are-lines b (line (c ∷ t) e l) h a =
     (record { no-feed = lacks-cons 10 b (c ∷ t) h (a .0 .no-feed); no-return = a .0 .no-return }, a .1)
 
@@ -116,7 +118,7 @@ are-lines [] = refl
 are-lines (b ∷ s) = go (eqb b 10) refl (are-lines s)
   where
     go : (x : Bool) → eqb b 10 ≡ x → AreLines (lines s) → AreLines (lines (b ∷ s))
-    go true h i = rw (h, lines) (plain-line [] lf refl refl, i)
+    go true h i = rw (h, lines) (plain-line [] Lf refl refl, i)
     go false h i = rw (h, lines) (lead-are-lines b (lines s) h i)
 
 -- lines with texts of lines are the lines of their bytes

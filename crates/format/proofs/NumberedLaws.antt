@@ -14,11 +14,12 @@ use Rattle.format.specs.declared.block.Record.{Record}
 use Rattle.format.specs.declared.layout.Tree.{Tree}
 use Rattle.format.specs.declared.layout.Tree.the-variants.{NoTree, Found}
 use Rattle.format.specs.declared.layout.Version.{Version}
+use Rattle.format.specs.declared.line.LineEnd.{LineEnd}
 use Rattle.format.specs.declared.refusal.Refusal.{Refusal}
 use Rattle.format.specs.declared.row.Row.{Row}
 use Rattle.format.specs.Bytes.{Bytes, text, begins, same}
 use Rattle.format.specs.Outcome.{Outcome, accepted, refused, need, _>>=_, _>>_}
-use Rattle.format.specs.Line.{LineEnd, Lines, unended, line, behind, lines}
+use Rattle.format.specs.Line.{Lines, unended, line, behind, lines}
 use Rattle.format.specs.Header.{token, headerOf, versionLine, header}
 use Rattle.format.specs.Comments.{comments, indexLine}
 use Rattle.format.specs.Tree.{endLine, yamlLine, isStart, isDirective, content, directives, treeEnd, tree, freeSpace}
@@ -84,15 +85,15 @@ module _ (most : ℕ) where
   unfolding writes
   numbered-writes result out h = search (numbered-bind, numbered-need, at-first)
 
-  numbered-header-of : (v : Option Version) (e : ℕ) → 6 ≤ most → Numbered most (headerOf v e)
+  numbered-header-of : (v : Option Version) (n : ℕ) (e : LineEnd) → 6 ≤ most → Numbered most (headerOf v n e)
   unfolding headerOf
-  numbered-header-of none e h = omega arith
-  numbered-header-of (some v) e h = search numbered-need
+  numbered-header-of none n e h = omega arith
+  numbered-header-of (some v) n e h = search numbered-need
 
   numbered-version : (l : Lines) → 6 ≤ most → Numbered most (versionLine l)
   unfolding versionLine
   numbered-version (unended t) h = omega arith
-  numbered-version (line t e l) h = numbered-header-of _ _ h
+  numbered-version (line t e l) h = numbered-header-of _ _ _ h
 
   -- where a line and the lines after it end by then, so do the lines after it
   line-inside : (n : ℕ) (t : Bytes) (e : LineEnd) (l : Lines) → n + length (joinLines (line t e l)) ≤ most

@@ -10,9 +10,11 @@ use lib.ListN.{length, drop, length-append, length-drop}
 use Rattle.format.specs.declared.layout.Version.{Version}
 use Rattle.format.specs.declared.layout.Header.{Header}
 use Rattle.format.specs.declared.layout.Tree.{Tree}
+use Rattle.format.specs.declared.line.LineEnd.{LineEnd}
+use Rattle.format.specs.declared.line.LineEnd.the-variants.{Lf, Crlf}
 use Rattle.format.specs.Bytes.{Bytes, text, begins, same}
 use Rattle.format.specs.Outcome.{Outcome, accepted, refused}
-use Rattle.format.specs.Line.{LineEnd, lf, crlf, lineEnd, Lines, unended, line, behind, lines}
+use Rattle.format.specs.Line.{lineEnd, Lines, unended, line, behind, lines}
 use Rattle.format.specs.Header.{token, version, headerOf, versionLine, header}
 use Rattle.format.specs.Comments.{indexLine, comments}
 use Rattle.format.specs.Tree.{yamlLine, endLine, isStart, isDirective, content, directives, treeEnd, mark, freeSpace, withRoom, tree}
@@ -157,8 +159,8 @@ tree-lines n (line t e l) a =
 
 -- a line begins with a `#` exactly if its text does
 hash-line : (t : Bytes) (e : LineEnd) (s : Bytes) → begins (text "#") (t ++ (lineEnd e ++ s)) ≡ begins (text "#") t
-hash-line [] lf s = refl
-hash-line [] crlf s = refl
+hash-line [] Lf s = refl
+hash-line [] Crlf s = refl
 hash-line (b ∷ t) e s = refl
 
 -- where no `#` stands there are no comments
@@ -213,10 +215,10 @@ module _ (n : ℕ) (s : Bytes) (m : ℕ) where
   tree-bounds h = front-bounds (tree-front h)
 
 -- a header ends where its line ends
-header-end : (v : Option Version) (e : ℕ) → Accepts (λ h. h .end .0 ≡ e) (headerOf v e)
+header-end : (v : Option Version) (n : ℕ) (e : LineEnd) → Accepts (λ h. h .end .0 ≡ n) (headerOf v n e)
 unfolding headerOf
-header-end none e = tt
-header-end (some v) e = search accepts-need
+header-end none n e = tt
+header-end (some v) n e = search accepts-need
 
 -- to read the line of the header h
 abbrev IsVersion : Header → Reading
@@ -227,7 +229,7 @@ version-lines : (h : Header) (l : Lines) → AreLines l → versionLine l ≡ ac
 unfolding versionLine joinLines
 version-lines h (unended t) a q = let z : _≡_ {A = ℕ} 0 1 = cc in absurd (omega arith)
 version-lines h (line t e l) a q =
-    subst (Front Any (IsVersion h) 6 _) (sym (accepted-holds _ _ h (header-end (version t) (behind 6 t e)) q))
+    subst (Front Any (IsVersion h) 6 _) (sym (accepted-holds _ _ h (header-end (version t) (behind 6 t e) e) q))
     (front-line Any (IsVersion h) Stops 6 t e (joinLines l) (behind 6 t e) (λ k z j r. rw (lines-line t e z (a .0)) q) (stopped 6 t e l))
 
 -- to read the header h

@@ -11,6 +11,7 @@ use Rattle.format.specs.declared.layout.Tree.{Tree}
 use Rattle.format.specs.declared.layout.Tree.the-variants.{NoTree, Found}
 use Rattle.format.specs.declared.layout.Verdict.{Verdict}
 use Rattle.format.specs.declared.layout.Verdict.the-variants.{Good}
+use Rattle.format.specs.declared.line.LineEnd.{LineEnd}
 use Rattle.format.specs.declared.block.Block.{Block}
 use Rattle.format.specs.Bytes.{Bytes, IsBytes, begins}
 use Rattle.format.specs.Outcome.{accepted}
@@ -108,22 +109,26 @@ some-offset [] h = absurd (true≢false (sym h))
 some-offset (b ∷ bs) h = omega arith
 
 -- the index that is written is a tail
-text-is-tail : (ns : List ℕ) → isTail (indexText ns) ≡ true
+text-is-tail : (e : LineEnd) (ns : List ℕ) → isTail (indexText e ns) ≡ true
 unfolding indexText rendering
-text-is-tail ns = refl
+text-is-tail e ns = refl
+
+-- the index of what is found in a file
+abbrev textOf : File → Bytes
+textOf f = indexText (f .header .«line_end») (offsets (f .blocks))
 
 -- the file cut after its last block and followed by the index that is written for it is accepted with the same parts, and its index is good
 pub indexed-again : (s : Bytes) (f : File) → IsBytes s → file s ≡ accepted f → mayHaveIndex (f .blocks) ≡ true
-    → length (take (tailStart f) s ++ indexText (offsets (f .blocks))) ≤ mostBytes
-    → file (take (tailStart f) s ++ indexText (offsets (f .blocks))) ≡ accepted (judgedAs Good f)
+    → length (take (tailStart f) s ++ textOf f) ≤ mostBytes → file (take (tailStart f) s ++ textOf f) ≡ accepted (judgedAs Good f)
 indexed-again s f bytes e m short =
+    let k = f .header .«line_end» in
     let ns = offsets (f .blocks) in
-    file-again s f e m (indexText ns) (text-is-tail ns) short
-    ∙ ap (λ (v : Verdict). accepted (judgedAs v f)) (index-is-good ns (indexText ns) (offsets-digits s f bytes e) (text-is-index ns (some-offset (f .blocks) m)))
+    file-again s f e m (indexText k ns) (text-is-tail k ns) short
+    ∙ ap (λ (v : Verdict). accepted (judgedAs v f)) (index-is-good ns (indexText k ns) (offsets-digits s f bytes e) (text-is-index k ns (some-offset (f .blocks) m)))
 
 -- what holds of the index of the offsets of each file that may have one holds of what the writer gives
 written-holds : (s : Bytes) (P : Bytes → Type 0)
-    → ((f : File) → file s ≡ accepted f → mayHaveIndex (f .blocks) ≡ true → P (indexText (offsets (f .blocks))))
+    → ((f : File) → file s ≡ accepted f → mayHaveIndex (f .blocks) ≡ true → P (textOf f))
     → (t : Bytes) → indexFor s ≡ accepted t → P t
 unfolding indexFor
 written-holds s P h t =
@@ -136,7 +141,9 @@ module _ (s : Bytes) (bytes : IsBytes s) where
 
   -- it is short
   pub index-short : (t : Bytes) → indexFor s ≡ accepted t → length t ≤ mostIndex
-  index-short = written-holds s (λ t. length t ≤ mostIndex) λ f e m. text-at-most (offsets (f .blocks)) (offsets-few s f e) (offsets-small s f bytes e)
+  index-short =
+      written-holds s (λ t. length t ≤ mostIndex) λ f e m.
+      text-at-most (f .header .«line_end») (offsets (f .blocks)) (some-offset (f .blocks) m) (offsets-few s f e) (offsets-small s f bytes e)
 
 -- the verdict on a file's index is good exactly if what stands behind the last block is an index of the blocks' offsets
 pub record GoodExactly (s : Bytes) (f : File) : Type 0 where

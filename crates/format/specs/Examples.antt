@@ -11,6 +11,7 @@ use Rattle.format.specs.declared.layout.Tree.{Tree}
 use Rattle.format.specs.declared.layout.Tree.the-variants.{NoTree}
 use Rattle.format.specs.declared.layout.Verdict.{Verdict}
 use Rattle.format.specs.declared.layout.Verdict.the-variants.{Absent, Good, IgnoredForm, IgnoredList}
+use Rattle.format.specs.declared.line.LineEnd.the-variants.{Lf}
 use Rattle.format.specs.Bytes.{Bytes, text, toBytes}
 use Rattle.format.specs.Outcome.{Outcome, accepted, refused, refusal, _>>=_}
 use Rattle.format.specs.Tree.{mark}
@@ -81,7 +82,7 @@ abbrev pub layoutWith : Tree → ℕ → Verdict → Outcome Layout
 layoutWith t blocks v =
     accepted
     (record {
-      header = record { version = record { major = 1; minor = 0; patch = 0 }; end = record { 0 = 12 } };
+      header = record { version = record { major = 1; minor = 0; patch = 0 }; end = record { 0 = 12 }; «line_end» = Lf };
       «comments_end» = record { 0 = 12 };
       tree = t;
       blocks = blocks;
@@ -106,10 +107,10 @@ table =
     ∷ Reads (fileB ++ indexWith (text "12")) (layoutWith NoTree 1 Good)
     ∷ Reads (fileB ++ indexWith (text "012")) (layoutWith NoTree 1 IgnoredForm)
     ∷ Reads (fileB ++ indexWith (text "13")) (layoutWith NoTree 1 IgnoredList)
-    -- the same three as numbers: version, ends of header and comments, tree, number of blocks, verdict
-    ∷ Numbers (fileB ++ indexWith (text "12")) (1 ∷ 0 ∷ 0 ∷ 12 ∷ 12 ∷ 0 ∷ 0 ∷ 0 ∷ 0 ∷ 1 ∷ 1 ∷ [])
-    ∷ Numbers (fileB ++ indexWith (text "012")) (1 ∷ 0 ∷ 0 ∷ 12 ∷ 12 ∷ 0 ∷ 0 ∷ 0 ∷ 0 ∷ 1 ∷ 2 ∷ [])
-    ∷ Numbers (fileB ++ indexWith (text "13")) (1 ∷ 0 ∷ 0 ∷ 12 ∷ 12 ∷ 0 ∷ 0 ∷ 0 ∷ 0 ∷ 1 ∷ 3 ∷ [])
+    -- the same three as numbers: version, ends of header and comments, tree, number of blocks, verdict, line end
+    ∷ Numbers (fileB ++ indexWith (text "12")) (1 ∷ 0 ∷ 0 ∷ 12 ∷ 12 ∷ 0 ∷ 0 ∷ 0 ∷ 0 ∷ 1 ∷ 1 ∷ 0 ∷ [])
+    ∷ Numbers (fileB ++ indexWith (text "012")) (1 ∷ 0 ∷ 0 ∷ 12 ∷ 12 ∷ 0 ∷ 0 ∷ 0 ∷ 0 ∷ 1 ∷ 2 ∷ 0 ∷ [])
+    ∷ Numbers (fileB ++ indexWith (text "13")) (1 ∷ 0 ∷ 0 ∷ 12 ∷ 12 ∷ 0 ∷ 0 ∷ 0 ∷ 0 ∷ 1 ∷ 3 ∷ 0 ∷ [])
     -- P8, P9
     ∷ Reads (fileA ++ blockHeader 47 0 0 0) (refused (refusal 12 12))
     ∷ Reads (take 65 fileB) (refused (refusal 11 12))
@@ -124,7 +125,7 @@ table =
     ((0 ∷ 12 ∷ 1 ∷ 0 ∷ 0 ∷ 0 ∷ 12 ∷ 48 ∷ 0 ∷ 0 ∷ 66 ∷ 66 ∷ 66 ∷ 0 ∷ 0 ∷ []) ∷ (1 ∷ 78 ∷ 0 ∷ 0 ∷ 0 ∷ 0 ∷ 12 ∷ 48 ∷ 0 ∷ 0 ∷ 0 ∷ 0 ∷ 0 ∷ 0 ∷ 0 ∷ []) ∷ [])
     -- P11
     ∷ Reads fileT (layoutWith (treeAt 12 30 40) 1 Absent)
-    ∷ Numbers fileT (1 ∷ 0 ∷ 0 ∷ 12 ∷ 12 ∷ 1 ∷ 12 ∷ 30 ∷ 40 ∷ 1 ∷ 0 ∷ [])
+    ∷ Numbers fileT (1 ∷ 0 ∷ 0 ∷ 12 ∷ 12 ∷ 1 ∷ 12 ∷ 30 ∷ 40 ∷ 1 ∷ 0 ∷ 0 ∷ [])
     ∷ Outlines fileT (accepted (0x00 ∷ 0x00 ∷ 0x00 ∷ 0x30 ∷ 0x00 ∷ 0x00 ∷ 0x00 ∷ 0x28 ∷ replicate 8 0x00))
     -- P12, P13
     ∷ Edits fileT (text "%YAML 1.1\n---\nxxxxxxxxx\n...\n") (accepted (fileA ++ text "%YAML 1.1\n---\nxxxxxxxxx\n...\n" ++ emptyBlock))

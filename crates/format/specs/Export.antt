@@ -47,7 +47,7 @@ pub record RewriteExported (b before after : Bytes) (r : ℕ) : Type 0 where
   pub written : Exported b (rewritten b) before after r
   pub same : r < leastRefusal → take r after ≡ b
 
--- the same for the index of the file s; where it is no refusal, what it wrote is a good index of the file, of at most 805 bytes
+-- the same for the index of the file s; where it is no refusal, what it wrote is a good index of the file, of at most 809 bytes
 pub record IndexExported (s before after : Bytes) (r : ℕ) : Type 0 where
   pub written : Exported s (indexFor s) before after r
   pub good : r < leastRefusal → GoodBehind s (take r after)

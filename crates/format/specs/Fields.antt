@@ -11,6 +11,8 @@ use Rattle.format.specs.declared.layout.Tree.{Tree}
 use Rattle.format.specs.declared.layout.Tree.the-variants.{NoTree, Found}
 use Rattle.format.specs.declared.layout.Verdict.{Verdict}
 use Rattle.format.specs.declared.layout.Verdict.the-variants.{Absent, Good, IgnoredForm, IgnoredList}
+use Rattle.format.specs.declared.line.LineEnd.{LineEnd}
+use Rattle.format.specs.declared.line.LineEnd.the-variants.{Lf, Crlf}
 use Rattle.format.specs.declared.row.Row.{Row}
 use Rattle.format.specs.Bytes.{Bytes, toBytes, bit}
 use Rattle.format.specs.Outcome.{Outcome, accepted, _>>=_}
@@ -29,16 +31,21 @@ verdictNumber Good = 1
 verdictNumber IgnoredForm = 2
 verdictNumber IgnoredList = 3
 
+-- the number of a line end
+abbrev pub lineEndNumber : LineEnd → ℕ
+lineEndNumber Lf = 0
+lineEndNumber Crlf = 1
+
 -- whether there is a tree, and its start, its end and the end of its room
 abbrev pub treeFields : Tree → List ℕ
 treeFields NoTree = 0 ∷ 0 ∷ 0 ∷ 0 ∷ []
 treeFields (Found n e m) = 1 ∷ n .0 ∷ e .0 ∷ m .0 ∷ []
 
--- three version numbers, the header's end, the comments' end, the tree, the number of blocks, the verdict
+-- three version numbers, the header's end, the comments' end, the tree, the number of blocks, the verdict, the header's line end
 unfoldable pub layoutFields : Layout → List ℕ
 layoutFields l =
     l .header .version .major ∷ l .header .version .minor ∷ l .header .version .patch ∷ l .header .end .0 ∷ l .«comments_end» .0
-    ∷ (treeFields (l .tree) ++ (l .blocks ∷ verdictNumber (l .verdict) ∷ []))
+    ∷ (treeFields (l .tree) ++ (l .blocks ∷ verdictNumber (l .verdict) ∷ lineEndNumber (l .header .«line_end») ∷ []))
 
 -- the bytes of a file's layout
 unfoldable pub layoutBytes : Bytes → Outcome Bytes

@@ -6,6 +6,7 @@ use lib.ListN.{drop}
 use lib.Dec.{eqb}
 use Rattle.format.specs.declared.layout.Version.{Version}
 use Rattle.format.specs.declared.layout.Header.{Header}
+use Rattle.format.specs.declared.line.LineEnd.{LineEnd}
 use Rattle.format.specs.Bytes.{Bytes, text, begins}
 use Rattle.format.specs.Outcome.{Outcome, accepted, refused, refusal, need, _>>_}
 use Rattle.format.specs.Numeral.{numerals, split}
@@ -27,16 +28,16 @@ versionOf (some (x ∷ y ∷ z ∷ w ∷ r)) = none
 unfoldable pub version : Bytes → Option Version
 version t = versionOf (numerals 4 (split 46 t))
 
--- the header whose version is v and whose line ends at offset e
-unfoldable pub headerOf : Option Version → ℕ → Outcome Header
-headerOf none e = refused (refusal 3 6)
-headerOf (some v) e = do
+-- the header whose version is v, and whose line ends at offset n with the line end e
+unfoldable pub headerOf : Option Version → ℕ → LineEnd → Outcome Header
+headerOf none n e = refused (refusal 3 6)
+headerOf (some v) n e = do
   need (eqb (v .major) 1) 4 6
-  accepted (record { version = v; end = record { 0 = e } })
+  accepted (record { version = v; end = record { 0 = n }; «line_end» = e })
 
 unfoldable pub versionLine : Lines → Outcome Header
 versionLine (unended t) = refused (refusal 3 6)
-versionLine (line t e l) = headerOf (version t) (behind 6 t e)
+versionLine (line t e l) = headerOf (version t) (behind 6 t e) e
 
 unfoldable pub header : Bytes → Outcome Header
 header s = do

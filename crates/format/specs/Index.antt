@@ -7,11 +7,12 @@ use mathlib.Core.Option.{Option, none, some}
 use lib.ListN.{length, replicate}
 use mathlib.Core.Path.{_≡_}
 use lib.Dec.{eqb}
+use Rattle.format.specs.declared.line.LineEnd.{LineEnd}
 use Rattle.format.specs.declared.layout.Verdict.{Verdict}
 use Rattle.format.specs.declared.layout.Verdict.the-variants.{Absent, Good, IgnoredForm, IgnoredList}
 use Rattle.format.specs.Bytes.{Bytes, text, same, allZero}
 use Rattle.format.specs.Numeral.{numeral, numerals, both, split, decimal}
-use Rattle.format.specs.Line.{Lines, unended, line, lines, LineEnd, lf, lineEnd}
+use Rattle.format.specs.Line.{Lines, unended, line, lines, lineEnd}
 use Rattle.format.specs.Comments.{indexLine}
 use Rattle.format.specs.Tree.{yamlLine, endLine}
 
@@ -149,9 +150,9 @@ unfoldable pub spaced : List ℕ → List Entry
 spaced [] = []
 spaced (n ∷ ns) = record { before = 0; number = n; after = 0 } ∷ map (λ m. record { before = 1; number = m; after = 0 }) ns
 
--- an index as it is written here, in brackets
-unfoldable pub indexText : List ℕ → Bytes
-indexText offsets = rendering lf lf (brackets (spaced offsets) lf) lf 0
+-- an index as it is written here: in brackets, with the same line end for all four lines
+unfoldable pub indexText : LineEnd → List ℕ → Bytes
+indexText e offsets = rendering e e (brackets (spaced offsets) e) e 0
 
 -- t is an index of these offsets: there are line ends, a list of these numbers and zeros after all with which it is written
 pub record IsIndex (offsets : List ℕ) (t : Bytes) : Type 0 where

@@ -1,4 +1,4 @@
--- The index that is written for a file, and what it is behind the file's last block.
+-- The index that is written for a file, and what it is after the file's last block.
 use Prim.Native.Nat.{ℕ, _≤_}
 use mathlib.Core.Path.{_≡_}
 use mathlib.Core.Bool.{Bool, false, not}
@@ -20,15 +20,16 @@ mayHaveIndex [] = false
 mayHaveIndex (b ∷ []) = not (isStreamed (b .flags))
 mayHaveIndex (b ∷ c ∷ bs) = mayHaveIndex (c ∷ bs)
 
+-- the index of a file; its lines end as the header does
 unfoldable pub indexFor : Bytes → Outcome Bytes
 indexFor s = do
   f ← file s
   need (mayHaveIndex (f .blocks)) 22 0
-  accepted (indexText (offsets (f .blocks)))
+  accepted (indexText (f .header .«line_end») (offsets (f .blocks)))
 
--- the most bytes that it has: 64 offsets of ten digits each
+-- the most bytes that it has: 64 offsets of ten digits each, and line ends of two bytes
 abbrev pub mostIndex : ℕ
-mostIndex = 805
+mostIndex = 809
 
 -- where what stands behind the last block of a file begins
 abbrev pub tailStart : File → ℕ

@@ -4,14 +4,14 @@ use mathlib.Core.Bool.{true, false}
 use mathlib.Core.List.{[], _∷_}
 use lib.ListN.{length}
 use lib.Dec.{eqb}
+use Rattle.format.specs.declared.line.LineEnd.{LineEnd}
+use Rattle.format.specs.declared.line.LineEnd.the-variants.{Lf, Crlf}
 use Rattle.format.specs.Bytes.{Bytes}
 
-pub data LineEnd : Type 0 where
-  lf crlf : LineEnd
-
+-- the bytes of a line end
 abbrev pub lineEnd : LineEnd → Bytes
-lineEnd lf = 10 ∷ []
-lineEnd crlf = 13 ∷ 10 ∷ []
+lineEnd Lf = 10 ∷ []
+lineEnd Crlf = 13 ∷ 10 ∷ []
 
 -- a byte string cut into lines: each line's bytes without its line end, and last the bytes with no 0A behind them
 pub data Lines : Type 0 where
@@ -25,10 +25,10 @@ behind n t e = n + length t + length (lineEnd e)
 -- the lines with one more byte in front
 unfoldable pub lead : ℕ → Lines → Lines
 lead b (unended t) = unended (b ∷ t)
-lead b (line [] lf l) = elim (eqb b 13) [ true ↦ line [] crlf l | false ↦ line (b ∷ []) lf l ]
-lead b (line [] crlf l) = line (b ∷ []) crlf l
+lead b (line [] Lf l) = elim (eqb b 13) [ true ↦ line [] Crlf l | false ↦ line (b ∷ []) Lf l ]
+lead b (line [] Crlf l) = line (b ∷ []) Crlf l
 lead b (line (a ∷ t) e l) = line (b ∷ a ∷ t) e l
 
 unfoldable pub lines : Bytes → Lines
 lines [] = unended []
-lines (b ∷ s) = elim (eqb b 10) [ true ↦ line [] lf (lines s) | false ↦ lead b (lines s) ]
+lines (b ∷ s) = elim (eqb b 10) [ true ↦ line [] Lf (lines s) | false ↦ lead b (lines s) ]

@@ -10,7 +10,7 @@ use Rattle.format.specs.Outcome.{accepted, refused, refusal}
 use Rattle.format.specs.Comments.{indexLine}
 use Rattle.format.specs.Tree.{mark}
 use Rattle.format.specs.Edited.{treeAt}
-use Rattle.format.specs.Examples.{Example, Reads, Edits, Lists, States, Records, fileA, fileB, blockHeader, emptyBlock, indexWith, layoutWith}
+use Rattle.format.specs.Examples.{Example, Reads, Indexes, Edits, Lists, States, Numbers, Records, fileA, fileB, blockHeader, emptyBlock, indexWith, layoutWith}
 
 -- n copies, one behind another
 abbrev pub copies : ℕ → Bytes → Bytes
@@ -29,6 +29,14 @@ nested (suc n) = fileA ++ blockOf (nested n)
 -- an index with these lines for its list
 abbrev pub indexOfLines : Bytes → Bytes
 indexOfLines t = text "#ASDF BLOCK INDEX\n%YAML 1.1\n" ++ t ++ text "...\n"
+
+-- A with a line end of two bytes
+abbrev pub dosA : Bytes
+dosA = text "#ASDF 1.0.0\r\n"
+
+-- an index of this list, with such line ends
+abbrev pub dosIndex : Bytes → Bytes
+dosIndex ns = text "#ASDF BLOCK INDEX\r\n%YAML 1.1\r\n--- [" ++ ns ++ text "]\r\n...\r\n"
 
 abbrev pub misreadings : List Example
 misreadings =
@@ -109,6 +117,18 @@ misreadings =
     -- it lists where the marks are, and not where the blocks before them end
     ∷ Reads (fileB ++ text "x" ++ emptyBlock ++ indexWith (text "12, 67")) (layoutWith NoTree 2 Good)
     ∷ Reads (fileB ++ text "x" ++ emptyBlock ++ indexWith (text "12, 66")) (layoutWith NoTree 2 IgnoredList)
+    -- the lines of a written index end as the header does, and it is good after the last block
+    ∷ Numbers (dosA ++ emptyBlock) (1 ∷ 0 ∷ 0 ∷ 13 ∷ 13 ∷ 0 ∷ 0 ∷ 0 ∷ 0 ∷ 1 ∷ 0 ∷ 1 ∷ [])
+    ∷ Indexes (dosA ++ emptyBlock) (accepted (dosIndex (text "13")))
+    ∷ Numbers (dosA ++ emptyBlock ++ dosIndex (text "13")) (1 ∷ 0 ∷ 0 ∷ 13 ∷ 13 ∷ 0 ∷ 0 ∷ 0 ∷ 0 ∷ 1 ∷ 1 ∷ 1 ∷ [])
+    -- whatever ends the comments, the tree, an index before or the header of a file inside; and two 0D are no line end
+    ∷ Indexes (dosA ++ text "#x\n%YAML 1.1\n---\n...\n" ++ emptyBlock ++ indexWith (text "34")) (accepted (dosIndex (text "34")))
+    ∷ Indexes (fileA ++ text "#x\r\n%YAML 1.1\r\n---\r\n...\r\n" ++ emptyBlock ++ dosIndex (text "37")) (accepted (indexWith (text "37")))
+    ∷ Indexes (dosA ++ blockOf fileB) (accepted (dosIndex (text "13")))
+    ∷ Indexes (fileA ++ blockOf (dosA ++ emptyBlock)) (accepted (indexWith (text "12")))
+    ∷ Indexes (text "#ASDF 1.0.0\r\r\n" ++ emptyBlock) (refused (refusal 3 6))
+    -- the listing does not say which
+    ∷ Lists (dosA ++ emptyBlock) (text "tree none\n0 0 13 48 0 0 0 0 0 0\nindex absent\n")
     -- an edit to an equal text turns the free space to spaces, and a text ends with its tree
     ∷ Edits (fileA ++ text "%YAML 1.1\n---\n...\nxx") (text "%YAML 1.1\n---\n...\n") (accepted (fileA ++ text "%YAML 1.1\n---\n...\n  "))
     ∷ Edits (fileA ++ text "%YAML 1.1\n---\n...\nxx") (text "%YAML 1.1\n---\n...\n ") (refused (refusal 19 0))

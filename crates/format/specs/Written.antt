@@ -26,7 +26,7 @@ pub record WrittenAgain (b before after : Bytes) (r : CountAnswer) : Type 0 wher
   pub written : Written (rewritten b) before after r
   pub same : (n : ℕ) → r ≡ Counted n → take n after ≡ b
 
--- the same for the index of the file s; what it wrote is a good index of the file, of at most 805 bytes
+-- the same for the index of the file s; what it wrote is a good index of the file, of at most 809 bytes
 pub record IndexWritten (s before after : Bytes) (r : CountAnswer) : Type 0 where
   pub written : Written (indexFor s) before after r
   pub good : (n : ℕ) → r ≡ Counted n → GoodBehind s (take n after)

@@ -1,4 +1,5 @@
 // What is reported of one file by itself.
+use crate::line::LineEnd;
 use crate::offset::Offset;
 
 pub struct Version {
@@ -7,10 +8,11 @@ pub struct Version {
     pub patch: u16,
 }
 
-// The first line. Its end lies behind the line end.
+// The first line. Its end lies after the line end.
 pub struct Header {
     pub version: Version,
     pub end: Offset,
+    pub line_end: LineEnd,
 }
 
 pub enum Tree {

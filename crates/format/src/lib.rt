@@ -2,6 +2,7 @@
 pub mod answer;
 pub mod block;
 pub mod layout;
+pub mod line;
 pub mod offset;
 pub mod refusal;
 pub mod row;

@@ -4,6 +4,7 @@ use mathlib.Core.Path.{_≡_, refl, sym, ap, _∙_}
 use mathlib.Core.Bool.{Bool, true, false}
 use lib.ListN.{take, drop}
 use Rattle.format.specs.declared.refusal.Refusal.{Refusal}
+use Rattle.format.specs.declared.line.LineEnd.{LineEnd}
 use Rattle.format.specs.Bytes.{Bytes, text, begins, same}
 use Rattle.format.specs.Outcome.{Outcome, refused, refusal}
 use Rattle.format.specs.Line.{lines}
@@ -28,14 +29,14 @@ module _ (s : Bytes) (at : ℕ) (x : Outcome ℕ) (left : comments at (lines (dr
     unfolding endOf comments
     comments-unended y e q = ap refused q ∙ rw (unended-lines s at r read e, comments, sym h ∙ p) at left
 
-    module _ (m next : ℕ) (e : r ≡ Ended m next) (d : Bool) (k : d ≡ same (take (m - at) (drop at s)) indexLine) where
+    module _ (m next : ℕ) (ending : LineEnd) (e : r ≡ Ended m next ending) (d : Bool) (k : d ≡ same (take (m - at) (drop at s)) indexLine) where
       -- the line that was read is the first from here on
-      first : FirstLine s at (take (m - at) (drop at s)) next
-      first = ended-first s at r read m next e
+      first : FirstLine s at (take (m - at) (drop at s)) next ending
+      first = ended-first s at r read m next ending e
 
       -- its text begins with `#`
       hash : begins (text "#") (take (m - at) (drop at s)) ≡ true
-      hash = first-byte 35 s at _ next first refl refl ∙ sym h ∙ p
+      hash = first-byte 35 s at _ next ending first refl refl ∙ sym h ∙ p
 
       -- it is the first line of an index
       pub comments-index : (y : Refusal) → d ≡ true → y ≡ refusal 6 at → endOf (Refused y) ≡ x

@@ -13,6 +13,7 @@ use borrow.Author.Tests.{not-true, not-false, eq-eqb, ne-eqb}
 use Rattle.bytes.specs.Bytes.{indexOf, slice}
 use Rattle.format.specs.declared.refusal.Refusal.{Refusal}
 use Rattle.format.specs.declared.layout.Version.{Version}
+use Rattle.format.specs.declared.line.LineEnd.{LineEnd}
 use Rattle.format.specs.Bytes.{Bytes, begins}
 use Rattle.format.specs.Outcome.{refused, refusal}
 use Rattle.format.specs.Line.{lines}
@@ -161,12 +162,12 @@ module _ (s : Bytes) (b : Bool) (h : b ≡ begins Header.token s) where
     unfolding headerOf Header.versionLine
     header-unended y e q = rw (header-line, unended-lines s 6 r read e) (ap refused q)
 
-    module _ (m next : ℕ) (e : r ≡ Ended m next) (v : VersionStep) (k : versionOf v ≡ Header.version (take (m - 6) (drop 6 s))) where
+    module _ (m next : ℕ) (ending : LineEnd) (e : r ≡ Ended m next ending) (v : VersionStep) (k : versionOf v ≡ Header.version (take (m - 6) (drop 6 s))) where
       -- the header is that of the line's version
-      header-version : Header.header s ≡ Header.headerOf (versionOf v) next
+      header-version : Header.header s ≡ Header.headerOf (versionOf v) next ending
       unfolding Header.versionLine
       header-version =
-          let first = ended-first s 6 r read m next e in
+          let first = ended-first s 6 r read m next ending e in
           header-line ∙ rw (first .cut, k, ← first .next-is)
 
       -- the line is no version
@@ -181,6 +182,6 @@ module _ (s : Bytes) (b : Bool) (h : b ≡ begins Header.token s) where
         header-other y n q = rw (header-version, d, ne-eqb (w .major) 1 n) (ap refused q)
 
         -- it is one that is read
-        pub header-read : w .major ≡ 1 → headerOf (Read (record { version = w; end = record { 0 = next } })) ≡ Header.header s
+        pub header-read : w .major ≡ 1 → headerOf (Read (record { version = w; end = record { 0 = next }; «line_end» = ending })) ≡ Header.header s
         unfolding headerOf Header.headerOf versionOf
         header-read n = rw (header-version, d, eq-eqb (w .major) 1 n)

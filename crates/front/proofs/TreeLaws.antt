@@ -8,6 +8,7 @@ use lib.Dec.{eqb}
 use borrow.Author.Tests.{not-true, not-false}
 use Rattle.format.specs.declared.refusal.Refusal.{Refusal}
 use Rattle.format.specs.declared.layout.Tree.the-variants.{NoTree, Found}
+use Rattle.format.specs.declared.line.LineEnd.{LineEnd}
 use Rattle.format.specs.Bytes.{Bytes, same}
 use Rattle.format.specs.Outcome.{Outcome, accepted, refused, refusal, _>>=_}
 use Rattle.format.specs.Line.{Lines, unended, line, lines}
@@ -46,10 +47,10 @@ module _ (s : Bytes) (at : ℕ) (r : Line) (read : LineRead s at r) (x : Outcome
   unfolding endOf directives
   directives-unended left y e q = ap refused q ∙ rw (unended-lines s at r read e) at left
 
-  module _ (m next : ℕ) (e : r ≡ Ended m next) where
+  module _ (m next : ℕ) (ending : LineEnd) (e : r ≡ Ended m next ending) where
     -- the line that was read is the first from here on
-    first : FirstLine s at (take (m - at) (drop at s)) next
-    first = ended-first s at r read m next e
+    first : FirstLine s at (take (m - at) (drop at s)) next ending
+    first = ended-first s at r read m next ending e
 
     module _ (left : content at (lines (drop at s)) ≡ x) (b : Bool) (h : b ≡ same (take (m - at) (drop at s)) endLine) where
       -- it ends the tree
@@ -100,12 +101,12 @@ module _ (s : Bytes) (at : ℕ) (r : Exact) (read : ExactRead s yamlLine at r) w
   unfolding treeOf tree withRoom
   tree-none p = rw (no-end p)
 
-  module _ (next : ℕ) (p : r ≡ Behind next) (z : EndStep) (h : endOf z ≡ directives next (lines (drop next s))) where
+  module _ (next : ℕ) (ending : LineEnd) (p : r ≡ Behind next ending) (z : EndStep) (h : endOf z ≡ directives next (lines (drop next s))) where
     -- the walk over the lines behind the first says where the tree ends, if it does
     tree-end : treeEnd at (lines (drop at s)) ≡ (do m ← endOf z; accepted (some m))
     unfolding treeEnd
     tree-end =
-        let first = behind-first s yamlLine at r read next p in
+        let first = behind-first s yamlLine at r read next ending p in
         rw (first .cut, treeEnd, ← first .next-is, h)
 
     -- it does not end
@@ -125,13 +126,13 @@ module _ (t : Bytes) (r : Exact) (read : ExactRead t yamlLine 0 r) where
   unfolding isOneTree endsAt
   one-tree-none p = rw (no-end t 0 r read p)
 
-  module _ (next : ℕ) (p : r ≡ Behind next) (z : EndStep) (h : endOf z ≡ directives next (lines (drop next t))) where
+  module _ (next : ℕ) (ending : LineEnd) (p : r ≡ Behind next ending) (z : EndStep) (h : endOf z ≡ directives next (lines (drop next t))) where
     -- nor is one that does not end
     pub one-tree-refused : (y : Refusal) → z ≡ End.Refused y → false ≡ isOneTree t
     unfolding isOneTree endsAt endOf
-    one-tree-refused y e = rw (tree-end t 0 r read next p z h, e)
+    one-tree-refused y e = rw (tree-end t 0 r read next ending p z h, e)
 
     -- one that ends is a tree if the text ends there
     pub one-tree-read : (end : ℕ) → z ≡ End.At end → eqb end (length t) ≡ isOneTree t
     unfolding isOneTree endsAt endOf
-    one-tree-read end e = rw (tree-end t 0 r read next p z h, e)
+    one-tree-read end e = rw (tree-end t 0 r read next ending p z h, e)

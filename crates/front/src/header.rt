@@ -21,7 +21,12 @@ pub fn read_header(s: &[u8]) -> HeaderStep
     if !text::begins_at(s, 0, b"#ASDF ") {
         return HeaderStep::Refused(Refusal::new(2, 0));
     }
-    let Line::Ended { text_end, next } = line::line_at(s, 6) else {
+    let Line::Ended {
+        text_end,
+        next,
+        ending,
+    } = line::line_at(s, 6)
+    else {
         return HeaderStep::Refused(Refusal::new(3, 6));
     };
     let VersionStep::Read(version) = read_version(&s[6..text_end]) else {
@@ -33,6 +38,7 @@ pub fn read_header(s: &[u8]) -> HeaderStep
     HeaderStep::Read(Header {
         version,
         end: Offset(next as u64),
+        line_end: ending,
     })
 }
 

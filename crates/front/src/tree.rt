@@ -19,7 +19,7 @@ use scan::text;
 pub fn read_tree(s: &[u8], at: usize) -> TreeStep
     ensures { λ r. ⌜ treeOf r ≡ tree at (now (s .entry)) ⌝ }
 {
-    let Exact::Behind(next) = line::yaml_line(s, at) else {
+    let Exact::Behind(next, _) = line::yaml_line(s, at) else {
         return TreeStep::Read(Tree::NoTree);
     };
     match directives_end(s, next) {
@@ -36,7 +36,7 @@ pub fn read_tree(s: &[u8], at: usize) -> TreeStep
 pub fn is_one_tree(t: &[u8]) -> bool
     ensures { λ r. ⌜ r ≡ isOneTree (now (t .entry)) ⌝ }
 {
-    let Exact::Behind(next) = line::yaml_line(t, 0) else {
+    let Exact::Behind(next, _) = line::yaml_line(t, 0) else {
         return false;
     };
     match directives_end(t, next) {
@@ -51,7 +51,12 @@ fn directives_end(s: &[u8], from: usize) -> EndStep
 {
     let mut at = from;
     loop {
-        let Line::Ended { text_end, next } = line::line_at(s, at) else {
+        let Line::Ended {
+            text_end,
+            next,
+            ending: _,
+        } = line::line_at(s, at)
+        else {
             return EndStep::Refused(Refusal::new(10, at));
         };
         if is_start(&s[at..text_end]) {
@@ -70,7 +75,12 @@ fn content_end(s: &[u8], from: usize) -> EndStep
 {
     let mut at = from;
     loop {
-        let Line::Ended { text_end, next } = line::line_at(s, at) else {
+        let Line::Ended {
+            text_end,
+            next,
+            ending: _,
+        } = line::line_at(s, at)
+        else {
             return EndStep::Refused(Refusal::new(10, at));
         };
         if text::is(&s[at..text_end], b"...") {

@@ -7,16 +7,20 @@ use mathlib.Core.Path.{_≡_, refl, sym, ap, _∙_}
 use mathlib.Core.List.{List, [], _∷_, _++_, map, flatMap, append-assoc, append-nil}
 use lib.ListN.{length, take, drop, getD, length-append, drop-of-length-le}
 use lib.Seq.{take-all, drop-cons}
+use Rattle.format.specs.declared.line.LineEnd.{LineEnd}
+use Rattle.format.specs.declared.line.LineEnd.the-variants.{Lf, Crlf}
 use Rattle.format.specs.Bytes.{Bytes, text}
+use Rattle.format.specs.Line.{lineEnd}
+use Rattle.format.specs.Tree.{endLine}
 use Rattle.format.specs.Lent.{placed}
 use Rattle.format.specs.Numeral.{decimal}
 use Rattle.format.specs.Index.{Entry, entry, entries, styledText, rendering, spaced, indexText}
 use Rattle.format.proofs.IndexLaws.{digitCount, text-length}
 use Rattle.put.specs.Decimal.{DecimalLength}
 use Rattle.put.proofs.PutLaws.{placed-append, placed-length, placed-sets, placed-behind}
-use Rattle.index.specs.Index.{listText, nextText, othersText, PutAt}
+use Rattle.index.specs.Index.{frontText, backText, aroundLength, listText, nextText, othersText, PutAt}
 
--- a number behind another, as an entry
+-- a number after another, as an entry
 abbrev next : ℕ → Entry
 next m = record { before = 1; number = m; after = 0 }
 
@@ -25,7 +29,7 @@ next-entry : (n : ℕ) → entry (next n) ≡ 32 ∷ decimal n
 unfolding entry
 next-entry n = append-nil (32 ∷ decimal n)
 
--- an entry and others behind it
+-- an entry and others after it
 entries-others : (e : Entry) (ns : List ℕ) → entries (e ∷ map next ns) ≡ entry e ++ othersText ns
 unfolding entries flatMap
 entries-others e [] = sym (append-nil (entry e))
@@ -33,55 +37,64 @@ entries-others e (n ∷ ns) =
     append-assoc (entry e) (text ",") (entries (next n ∷ map next ns))
     ∙ ap (λ (t : Bytes). entry e ++ (44 ∷ t)) (entries-others (next n) ns ∙ ap (λ (t : Bytes). t ++ othersText ns) (next-entry n))
 
--- a list is its first number and the others behind it
+-- a list is its first number and the others after it
 list-others : (n : ℕ) (ns : List ℕ) → listText (n ∷ ns) ≡ decimal n ++ othersText ns
 unfolding spaced entry
 list-others n ns =
     entries-others (record { before = 0; number = n; after = 0 }) ns ∙ ap (λ (t : Bytes). t ++ othersText ns) (append-nil (decimal n))
 
--- what stands before the list of an index, and what behind
-abbrev front : Bytes
-front = text "#ASDF BLOCK INDEX\n%YAML 1.1\n--- ["
+-- what follows a list, in one piece
+after-list : (l e : Bytes) → l ++ text "]" ++ e ++ endLine ++ e ++ [] ≡ l ++ (text "]" ++ e ++ endLine ++ e)
+after-list l e = simp (append-assoc, append-nil)
 
-abbrev back : Bytes
-back = text "]\n...\n"
-
--- an index is its list with what stands before and behind it
-index-parts : (ns : List ℕ) → indexText ns ≡ front ++ (listText ns ++ back)
+-- an index is its list with what stands before and after it
+index-parts : (e : LineEnd) (ns : List ℕ) → indexText e ns ≡ frontText e ++ (listText ns ++ backText e)
 unfolding indexText rendering styledText
-index-parts ns = ap (λ (t : Bytes). front ++ t) (behind (listText ns))
-  where
-    behind : (l : Bytes) → l ++ text "]" ++ text "\n" ++ text "..." ++ text "\n" ++ [] ≡ l ++ back
-    behind l = simp (append-assoc, append-nil)
+index-parts Lf ns = ap (λ (t : Bytes). frontText Lf ++ t) (after-list (listText ns) (lineEnd Lf))
+index-parts Crlf ns = ap (λ (t : Bytes). frontText Crlf ++ t) (after-list (listText ns) (lineEnd Crlf))
 
--- so far n bytes are counted, with those of the numbers before i
-pub record Measured (ns : List ℕ) (n i : ℕ) : Type 0 where
+-- what stands around the list has 35 bytes and four line ends
+around-length : (e : LineEnd) → aroundLength e ≡ 35 + 4 * length (lineEnd e)
+around-length Lf = refl
+around-length Crlf = refl
+
+-- it is short, and has the two bytes that are counted too many for the first number
+around-bounds : (e : LineEnd) → (2 ≤ aroundLength e) × (aroundLength e ≤ 43)
+around-bounds Lf = (omega arith, omega arith)
+around-bounds Crlf = (omega arith, omega arith)
+
+-- so far n bytes are counted, from `base` on, with those of the numbers before i
+pub record Measured (base : ℕ) (ns : List ℕ) (n i : ℕ) : Type 0 where
+  pub small : base ≤ 41
   pub inside : i ≤ length ns
-  pub few : n ≤ 37 + 22 * i
-  pub left : n + digitCount (drop i ns) + 2 * (length ns - i) ≡ 37 + digitCount ns + 2 * length ns
+  pub few : n ≤ base + 22 * i
+  pub left : n + digitCount (drop i ns) + 2 * (length ns - i) ≡ base + digitCount ns + 2 * length ns
 
--- none is counted yet
-pub measure-start : (ns : List ℕ) → Measured ns 37 0
-measure-start ns = record { inside = omega arith; few = omega arith; left = omega arith }
+-- the next number is counted
+module _ (base : ℕ) (ns : List ℕ) (n i : ℕ) (h : Measured base ns n i) (d : ℕ) (e : DecimalLength (getD ns i 0) d) (p : i < length ns) where
+  pub measure-fits : length ns ≤ 64 → n + (2 + d) < 2 ^ 64
+  measure-fits few = omega (arith, h .small, h .few, e .few)
 
-module _ (ns : List ℕ) (n i : ℕ) (h : Measured ns n i) where
-  -- the next number is counted
-  module _ (d : ℕ) (e : DecimalLength (getD ns i 0) d) (p : i < length ns) where
-    pub measure-fits : length ns ≤ 64 → n + (2 + d) < 2 ^ 64
-    measure-fits few = omega (arith, h .few, e .few)
+  pub measure-step : Measured base ns (n + (2 + d)) (i + 1)
+  unfolding digitCount
+  measure-step =
+      let digits : digitCount (drop i ns) ≡ d + digitCount (drop (i + 1) ns) = rw (drop-cons ns i 0 p, add-one i, e .is) in
+      record { small = h .small; inside = omega arith; few = omega (arith, h .few, e .few); left = omega (arith, h .left, digits) }
 
-    pub measure-step : Measured ns (n + (2 + d)) (i + 1)
-    unfolding digitCount
-    measure-step =
-        let digits : digitCount (drop i ns) ≡ d + digitCount (drop (i + 1) ns) = rw (drop-cons ns i 0 p, add-one i, e .is) in
-        record { inside = omega arith; few = omega (arith, h .few, e .few); left = omega (arith, h .left, digits) }
+-- the count begins with the bytes around the list, without the two that the first number is counted with too many
+module _ (k : LineEnd) (a : ℕ) (around : a ≡ aroundLength k) where
+  pub around-some : 2 ≤ a
+  around-some = omega (arith, around-bounds k)
+
+  pub measure-start : (ns : List ℕ) → Measured (a - 2) ns (a - 2) 0
+  measure-start ns = record { small = omega (arith, around-bounds k); inside = omega arith; few = omega arith; left = omega arith }
 
   -- all are counted
-  pub measure-done : length ns ≤ i → 1 ≤ length ns → n ≡ length (indexText ns)
+  pub measure-done : (ns : List ℕ) (n i : ℕ) → Measured (a - 2) ns n i → length ns ≤ i → 1 ≤ length ns → n ≡ length (indexText k ns)
   unfolding digitCount
-  measure-done p some-number =
+  measure-done ns n i h p some-number =
       let nothing : digitCount (drop i ns) ≡ 0 = rw (drop-of-length-le ns p) in
-      omega (arith, h .inside, h .left, nothing, text-length ns some-number)
+      omega (arith, around-some, h .inside, h .left, nothing, around-length k, text-length k ns some-number)
 
 -- a comma, a space and a number are put
 pub next-put : (out mid after : Bytes) (at x n : ℕ) → at + length (nextText x) ≤ length out → DecimalLength x n → mid ≡ placed out at (text ", ")
@@ -162,18 +175,37 @@ module _ (out : Bytes) (at : ℕ) (ns : List ℕ) (some-number : 1 ≤ length ns
       end = omega (arith, q .end, list-length);
     }
 
-module _ (out a : Bytes) (ns : List ℕ) (room : length (indexText ns) ≤ length out) (e : a ≡ placed out 0 front) where
-  index-length : length (indexText ns) ≡ 33 + length (listText ns) + 6
-  index-length = ap length (index-parts ns) ∙ omega (arith, length-append (listText ns) back)
+-- what stands before the list is put
+module _ (out after : Bytes) (e : LineEnd) where
+  pub front-lf : e ≡ Lf → after ≡ placed out 0 (frontText Lf) → PutAt out after 0 (frontText e) 33
+  front-lf h f = rw h (record { buffer = f; end = refl })
+
+  pub front-crlf : e ≡ Crlf → after ≡ placed out 0 (frontText Crlf) → PutAt out after 0 (frontText e) 35
+  front-crlf h f = rw h (record { buffer = f; end = refl })
+
+  -- what stands after it is put
+  module _ (at : ℕ) where
+    pub back-lf : e ≡ Lf → after ≡ placed out at (backText Lf) → after ≡ placed out at (backText e)
+    back-lf h f = rw h f
+
+    pub back-crlf : e ≡ Crlf → after ≡ placed out at (backText Crlf) → after ≡ placed out at (backText e)
+    back-crlf h f = rw h f
+
+module _ (out a : Bytes) (e : LineEnd) (ns : List ℕ) (room : length (indexText e ns) ≤ length out) (from : ℕ) (front : PutAt out a 0 (frontText e) from) where
+  index-length : length (indexText e ns) ≡ from + length (listText ns) + length (backText e)
+  index-length =
+      ap length (index-parts e ns)
+      ∙ length-append (frontText e) (listText ns ++ backText e)
+      ∙ omega (arith, front .end, length-append (listText ns) (backText e))
 
   -- there is room for the list
-  pub list-fits : 33 + length (listText ns) ≤ length a
-  list-fits = omega (arith, index-length, ap length e, placed-length out 0 front)
+  pub list-fits : from + length (listText ns) ≤ length a
+  list-fits = omega (arith, index-length, ap length (front .buffer), placed-length out 0 (frontText e))
 
   -- the three parts are put
-  pub index-put : (b c : Bytes) (end : ℕ) → PutAt a b 33 (listText ns) end → c ≡ placed b end back → c ≡ placed out 0 (indexText ns)
-  index-put b c end h f =
-      let two = placed-behind out a b 0 33 front (listText ns) e refl (h .buffer) (omega (arith, index-length)) in
-      let size : length (front ++ listText ns) ≡ end = length-append front (listText ns) ∙ sym (h .end) in
-      let three = placed-behind out b c 0 end (front ++ listText ns) back two size (rw zero-add f) (omega (arith, index-length, h .end)) in
-      three ∙ ap (placed out 0) (append-assoc front (listText ns) back ∙ sym (index-parts ns))
+  pub index-put : (b c : Bytes) (to : ℕ) → PutAt a b from (listText ns) to → c ≡ placed b to (backText e) → c ≡ placed out 0 (indexText e ns)
+  index-put b c to h f =
+      let two = placed-behind out a b 0 from (frontText e) (listText ns) (front .buffer) (omega (arith, front .end)) (rw zero-add (h .buffer)) (omega (arith, index-length)) in
+      let size : length (frontText e ++ listText ns) ≡ to = length-append (frontText e) (listText ns) ∙ omega (arith, front .end, h .end) in
+      let three = placed-behind out b c 0 to (frontText e ++ listText ns) (backText e) two size (rw zero-add f) (omega (arith, index-length, h .end)) in
+      three ∙ ap (placed out 0) (append-assoc (frontText e) (listText ns) (backText e) ∙ sym (index-parts e ns))

@@ -14,6 +14,8 @@ use Rattle.format.specs.declared.answer.CountAnswer.{CountAnswer}
 use Rattle.format.specs.declared.answer.CountAnswer.the-variants.{Counted, Refused}
 use Rattle.format.specs.declared.answer.LayoutAnswer.{LayoutAnswer}
 use Rattle.format.specs.declared.answer.LayoutAnswer.the-variants as LayoutAnswer·is
+use Rattle.format.specs.declared.layout.Layout.{Layout}
+use Rattle.format.specs.declared.line.LineEnd.{LineEnd}
 use Rattle.format.specs.declared.block.Block.{Block}
 use Rattle.format.specs.declared.refusal.Refusal.{Refusal}
 use Rattle.format.specs.Answer.{layoutAnswer, blockAnswer}
@@ -21,7 +23,7 @@ use Rattle.format.specs.Bytes.{Bytes, IsBytes}
 use Rattle.format.specs.Outcome.{accepted, refused, refusal}
 use Rattle.format.specs.Block.{isStreamed}
 use Rattle.format.specs.Index.{indexText}
-use Rattle.format.specs.File.{layout, blockAt}
+use Rattle.format.specs.File.{layoutOf, layout, blockAt}
 use Rattle.format.specs.IndexWriter.{mayHaveIndex, indexFor}
 use Rattle.format.specs.Lent.{placed}
 use Rattle.format.proofs.WriterLaws.{index-good, index-short}
@@ -44,23 +46,28 @@ last-decides (a ∷ c ∷ bs) zero b n h = absurd (omega arith)
 last-decides (a ∷ c ∷ bs) (suc j) b n h = last-decides (c ∷ bs) j b (omega arith) h
 
 -- the text is written, or the buffer is too short
-module _ (ns : List ℕ) (n : ℕ) (e : n ≡ length (indexText ns)) (out : Bytes) where
-  pub text-short : length out < n → (x : CountAnswer) → x ≡ Refused (refusal 21 0) → Written (accepted (indexText ns)) out out x
-  text-short p = written-short (accepted (indexText ns)) out (indexText ns) refl (omega arith)
+module _ (k : LineEnd) (ns : List ℕ) (n : ℕ) (e : n ≡ length (indexText k ns)) (out : Bytes) where
+  pub text-short : length out < n → (x : CountAnswer) → x ≡ Refused (refusal 21 0) → Written (accepted (indexText k ns)) out out x
+  text-short p = written-short (accepted (indexText k ns)) out (indexText k ns) refl (omega arith)
 
-  pub text-fits : n ≤ length out → length (indexText ns) ≤ length out
+  pub text-fits : n ≤ length out → length (indexText k ns) ≤ length out
   text-fits p = omega arith
 
-  pub text-written : n ≤ length out → (after : Bytes) → after ≡ placed out 0 (indexText ns) → Written (accepted (indexText ns)) out after (Counted n)
-  text-written p after f = written-placed (accepted (indexText ns)) out (indexText ns) refl (omega arith) after f n e
+  pub text-written : n ≤ length out → (after : Bytes) → after ≡ placed out 0 (indexText k ns) → Written (accepted (indexText k ns)) out after (Counted n)
+  text-written p after f = written-placed (accepted (indexText k ns)) out (indexText k ns) refl (omega arith) after f n e
 
 module _ (s kept : Bytes) (count : ℕ) (h : Kept s kept count) where
-  -- the index of a file whose last block may have one behind it or not
+  -- the index of a file whose last block may have one after it or not
   index-is : (b : Bool) → mayHaveIndex (h .f .blocks) ≡ b
-      → indexFor s ≡ elim b [ true ↦ accepted (indexText (take count kept)) | false ↦ refused (refusal 22 0) ]
+      → indexFor s ≡ elim b [ true ↦ accepted (indexText (h .f .header .«line_end») (take count kept)) | false ↦ refused (refusal 22 0) ]
   unfolding indexFor
   index-is true e = rw (indexFor, h .is, e, h .begin)
   index-is false e = rw (indexFor, h .is, e)
+
+  -- the file's header is that of the layout which is answered
+  same-header : (l : Layout) → layout s ≡ accepted l → h .f .header ≡ l .header
+  unfolding layout layoutOf
+  same-header l told = cc (rw (h .is, layout) at told)
 
   -- the file has no block
   pub no-block : count ≡ 0 → (out : Bytes) (x : CountAnswer) → x ≡ Refused (refusal 22 0) → Written (indexFor s) out out x
@@ -119,9 +126,10 @@ module _ (s kept : Bytes) (count : ℕ) (h : Kept s kept count) where
         last-streamed q out = written-refused (indexFor s) out (refusal 22 0) (index-is false (last-may false (rw q)))
 
         -- it is not
-        pub last-plain : (b .flags % 2 ≡ 1 → ⊥) → (out after : Bytes) (y : CountAnswer) → Written (accepted (indexText (take count kept))) out after y
-            → Written (indexFor s) out after y
-        last-plain q out after y w = rw (index-is true (last-may true (rw (ne-eqb (b .flags % 2) 1 q)))) w
+        pub last-plain : (b .flags % 2 ≡ 1 → ⊥) → (l : Layout) → layout s ≡ accepted l → (k : LineEnd) → k ≡ l .header .«line_end»
+            → (out after : Bytes) (y : CountAnswer) → Written (accepted (indexText k (take count kept))) out after y → Written (indexFor s) out after y
+        last-plain q l told k e out after y w =
+            rw (index-is true (last-may true (rw (ne-eqb (b .flags % 2) 1 q))), same-header l told, ← e) w
 
 -- what is written is a good index, and short
 module _ (s : Bytes) (known : (i : ℕ) → Fits w8 (getD s i 0)) where

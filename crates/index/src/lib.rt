@@ -5,6 +5,7 @@ ghost use Prim.Native.Nat.{_≤_};
 ghost use mathlib.Core.Path.{_≡_};
 ghost use lib.ListN.{length};
 ghost use Rattle.format.specs.declared.answer.CountAnswer.the-variants.{Refused};
+ghost use Rattle.format.specs.File.{layout};
 ghost use Rattle.format.specs.IndexWriter.{indexFor};
 ghost use Rattle.format.specs.Index.{indexText};
 ghost use Rattle.format.specs.Outcome.{accepted, refusal};
@@ -14,6 +15,8 @@ use file::block::BlockStep;
 use file::block::read_block;
 use format::answer::CountAnswer;
 use format::answer::LayoutAnswer;
+use format::layout::Layout;
+use format::line::LineEnd;
 use format::offset::Offset;
 use format::refusal::Refusal;
 
@@ -28,17 +31,21 @@ pub fn write(s: &[u8], out: &mut [u8]) -> CountAnswer
         LayoutAnswer::Refused(r) => CountAnswer::Refused(r),
         LayoutAnswer::Accepted(l) => {
             let offsets = found.offsets;
-            write_kept(s, offsets, l.blocks, out)
+            write_kept(s, offsets, l, out)
         }
     }
 }
 
-// The same for an accepted file with so many blocks that begin at these offsets. Reads the last block's header again, to
+// The same for an accepted file of this layout, whose blocks begin at these offsets. Reads the last block's header again, to
 // know whether it is streamed.
-fn write_kept(s: &[u8], offsets: [u64; 64], blocks: u8, out: &mut [u8]) -> CountAnswer
-    requires { ⌜ Kept (now s) offsets blocks ⌝ }
+fn write_kept(s: &[u8], offsets: [u64; 64], l: Layout, out: &mut [u8]) -> CountAnswer
+    requires { ⌜ layout (now s) ≡ accepted l ⌝ }
+    requires { ⌜ Kept (now s) offsets (l .blocks) ⌝ }
     ensures { λ r. ⌜ Written (indexFor (now (s .entry))) (now (out .entry)) (now (out .exit)) r ⌝ }
 {
+    let header = l.header;
+    let ending = header.line_end;
+    let blocks = l.blocks;
     if blocks == 0 {
         return refused(22);
     }
@@ -50,22 +57,22 @@ fn write_kept(s: &[u8], offsets: [u64; 64], blocks: u8, out: &mut [u8]) -> Count
             if b.flags % 2 == 1 {
                 return refused(22);
             }
-            write_text(&offsets[..count], out)
+            write_text(ending, &offsets[..count], out)
         }
     }
 }
 
-// The same for at least one and at most 64 offsets, where there is to be an index.
-fn write_text(offsets: &[u64], out: &mut [u8]) -> CountAnswer
+// The same for at least one and at most 64 offsets, where there is to be an index with this line end.
+fn write_text(ending: LineEnd, offsets: &[u64], out: &mut [u8]) -> CountAnswer
     requires { ⌜ 1 ≤ length (now offsets) ⌝ }
     requires { ⌜ length (now offsets) ≤ 64 ⌝ }
-    ensures { λ r. ⌜ Written (accepted (indexText (now (offsets .entry)))) (now (out .entry)) (now (out .exit)) r ⌝ }
+    ensures { λ r. ⌜ Written (accepted (indexText ending (now (offsets .entry)))) (now (out .entry)) (now (out .exit)) r ⌝ }
 {
-    let n = text::text_length(offsets);
+    let n = text::text_length(ending, offsets);
     if out.len() < n {
         return refused(21);
     }
-    text::put_index(out, offsets);
+    text::put_index(out, ending, offsets);
     CountAnswer::Counted(n as u64)
 }
 

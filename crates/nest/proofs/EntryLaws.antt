@@ -31,6 +31,7 @@ use Rattle.format.proofs.OutcomeLaws.{accepted-holds}
 use Rattle.format.proofs.OutlineLaws.{read-back}
 use Rattle.format.proofs.RowLaws.{encoded-length}
 use Rattle.file.proofs.FewLaws.{Few, records-few}
+use Rattle.file.proofs.LayoutLaws.{accepted-as}
 use Rattle.format.specs.Written.{Written, OutlineWritten}
 use Rattle.put.proofs.PutLaws.{placed-nothing, placed-none, placed-length, placed-append}
 use Rattle.put.proofs.WrittenLaws.{written-refused, written-short, written-placed, written-taken}
@@ -267,10 +268,6 @@ module _ (s : Bytes) (a : LayoutAnswer) (read : layoutAnswer a ≡ layout s) whe
   unfolding layoutAnswer
   refused-as r e = records-refused s r (sym read ∙ ap layoutAnswer e)
 
-  pub accepted-as : (l : Layout) → a ≡ LayoutAnswer·is.Accepted l → layout s ≡ accepted l
-  unfolding layoutAnswer
-  accepted-as l e = sym read ∙ ap layoutAnswer e
-
   module _ (r : Refusal) (e : a ≡ LayoutAnswer·is.Refused r) where
     pub count-refused : countAnswer (CountAnswer·is.Refused r) ≡ recordCount s
     unfolding countAnswer recordCount
@@ -291,15 +288,15 @@ module _ (s : Bytes) (a : LayoutAnswer) (read : layoutAnswer a ≡ layout s) whe
   module _ (l : Layout) (e : a ≡ LayoutAnswer·is.Accepted l) where
     pub count-accepted : (n : ℕ) → n ≡ length (allRecords s) → countAnswer (CountAnswer·is.Counted n) ≡ recordCount s
     unfolding countAnswer recordCount
-    count-accepted n c = rw (recordCount, accepted-all s l (accepted-as l e), c)
+    count-accepted n c = rw (recordCount, accepted-all s l (accepted-as s a read l e), c)
 
     pub outline-written : ((i : ℕ) → Fits w8 (getD s i 0)) → (out after : Bytes) (x : CountAnswer)
         → Written (accepted (entries Rows (allRecords s))) out after x → OutlineWritten s out after x
     unfolding outline rows entries
     outline-written known out after x w =
-        back known out after x (rw (outline, rows, accepted-all s l (accepted-as l e), rows-entries (allRecords s)) w)
+        back known out after x (rw (outline, rows, accepted-all s l (accepted-as s a read l e), rows-entries (allRecords s)) w)
 
     pub table-written : (out after : Bytes) (x : CountAnswer) → Written (accepted (entries Table (allRecords s))) out after x
         → Written (recordTable s) out after x
     unfolding recordTable entries
-    table-written out after x w = rw (recordTable, accepted-all s l (accepted-as l e)) w
+    table-written out after x w = rw (recordTable, accepted-all s l (accepted-as s a read l e)) w

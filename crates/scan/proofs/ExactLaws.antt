@@ -5,8 +5,10 @@ use mathlib.Core.Path.{_≡_, refl, sym, ap, _∙_}
 use mathlib.Core.Bool.{Bool, true, false}
 use mathlib.Core.List.{_++_, append-assoc}
 use lib.ListN.{length, take, drop, length-append}
+use Rattle.format.specs.declared.line.LineEnd.{LineEnd}
+use Rattle.format.specs.declared.line.LineEnd.the-variants.{Lf, Crlf}
 use Rattle.format.specs.Bytes.{Bytes, begins, same}
-use Rattle.format.specs.Line.{LineEnd, lf, crlf, lineEnd, Lines, unended, line, behind, lines}
+use Rattle.format.specs.Line.{lineEnd, Lines, unended, line, behind, lines}
 use Rattle.format.specs.Tree.{yamlLine}
 use Rattle.format.proofs.ByteLaws.{same-true, eq-same, begins-true, begins-append}
 use Rattle.format.proofs.LineLaws.{IsLine, plain-line, lines-line, line-split}
@@ -24,21 +26,21 @@ module _ (s : Bytes) (at : ℕ) (r : Line) (read : LineRead s at r) (word : Byte
   unfolding exactLine
   exact-unended e = record { is = rw (unended-lines s at r read e); inside = tt }
 
-  module _ (m next : ℕ) (e : r ≡ Ended m next) (x : Bool) (h : x ≡ same (take (m - at) (drop at s)) word) where
+  module _ (m next : ℕ) (k : LineEnd) (e : r ≡ Ended m next k) (x : Bool) (h : x ≡ same (take (m - at) (drop at s)) word) where
     -- the line's text is the word
-    pub exact-behind : x ≡ true → ExactRead s word at (Behind next)
+    pub exact-behind : x ≡ true → ExactRead s word at (Behind next k)
     unfolding exactLine
     exact-behind p =
-        let first = ended-first s at r read m next e in
+        let first = ended-first s at r read m next k e in
         record {
-          is = rw (first .cut, exactLine, sym h ∙ p) (ap Behind (first .next-is));
-          inside = omega (arith, ended-inside s at r read m next e);
+          is = rw (first .cut, exactLine, sym h ∙ p) (ap (λ n. Behind n k) (first .next-is));
+          inside = omega (arith, ended-inside s at r read m next k e);
         }
 
     -- it is another
     pub exact-other : x ≡ false → ExactRead s word at Other
     unfolding exactLine
-    exact-other p = record { is = rw (ended-first s at r read m next e .cut, exactLine, sym h ∙ p); inside = tt }
+    exact-other p = record { is = rw (ended-first s at r read m next k e .cut, exactLine, sym h ∙ p); inside = tt }
 
 module _ (s word : Bytes) (at : ℕ) (r : Exact) (read : ExactRead s word at r) where
   -- where the answer is no, no first line has the word for its text
@@ -51,28 +53,29 @@ module _ (s word : Bytes) (at : ℕ) (r : Exact) (read : ExactRead s word at r) 
       go false k = k
 
   -- where it is yes, the word is the first line
-  pub behind-first : (next : ℕ) → r ≡ Behind next → FirstLine s at word next
+  pub behind-first : (next : ℕ) (d : LineEnd) → r ≡ Behind next d → FirstLine s at word next d
   unfolding exactLine
-  behind-first next p = go (lines (drop at s)) refl
+  behind-first next d p = go (lines (drop at s)) refl
     where
-      judge : (t : Bytes) (e : LineEnd) (l : Lines) (x : Bool) → lines (drop at s) ≡ line t e l → same t word ≡ x → FirstLine s at word next
+      judge : (t : Bytes) (e : LineEnd) (l : Lines) (x : Bool) → lines (drop at s) ≡ line t e l → same t word ≡ x → FirstLine s at word next d
       judge t e l true h k =
           let over : next ≡ behind at t e = cc (sym p ∙ rw (h, exactLine, k) at (read .is)) in
-          rw (over, ← same-true t word k) (lines-first s at t e l h)
+          let ending : d ≡ e = cc (sym p ∙ rw (h, exactLine, k) at (read .is)) in
+          rw (over, ending, ← same-true t word k) (lines-first s at t e l h)
       judge t e l false h k = let z : _≡_ {A = ℕ} 0 1 = cc (sym p ∙ rw (h, exactLine, k) at (read .is)) in absurd (omega arith)
 
-      go : (l : Lines) → lines (drop at s) ≡ l → FirstLine s at word next
+      go : (l : Lines) → lines (drop at s) ≡ l → FirstLine s at word next d
       go (unended t) h = let z : _≡_ {A = ℕ} 0 1 = cc (read .is, h, p) in absurd (omega arith)
       go (line t e l) h = judge t e l (same t word) h refl
 
 -- a line end has one byte or two
 some-end : (e : LineEnd) → 1 ≤ length (lineEnd e)
-some-end lf = omega arith
-some-end crlf = omega arith
+some-end Lf = omega arith
+some-end Crlf = omega arith
 
 -- bytes that begin with a word and a line end have the word for their first line
 word-read : (s word : Bytes) (at : ℕ) (e : LineEnd) (next : ℕ) → IsLine word e → begins (word ++ lineEnd e) (drop at s) ≡ true
-    → next ≡ behind at word e → ExactRead s word at (Behind next)
+    → next ≡ behind at word e → ExactRead s word at (Behind next e)
 unfolding exactLine
 word-read s word at e next l h n =
     let z = drop (length (word ++ lineEnd e)) (drop at s) in
@@ -105,20 +108,20 @@ other-read s word at never = record { is = sym (go (lines (drop at s)) refl); in
 yaml-plain : (e : LineEnd) → IsLine yamlLine e
 yaml-plain e = plain-line yamlLine e refl refl
 
-module _ (s : Bytes) (at : ℕ) (x : Bool) (h : x ≡ begins (yamlLine ++ lineEnd lf) (drop at s)) where
+module _ (s : Bytes) (at : ℕ) (x : Bool) (h : x ≡ begins (yamlLine ++ lineEnd Lf) (drop at s)) where
   -- it stands there with 0A
-  pub yaml-lf : x ≡ true → ExactRead s yamlLine at (Behind (at + 10))
-  yaml-lf p = word-read s yamlLine at lf (at + 10) (yaml-plain lf) (sym h ∙ p) (omega arith)
+  pub yaml-lf : x ≡ true → ExactRead s yamlLine at (Behind (at + 10) Lf)
+  yaml-lf p = word-read s yamlLine at Lf (at + 10) (yaml-plain Lf) (sym h ∙ p) (omega arith)
 
-  module _ (y : Bool) (k : y ≡ begins (yamlLine ++ lineEnd crlf) (drop at s)) where
+  module _ (y : Bool) (k : y ≡ begins (yamlLine ++ lineEnd Crlf) (drop at s)) where
     -- it stands there with 0D 0A
-    pub yaml-crlf : y ≡ true → ExactRead s yamlLine at (Behind (at + 11))
-    yaml-crlf p = word-read s yamlLine at crlf (at + 11) (yaml-plain crlf) (sym k ∙ p) (omega arith)
+    pub yaml-crlf : y ≡ true → ExactRead s yamlLine at (Behind (at + 11) Crlf)
+    yaml-crlf p = word-read s yamlLine at Crlf (at + 11) (yaml-plain Crlf) (sym k ∙ p) (omega arith)
 
     -- it stands there with neither
     pub yaml-other : x ≡ false → y ≡ false → ExactRead s yamlLine at Other
     yaml-other p q = other-read s yamlLine at never
       where
         never : (e : LineEnd) → begins (yamlLine ++ lineEnd e) (drop at s) ≡ false
-        never lf = sym h ∙ p
-        never crlf = sym k ∙ q
+        never Lf = sym h ∙ p
+        never Crlf = sym k ∙ q

@@ -10,8 +10,10 @@ use lib.Seq.{take-suc, take-all, take-length, drop-cons, drop-drop, getD-drop, t
 use lib.Dec.{eqb, ltb}
 use borrow.Author.Tests.{ltb-true, ltb-false, lt-ltb, le-ltb, eqb-true}
 use Rattle.bytes.specs.Bytes.{indexOf, indexAfter, slice}
+use Rattle.format.specs.declared.line.LineEnd.{LineEnd}
+use Rattle.format.specs.declared.line.LineEnd.the-variants.{Lf, Crlf}
 use Rattle.format.specs.Bytes.{Bytes, begins}
-use Rattle.format.specs.Line.{LineEnd, lf, crlf, lineEnd, Lines, unended, line, behind, lines}
+use Rattle.format.specs.Line.{lineEnd, Lines, unended, line, behind, lines}
 use Rattle.format.proofs.ByteLaws.{and-left, and-right, begins-true, lacks, lacks-cons}
 use Rattle.format.proofs.LineLaws.{joinLines, endsIn, ends-snoc, IsLine, plain-line, join-lines, lines-unended, lines-line, line-split, lines-behind}
 use Rattle.scan.proofs.TextLaws.{begins-inside}
@@ -68,7 +70,7 @@ ends-at b s at end h = go (ltb at end) refl
 
 -- the text of a line from an offset to another, with its line end behind it, is the line that is read
 text-read : (s : Bytes) (at m next : ℕ) (e : LineEnd) → IsLine (take (m - at) (drop at s)) e → drop m s ≡ lineEnd e ++ drop next s
-    → next ≡ m + length (lineEnd e) → EndsInside (length s) at m next → LineRead s at (Ended m next)
+    → next ≡ m + length (lineEnd e) → EndsInside (length s) at m next → LineRead s at (Ended m next e)
 unfolding lineAt
 text-read s at m next e l d n i =
     let t = take (m - at) (drop at s) in
@@ -83,13 +85,13 @@ unfolding lineAt lines
 line-none s at h = record { is = rw (drop-of-length-le s h); inside = tt }
 
 -- a 0A at the offset ends an empty line
-pub line-empty : (s : Bytes) (at : ℕ) (x : Bool) → x ≡ begins (10 ∷ []) (drop at s) → x ≡ true → LineRead s at (Ended at (at + 1))
+pub line-empty : (s : Bytes) (at : ℕ) (x : Bool) → x ≡ begins (10 ∷ []) (drop at s) → x ≡ true → LineRead s at (Ended at (at + 1) Lf)
 line-empty s at x h e =
     let b = sym h ∙ e in
     let none : at - at ≡ 0 = omega arith in
     let rest = rw drop-drop at (begins-true (10 ∷ []) (drop at s) b) in
     let inside : EndsInside (length s) at at (at + 1) = omega (arith, begins-inside (10 ∷ []) at s b (omega arith)) in
-    text-read s at at (at + 1) lf (rw none (plain-line [] lf refl refl)) rest refl inside
+    text-read s at at (at + 1) Lf (rw none (plain-line [] Lf refl refl)) rest refl inside
 
 -- end is where the first 0A stands, or the end
 module _ (s : Bytes) (at end : ℕ) (f : end ≡ at + indexOf 10 (slice at (length s) s)) where
@@ -128,42 +130,41 @@ module _ (s : Bytes) (at end : ℕ) (f : end ≡ at + indexOf 10 (slice at (leng
 
     module _ (q : end ≤ length s) (n : end ≡ length s → ⊥) where
       -- a 0D belongs to the line end
-      pub line-crlf : x ≡ true → LineRead s at (Ended (end - 1) (end + 1))
+      pub line-crlf : x ≡ true → LineRead s at (Ended (end - 1) (end + 1) Crlf)
       line-crlf e =
           let r = return e in
           let to : suc (end - 1) ≡ end = omega arith in
           let rest = rw (r .1, to, feed (omega arith)) at (drop-cons s (end - 1) 0 (omega arith)) in
-          let text : IsLine (take (end - 1 - at) (drop at s)) crlf = record { no-feed = before (end - 1) (omega arith); no-return = λ z. cc } in
-          text-read s at (end - 1) (end + 1) crlf text rest (omega arith) (omega arith)
+          let text : IsLine (take (end - 1 - at) (drop at s)) Crlf = record { no-feed = before (end - 1) (omega arith); no-return = λ z. cc } in
+          text-read s at (end - 1) (end + 1) Crlf text rest (omega arith) (omega arith)
 
       -- no 0D does
-      pub line-lf : x ≡ false → LineRead s at (Ended end (end + 1))
+      pub line-lf : x ≡ false → LineRead s at (Ended end (end + 1) Lf)
       line-lf e =
-          let text = plain-line _ lf (before end (omega arith)) (ends-at 13 s at end q ∙ sym h ∙ e) in
-          text-read s at end (end + 1) lf text (feed (omega arith)) refl (omega (arith, found))
+          let text = plain-line _ Lf (before end (omega arith)) (ends-at 13 s at end q ∙ sym h ∙ e) in
+          text-read s at end (end + 1) Lf text (feed (omega arith)) refl (omega (arith, found))
 
--- the first line from an offset on has the text t, and the next line begins at next
-pub record FirstLine (s : Bytes) (at : ℕ) (t : Bytes) (next : ℕ) : Type 0 where
-  pub ending : LineEnd
-  pub cut : lines (drop at s) ≡ line t ending (lines (drop next s))
-  pub next-is : next ≡ behind at t ending
+-- the first line from an offset on has the text t and the line end e, and the next line begins at next
+pub record FirstLine (s : Bytes) (at : ℕ) (t : Bytes) (next : ℕ) (e : LineEnd) : Type 0 where
+  pub cut : lines (drop at s) ≡ line t e (lines (drop next s))
+  pub next-is : next ≡ behind at t e
 
 -- the other lines are those from behind the first on
 pub lines-first : (s : Bytes) (at : ℕ) (t : Bytes) (e : LineEnd) (l : Lines) → lines (drop at s) ≡ line t e l
-    → FirstLine s at t (behind at t e)
+    → FirstLine s at t (behind at t e) e
 lines-first s at t e l h =
     let over : at + (length t + length (lineEnd e)) ≡ behind at t e = omega arith in
     let rest = rw (drop-drop, over) at (lines-behind (drop at s) t e l h) in
-    record { ending = e; cut = h ∙ ap (line t e) rest; next-is = refl }
+    record { cut = h ∙ ap (line t e) rest; next-is = refl }
 
 -- the first line's text begins with a byte that is no part of a line end where the bytes do
-pub first-byte : (c : ℕ) (s : Bytes) (at : ℕ) (t : Bytes) (next : ℕ) → FirstLine s at t next → eqb c 10 ≡ false → eqb c 13 ≡ false
+pub first-byte : (c : ℕ) (s : Bytes) (at : ℕ) (t : Bytes) (next : ℕ) (e : LineEnd) → FirstLine s at t next e → eqb c 10 ≡ false → eqb c 13 ≡ false
     → begins (c ∷ []) t ≡ begins (c ∷ []) (drop at s)
-first-byte c s at t next f p q = sym (ap (begins (c ∷ [])) (line-split (drop at s) t (f .ending) _ (f .cut)) ∙ go t (f .ending) _)
+first-byte c s at t next e f p q = sym (ap (begins (c ∷ [])) (line-split (drop at s) t e _ (f .cut)) ∙ go t e _)
   where
     go : (t : Bytes) (e : LineEnd) (z : Bytes) → begins (c ∷ []) (t ++ (lineEnd e ++ z)) ≡ begins (c ∷ []) t
-    go [] lf z = rw p
-    go [] crlf z = rw q
+    go [] Lf z = rw p
+    go [] Crlf z = rw q
     go (a ∷ t) e z = refl
 
 module _ (s : Bytes) (at : ℕ) (r : Line) (read : LineRead s at r) where
@@ -176,19 +177,20 @@ module _ (s : Bytes) (at : ℕ) (r : Line) (read : LineRead s at r) where
       go (unended t) h = h ∙ ap unended (sym (ap joinLines h) ∙ join-lines (drop at s))
       go (line t k l) h = cc (read .is, e, h)
 
-  module _ (m next : ℕ) (e : r ≡ Ended m next) where
+  module _ (m next : ℕ) (k : LineEnd) (e : r ≡ Ended m next k) where
     -- where a line ends, the bytes up to its end are its text
-    pub ended-first : FirstLine s at (take (m - at) (drop at s)) next
+    pub ended-first : FirstLine s at (take (m - at) (drop at s)) next k
     unfolding lineAt
     ended-first = go (lines (drop at s)) refl
       where
-        go : (l : Lines) → lines (drop at s) ≡ l → FirstLine s at (take (m - at) (drop at s)) next
+        go : (l : Lines) → lines (drop at s) ≡ l → FirstLine s at (take (m - at) (drop at s)) next k
         go (unended t) h = let z : _≡_ {A = ℕ} 0 1 = cc (read .is, e, h) in absurd (omega arith)
-        go (line t k l) h =
+        go (line t d l) h =
             let to : m ≡ at + length t = cc (read .is, e, h) in
-            let over : next ≡ behind at t k = cc (read .is, e, h) in
-            let text = ap (take (m - at)) (line-split (drop at s) t k l h) ∙ take-at t _ (m - at) (omega arith) in
-            rw (text, over) (lines-first s at t k l h)
+            let over : next ≡ behind at t d = cc (read .is, e, h) in
+            let ending : k ≡ d = cc (read .is, e, h) in
+            let text = ap (take (m - at)) (line-split (drop at s) t d l h) ∙ take-at t _ (m - at) (omega arith) in
+            rw (text, over, ending) (lines-first s at t d l h)
 
     -- its ends lie in order, and inside
     pub ended-inside : EndsInside (length s) at m next

@@ -10,10 +10,10 @@ use Rattle.scan.specs.declared.line.Line.the-variants.{Ended, Unended}
 use Rattle.scan.specs.declared.line.Exact.{Exact}
 use Rattle.scan.specs.declared.line.Exact.the-variants.{Behind, Other}
 
--- the first line, of lines that begin at offset n
+-- the first line, of lines that begin at offset n, with its line end
 unfoldable pub lineAt : ℕ → Lines → Line
 lineAt n (unended t) = Unended
-lineAt n (line t e l) = Ended (n + length t) (behind n t e)
+lineAt n (line t e l) = Ended (n + length t) (behind n t e) e
 
 -- its ends lie in order, and inside
 pub record EndsInside (size n m next : ℕ) : Type 0 where
@@ -22,7 +22,7 @@ pub record EndsInside (size n m next : ℕ) : Type 0 where
   pub inside : next ≤ size
 
 abbrev pub LineInside : ℕ → ℕ → Line → Type 0
-LineInside size n (Ended m next) = EndsInside size n m next
+LineInside size n (Ended m next e) = EndsInside size n m next
 LineInside size n Unended = Unit {0}
 
 -- r is the line at an offset
@@ -30,13 +30,13 @@ pub record LineRead (s : Bytes) (at : ℕ) (r : Line) : Type 0 where
   pub is : r ≡ lineAt at (lines (drop at s))
   pub inside : LineInside (length s) at r
 
--- whether the first line is word, and where the next begins
+-- whether the first line is word, and where the next begins then, with its line end
 unfoldable pub exactLine : Bytes → ℕ → Lines → Exact
 exactLine word n (unended t) = Other
-exactLine word n (line t e l) = elim (same t word) [ true ↦ Behind (behind n t e) | false ↦ Other ]
+exactLine word n (line t e l) = elim (same t word) [ true ↦ Behind (behind n t e) e | false ↦ Other ]
 
 abbrev pub ExactInside : ℕ → ℕ → Exact → Type 0
-ExactInside size n (Behind next) = (n < next) × (next ≤ size)
+ExactInside size n (Behind next e) = (n < next) × (next ≤ size)
 ExactInside size n Other = Unit {0}
 
 -- r says whether the line at an offset is word

@@ -8,11 +8,16 @@ ghost use Rattle.format.specs.Tree.{yamlLine};
 ghost use Rattle.scan.specs.Line.{LineRead, ExactRead};
 use crate::find;
 use crate::text;
+use format::line::LineEnd;
 
 // What the line at an offset is.
 pub enum Line {
-    // Its bytes run to text_end, and the next line begins at next.
-    Ended { text_end: usize, next: usize },
+    // Its bytes run to text_end, its line end stands there, and the next line begins at next.
+    Ended {
+        text_end: usize,
+        next: usize,
+        ending: LineEnd,
+    },
     // No 0A follows.
     Unended,
 }
@@ -25,6 +30,7 @@ pub fn line_at(s: &[u8], at: usize) -> Line
         return Line::Ended {
             text_end: at,
             next: at + 1,
+            ending: LineEnd::Lf,
         };
     }
     long_line(s, at)
@@ -46,11 +52,13 @@ fn long_line(s: &[u8], at: usize) -> Line
         return Line::Ended {
             text_end: end - 1,
             next: end + 1,
+            ending: LineEnd::Crlf,
         };
     }
     Line::Ended {
         text_end: end,
         next: end + 1,
+        ending: LineEnd::Lf,
     }
 }
 
@@ -67,8 +75,8 @@ fn ends_in_0d(s: &[u8], at: usize, end: usize) -> bool
 
 // Whether a line is the one that was asked for.
 pub enum Exact {
-    // It is, and the next line begins here.
-    Behind(usize),
+    // It is, the next line begins here, and this is its line end.
+    Behind(usize, LineEnd),
     Other,
 }
 
@@ -76,11 +84,16 @@ pub enum Exact {
 pub fn exact_line(s: &[u8], at: usize, word: &[u8]) -> Exact
     ensures { λ r. ⌜ ExactRead (now (s .entry)) (now (word .entry)) at r ⌝ }
 {
-    let Line::Ended { text_end, next } = long_line(s, at) else {
+    let Line::Ended {
+        text_end,
+        next,
+        ending,
+    } = long_line(s, at)
+    else {
         return Exact::Other;
     };
     if text::is(&s[at..text_end], word) {
-        return Exact::Behind(next);
+        return Exact::Behind(next, ending);
     }
     Exact::Other
 }
@@ -90,10 +103,10 @@ pub fn yaml_line(s: &[u8], at: usize) -> Exact
     ensures { λ r. ⌜ ExactRead (now (s .entry)) yamlLine at r ⌝ }
 {
     if text::begins_at(s, at, b"%YAML 1.1\n") {
-        return Exact::Behind(at + 10);
+        return Exact::Behind(at + 10, LineEnd::Lf);
     }
     if text::begins_at(s, at, b"%YAML 1.1\r\n") {
-        return Exact::Behind(at + 11);
+        return Exact::Behind(at + 11, LineEnd::Crlf);
     }
     Exact::Other
 }

@@ -11,6 +11,7 @@ use lib.Dec.{eqb, ltb}
 use borrow.Author.Tests.{lt-ltb, not-true, not-false}
 use Rattle.format.specs.declared.layout.Verdict.{Verdict}
 use Rattle.format.specs.declared.layout.Verdict.the-variants.{IgnoredForm}
+use Rattle.format.specs.declared.line.LineEnd.{LineEnd}
 use Rattle.format.specs.Bytes.{Bytes, begins, same, allZero}
 use Rattle.format.specs.Numeral.{both}
 use Rattle.format.specs.Line.{lines}
@@ -107,16 +108,16 @@ module _ (offsets : List ℕ) (t : Bytes) (at : ℕ) (c : Line) (read : LineRead
   unfolding dashNumbers judgedFrom
   lines-unended e = rw (unended-lines t at c read e, others-none k) at left
 
-  module _ (m next : ℕ) (e : c ≡ Ended m next) where
+  module _ (m next : ℕ) (ending : LineEnd) (e : c ≡ Ended m next ending) where
     -- the next line begins inside
     pub lines-inside : next ≤ length t
-    lines-inside = ended-inside t at c read m next e .inside
+    lines-inside = ended-inside t at c read m next ending e .inside
 
     -- and a line takes at least one byte
     pub lines-count : k ≤ at → k + 1 ≤ next
-    lines-count h = omega (arith, ended-inside t at c read m next e)
+    lines-count h = omega (arith, ended-inside t at c read m next ending e)
 
-  module _ (m next : ℕ) (e : c ≡ Ended m next) (x : Bool) (end : x ≡ same (take (m - at) (drop at t)) endLine) where
+  module _ (m next : ℕ) (ending : LineEnd) (e : c ≡ Ended m next ending) (x : Bool) (end : x ≡ same (take (m - at) (drop at t)) endLine) where
     -- the line is the end line
     pub lines-done : x ≡ true → (equal ≡ true → k ≤ length offsets)
         → (w : Verdict) → w ≡ judgedIf (ltb 0 k && allZero (take (length t - next) (drop next t))) (equal && eqb (length offsets) k) → w ≡ v
@@ -124,13 +125,13 @@ module _ (offsets : List ℕ) (t : Bytes) (at : ℕ) (c : Line) (read : LineRead
     lines-done h inside w d =
         d
         ∙ sym (others-end equal k offsets _ inside)
-        ∙ rw (ended-first t at c read m next e .cut, dashNumbers, sym end ∙ h, with-zeros (some []) (drop next t) _ (ap allZero (part-all t next))) at left
+        ∙ rw (ended-first t at c read m next ending e .cut, dashNumbers, sym end ∙ h, with-zeros (some []) (drop next t) _ (ap allZero (part-all t next))) at left
 
     module _ (h : x ≡ false) (r : Number) (number : numberOf r ≡ dashed (take (m - at) (drop at t))) where
       -- the numbers that are left are that of the line and those after it
       next-number : afterOthers k (dashNumbers (lines (drop at t))) ≡ both (numberOf r) (dashNumbers (lines (drop next t)))
       unfolding dashNumbers
-      next-number = rw (ended-first t at c read m next e .cut, dashNumbers, sym end ∙ h, ← number) (others-both k _ _)
+      next-number = rw (ended-first t at c read m next ending e .cut, dashNumbers, sym end ∙ h, ← number) (others-both k _ _)
 
       -- the line has no number
       pub lines-malformed : r ≡ Malformed → IgnoredForm ≡ v

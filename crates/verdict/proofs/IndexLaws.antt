@@ -8,6 +8,7 @@ use lib.ListN.{length, take, drop}
 use borrow.Author.Tests.{not-true, not-false}
 use Rattle.format.specs.declared.layout.Verdict.{Verdict}
 use Rattle.format.specs.declared.layout.Verdict.the-variants.{IgnoredForm}
+use Rattle.format.specs.declared.line.LineEnd.{LineEnd}
 use Rattle.format.specs.Bytes.{Bytes, same, allZero}
 use Rattle.format.specs.Line.{Lines, unended, line, lines}
 use Rattle.format.specs.Comments.{indexLine}
@@ -39,13 +40,13 @@ module _ (t : Bytes) (at : ℕ) (word : Bytes) (r : Exact) (read : ExactRead t w
       go (line u k l) h = rw (other-text t word at r read u k l e h, afterWord)
 
   -- the next line begins inside
-  pub behind-inside : (next : ℕ) → r ≡ Behind next → next ≤ length t
-  behind-inside next e = (rw e at (read .inside)) .1
+  pub behind-inside : (next : ℕ) (ending : LineEnd) → r ≡ Behind next ending → next ≤ length t
+  behind-inside next ending e = (rw e at (read .inside)) .1
 
   -- the line is the word
-  word-after : (f : Lines → Option (List ℕ)) (next : ℕ) → r ≡ Behind next → afterWord word f (lines (drop at t)) ≡ f (lines (drop next t))
+  word-after : (f : Lines → Option (List ℕ)) (next : ℕ) (ending : LineEnd) → r ≡ Behind next ending → afterWord word f (lines (drop at t)) ≡ f (lines (drop next t))
   unfolding afterWord
-  word-after f next e = rw (behind-first t word at r read next e .cut, afterWord, eq-same word word refl)
+  word-after f next ending e = rw (behind-first t word at r read next ending e .cut, afterWord, eq-same word word refl)
 
 -- zeros have no line
 zeros-unended : (z : Bytes) → allZero z ≡ true → lines z ≡ unended z
@@ -71,19 +72,19 @@ module _ (t : Bytes) (a : Exact) (first : ExactRead t indexLine 0 a) where
   unfolding indexed
   index-other h = nowhere t _ (word-other t 0 indexLine a first _ h)
 
-  module _ (second : ℕ) (p : a ≡ Behind second) (b : Exact) (then : ExactRead t yamlLine second b) where
+  module _ (second : ℕ) (ending : LineEnd) (p : a ≡ Behind second ending) (b : Exact) (then : ExactRead t yamlLine second b) where
     -- the second line is next
     index-after : indexed (lines t) ≡ afterWord yamlLine styled (lines (drop second t))
     unfolding indexed
-    index-after = word-after t 0 indexLine a first _ second p
+    index-after = word-after t 0 indexLine a first _ second ending p
 
     -- the second line is another
     pub yaml-other : b ≡ Other → IndexRead t Nowhere
     yaml-other h = nowhere t _ (index-after ∙ word-other t second yamlLine b then _ h)
 
     -- the list is next
-    pub yaml-after : (third : ℕ) → b ≡ Behind third → (r : ListStep) → ListRead t (styled (lines (drop third t))) r → IndexRead t r
-    yaml-after third q r found = rw (index-after ∙ word-after t second yamlLine b then _ third q) found
+    pub yaml-after : (third : ℕ) (d : LineEnd) → b ≡ Behind third d → (r : ListStep) → ListRead t (styled (lines (drop third t))) r → IndexRead t r
+    yaml-after third d q r found = rw (index-after ∙ word-after t second yamlLine b then _ third d q) found
 
 module _ (t : Bytes) (at : ℕ) (d : Exact) (read : ExactRead t endLine at d) where
   -- there is no end line
@@ -91,9 +92,9 @@ module _ (t : Bytes) (at : ℕ) (d : Exact) (read : ExactRead t endLine at d) wh
   end-other h = record { is = λ ns. word-other t at endLine d read _ h }
 
   -- there is one, and zeros after it or not
-  pub end-zeros : (end : ℕ) → d ≡ Behind end → (z : Bool) → z ≡ allZero (take (length t - end) (drop end t)) → EndRead t at z
-  end-zeros end h z zeros = record {
-    is = λ ns. word-after t at endLine d read _ end h ∙ with-zeros ns (drop end t) z (zeros ∙ ap allZero (part-all t end));
+  pub end-zeros : (end : ℕ) (ending : LineEnd) → d ≡ Behind end ending → (z : Bool) → z ≡ allZero (take (length t - end) (drop end t)) → EndRead t at z
+  end-zeros end ending h z zeros = record {
+    is = λ ns. word-after t at endLine d read _ end ending h ∙ with-zeros ns (drop end t) z (zeros ∙ ap allZero (part-all t end));
   }
 
 -- the answer r for the list whose start line begins at an offset
@@ -106,7 +107,7 @@ module _ (t : Bytes) (at : ℕ) (c : Line) (read : LineRead t at c) where
   unfolding styled
   start-unended h = nowhere t _ (ap styled (unended-lines t at c read h))
 
-  module _ (m next : ℕ) (e : c ≡ Ended m next) (x : Bool) (style : x ≡ same (take (m - at) (drop at t)) dashStart) where
+  module _ (m next : ℕ) (ending : LineEnd) (e : c ≡ Ended m next ending) (x : Bool) (style : x ≡ same (take (m - at) (drop at t)) dashStart) where
     -- the numbers of the start line, between brackets
     abbrev numbers : Option (List ℕ)
     numbers = listed (inBrackets (take (m - at) (drop at t)))
@@ -115,11 +116,11 @@ module _ (t : Bytes) (at : ℕ) (c : Line) (read : LineRead t at c) where
     start-read : styled (lines (drop at t))
         ≡ elim x [ true ↦ atLeastOne (dashNumbers (lines (drop next t))) | false ↦ afterWord endLine (withZeros numbers) (lines (drop next t)) ]
     unfolding styled
-    start-read = ap styled (ended-first t at c read m next e .cut) ∙ rw style
+    start-read = ap styled (ended-first t at c read m next ending e .cut) ∙ rw style
 
     -- numbers after dashes are next
     pub start-dashes : x ≡ true → StyledRead t at (Dashes next)
-    start-dashes h = record { is = rw h at start-read; inside = ended-inside t at c read m next e .inside }
+    start-dashes h = record { is = rw h at start-read; inside = ended-inside t at c read m next ending e .inside }
 
     module _ (h : x ≡ false) (z : Bool) (last : EndRead t next z) where
       -- the numbers of the start line count if the index ends after it

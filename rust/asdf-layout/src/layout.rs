@@ -12,6 +12,8 @@ pub struct Layout {
     pub version: Version,
     /// Where the header line ends.
     pub header_end: usize,
+    /// How the header line ends.
+    pub line_end: LineEnd,
     /// Where the comments end, which begin at the header's end.
     pub comments_end: usize,
     /// The tree, if there is one.
@@ -29,6 +31,27 @@ pub struct Version {
     pub major: u16,
     pub minor: u16,
     pub patch: u16,
+}
+
+/// How a line ends. Files written under Windows often end their lines with two bytes; the lines of an index that is
+/// written for a file end as its header line does.
+///
+/// ```
+/// use asdf_layout::{index_text, Layout, LineEnd};
+///
+/// let mut file = b"#ASDF 1.0.0\r\n\xD3BLK\0\x30".to_vec();
+/// file.extend([0; 48]);
+/// assert_eq!(Layout::read(&file)?.line_end, LineEnd::Crlf);
+/// let text = b"#ASDF BLOCK INDEX\r\n%YAML 1.1\r\n--- [13]\r\n...\r\n";
+/// assert_eq!(index_text(&file)?, text);
+/// # Ok::<(), asdf_layout::Refusal>(())
+/// ```
+#[derive(Debug, Clone, Copy, PartialEq, Eq)]
+pub enum LineEnd {
+    /// The byte 0A.
+    Lf,
+    /// The bytes 0D 0A.
+    Crlf,
 }
 
 /// Where the tree is.
@@ -76,7 +99,7 @@ impl Layout {
 
     /// The layout that these numbers tell; each is promised to fit its field.
     fn from_numbers(numbers: [u64; asdf_sys::LAYOUT_NUMBERS]) -> Layout {
-        let [major, minor, patch, header_end, comments_end, present, start, end, room_end, blocks, verdict] =
+        let [major, minor, patch, header_end, comments_end, present, start, end, room_end, blocks, verdict, line_end] =
             numbers;
         let tree = Tree {
             start: start as usize,
@@ -90,6 +113,7 @@ impl Layout {
                 patch: patch as u16,
             },
             header_end: header_end as usize,
+            line_end: LineEnd::from_number(line_end),
             comments_end: comments_end as usize,
             tree: (present == 1).then_some(tree),
             blocks: blocks as u8,
@@ -115,6 +139,16 @@ impl Tree {
     }
 }
 
+impl LineEnd {
+    /// The line end of a number.
+    fn from_number(number: u64) -> LineEnd {
+        match number {
+            0 => LineEnd::Lf,
+            _ => LineEnd::Crlf,
+        }
+    }
+}
+
 impl Verdict {
     /// The verdict of a number.
     fn from_number(number: u64) -> Verdict {
@@ -124,6 +158,16 @@ impl Verdict {
             2 => Verdict::IgnoredForm,
             _ => Verdict::IgnoredList,
         }
+    }
+}
+
+impl fmt::Display for LineEnd {
+    /// Its bytes, in hexadecimal.
+    fn fmt(&self, f: &mut fmt::Formatter<'_>) -> fmt::Result {
+        f.write_str(match self {
+            LineEnd::Lf => "0A",
+            LineEnd::Crlf => "0D 0A",
+        })
     }
 }
 

@@ -52,7 +52,7 @@ mod refusal;
 mod writers;
 
 pub use block::Block;
-pub use layout::{Layout, Tree, Verdict, Version};
+pub use layout::{Layout, LineEnd, Tree, Verdict, Version};
 pub use outline::{InnerState, Outline, Row};
 pub use records::{row_count, Inner, Record, Records};
 pub use refusal::{Refusal, REASONS};

@@ -4,7 +4,8 @@ use crate::answer::{answer, written};
 use crate::Refusal;
 use asdf_sys::LONGEST_INDEX;
 
-/// The text of a file's block index, in brackets, to be set directly after its last block.
+/// The text of a file's block index, in brackets, to be set directly after its last block. Its lines end as the header
+/// line does.
 ///
 /// ```
 /// use asdf_layout::{index_text, Layout, Verdict};

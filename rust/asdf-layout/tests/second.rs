@@ -1,8 +1,8 @@
 //! What this crate makes of the proved functions' numbers is what the second program says, on every real file.
 
 use asdf_layout::{
-    edit, index_text, row_count, Block, Inner, InnerState, Layout, Outline, Record, Records,
-    Refusal, Row, Tree, Verdict, Version,
+    edit, index_text, row_count, Block, Inner, InnerState, Layout, LineEnd, Outline, Record,
+    Records, Refusal, Row, Tree, Verdict, Version,
 };
 use asdf_second as second;
 use std::fs;
@@ -41,6 +41,10 @@ fn layout(layout: &second::Layout) -> Layout {
             patch: version.patch,
         },
         header_end: layout.header_end.0 as usize,
+        line_end: match layout.line_end {
+            second::LineEnd::Lf => LineEnd::Lf,
+            second::LineEnd::Crlf => LineEnd::Crlf,
+        },
         comments_end: layout.comments.end.0 as usize,
         tree: layout.tree.map(|tree| Tree {
             start: tree.start.0 as usize,

@@ -10,7 +10,7 @@
 /// The bytes of one number in a buffer, the most significant first.
 pub const NUMBER_BYTES: usize = 8;
 /// How many numbers tell a layout.
-pub const LAYOUT_NUMBERS: usize = 11;
+pub const LAYOUT_NUMBERS: usize = 12;
 /// How many numbers tell a block.
 pub const BLOCK_NUMBERS: usize = 10;
 /// How many numbers tell a record: five and those of its block.
@@ -20,7 +20,7 @@ pub const ROW_NUMBERS: usize = 10;
 /// The bytes of a row in an outline.
 pub const ROW_BYTES: usize = 16;
 /// No index is longer.
-pub const LONGEST_INDEX: usize = 805;
+pub const LONGEST_INDEX: usize = 809;
 /// A refusal's place takes these low bits of a returned number, its own number the bits above.
 pub const PLACE_BITS: u32 = 56;
 

@@ -25,7 +25,8 @@ file inside a block stand below that block, indented; every offset counts from t
   --plain   for programs: `tree START END` or `tree none`; for each block depth, ordinal, offset, header size,
             allocated, used, streamed, compressed, checksum and inner state (0 plain, 1 opened, 2 refused, 3 too deep);
             `index VERDICT`. A refused file gives `refused NUMBER PLACE`.
-  --json    one object with all that is known of each block; a refused file gives an object with `refused`.
+  --json    one object with all that is known of the file and of each block; a refused file gives an object with
+            `refused`. `line_end` is how the header line ends: `0A` or `0D 0A`.
 ";
 
 pub const TREE: &str = "\
@@ -39,7 +40,8 @@ asdf-layout index FILE [--write]
 
 Prints what is to be thought of the block index, which may be written in brackets or with dashes.
 
-  --write   prints the text of the right index instead, in brackets, to be set directly after the last block
+  --write   prints the text of the right index instead, in brackets, to be set directly after the last block; its
+            lines end as the header line does
 ";
 
 pub const OUTLINE: &str = "\

@@ -14,6 +14,7 @@ pub fn listing(file: &Source) -> Result<String, Refusal> {
         ("bytes", file.len().to_string()),
         ("version", string(&version.to_string())),
         ("header_end", layout.header_end.to_string()),
+        ("line_end", string(&layout.line_end.to_string())),
         ("comments", stretch(comments.start, comments.end)),
         ("tree", or_null(layout.tree.map(tree))),
         ("blocks", format!("[{}]", blocks.join(","))),

@@ -77,7 +77,7 @@ fn json_is_one_object() {
     // Its name would break a careless string.
     file[34 + 10..34 + 14].copy_from_slice(b"\"\\\x01\0");
     let expected = concat!(
-        r#"{"bytes":91,"version":"1.0.0","header_end":12,"comments":{"start":12,"end":15},"#,
+        r#"{"bytes":91,"version":"1.0.0","header_end":12,"line_end":"0A","comments":{"start":12,"end":15},"#,
         r#""tree":{"start":15,"end":33,"room_end":34},"#,
         r#""blocks":[{"depth":0,"ordinal":0,"offset":34,"header_size":48,"flags":0,"streamed":false,"#,
         r#""compression":"\\\"\\\\\\x01","allocated":3,"used":3,"data_size":3,"checksum":null,"inner":"plain"}],"#,
@@ -93,6 +93,23 @@ fn json_is_one_object() {
         r#"{"refused":{"number":2,"place":0,"reason":"file does not begin with `#ASDF `"}}"#;
     assert_eq!(ran.output, format!("{expected}\n"));
     assert_eq!(ran.status, Some(1));
+}
+
+#[test]
+fn line_end_of_the_header_is_in_the_json_alone() {
+    let file = [DOS_HEADER, &block_header(0)].concat();
+    let listed = |words: &[&str]| run_with_input(words, &file).output;
+    assert!(listed(&["list", "-", "--json"])
+        .contains(r#""header_end":13,"line_end":"0D 0A","comments":"#));
+    assert_eq!(
+        listed(&["list", "-", "--plain"]),
+        "tree none\n0 0 13 48 0 0 0 0 0 0\nindex absent\n"
+    );
+    let table = listed(&["list", "-"]);
+    let with_0a = [HEADER, &block_header(0)].concat();
+    let table_with_0a = run_with_input(&["list", "-"], &with_0a).output;
+    let moved = table.replace("67", "66").replace("13", "12");
+    assert_eq!(moved, table_with_0a);
 }
 
 #[test]

@@ -35,6 +35,15 @@ fn index_is_judged_and_written() {
 }
 
 #[test]
+fn index_of_a_dos_file_ends_its_lines_as_the_header_does() {
+    let file = [DOS_HEADER, &block_header(0)].concat();
+    assert_eq!(
+        run_with_input(&["index", "--write", "-"], &file).output,
+        "#ASDF BLOCK INDEX\r\n%YAML 1.1\r\n--- [13]\r\n...\r\n"
+    );
+}
+
+#[test]
 fn index_with_dashes_is_judged_and_the_written_one_has_brackets() {
     let path = |name: &str| format!("{DATA}/{name}.asdf");
     let verdict = |name: &str| printed(&["index", &path(name)]);

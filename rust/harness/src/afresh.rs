@@ -2,13 +2,12 @@
 
 use crate::exports;
 use crate::loan::{result_in, result_of, Expected};
-use crate::numbers::{numbers_of, LAYOUT_NUMBERS, NUMBER_BYTES, RECORD_NUMBERS};
+use crate::numbers::{numbers_of, LAYOUT_BYTES, NUMBER_BYTES, RECORD_NUMBERS};
 use asdf_second::{Refusal, ROW_LENGTH};
 
 /// The numbers of the layout.
 pub fn layout(file: &[u8]) -> Result<Vec<u64>, Refusal> {
-    let length = LAYOUT_NUMBERS * NUMBER_BYTES;
-    let bytes = result_in(length, |out| exports::read(file, out))?;
+    let bytes = result_in(LAYOUT_BYTES, |out| exports::read(file, out))?;
     Ok(numbers_of(&bytes))
 }
 

@@ -39,7 +39,7 @@ pub fn edited_by_second(pair: &Edit) -> Result<Expected, String> {
 pub fn check_edited(before: &[u8], after: &[u8], text: &[u8]) -> Result<(), String> {
     let mut expected = afresh::layout(before);
     let mut room = 0..0;
-    if let Ok([.., start, end, room_end, _, _]) = expected.as_deref_mut() {
+    if let Ok([.., start, end, room_end, _blocks, _verdict, _line_end]) = expected.as_deref_mut() {
         room = *start as usize..*room_end as usize;
         *end = *start + text.len() as u64;
     }

@@ -33,13 +33,13 @@ fn answer_text(file: &[u8]) -> String {
 
 /// A layout with its blocks; where there is no tree, one word stands for its numbers.
 fn layout_text(layout: &Layout) -> String {
-    let [front @ .., _, start, end, room_end, count, verdict] = layout_numbers(layout);
+    let [front @ .., _, start, end, room_end, count, verdict, line_end] = layout_numbers(layout);
     let tree = match layout.tree {
         None => "none ".to_string(),
         Some(_) => words(&[start, end, room_end]),
     };
     let blocks: String = layout.blocks.iter().map(block_text).collect();
-    let (front, back) = (words(&front), words(&[count, verdict]));
+    let (front, back) = (words(&front), words(&[count, verdict, line_end]));
     format!("{front}{tree}{back}{blocks}nomore")
 }
 
@@ -60,9 +60,12 @@ mod tests {
     #[test]
     fn refusal_and_layout_are_one_line_each() {
         assert_eq!(answer_text(b""), "refused 2 0 ");
-        assert_eq!(answer_text(b"#ASDF 1.2.3\n"), "1 2 3 12 12 none 0 0 nomore");
-        let tree = b"#ASDF 1.0.0\n#\n%YAML 1.1\n---\n...\n  ";
-        assert_eq!(answer_text(tree), "1 0 0 12 14 14 32 34 0 0 nomore");
+        assert_eq!(
+            answer_text(b"#ASDF 1.2.3\n"),
+            "1 2 3 12 12 none 0 0 0 nomore"
+        );
+        let tree = b"#ASDF 1.0.0\r\n#\n%YAML 1.1\n---\n...\n  ";
+        assert_eq!(answer_text(tree), "1 0 0 13 15 15 33 35 0 0 1 nomore");
     }
 
     #[test]
@@ -71,7 +74,7 @@ mod tests {
         file.extend([0u64, 0, 9, 5, 6].map(u64::to_be_bytes).concat());
         assert_eq!(
             answer_text(&file),
-            "1 0 0 12 12 none 1 0 | 0 12 48 256 1 0 0 9 5 6 nomore"
+            "1 0 0 12 12 none 1 0 0 | 0 12 48 256 1 0 0 9 5 6 nomore"
         );
     }
 }

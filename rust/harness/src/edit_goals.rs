@@ -6,7 +6,8 @@ use crate::gaps::gaps;
 use crate::generate::{behind_first_line, places_of, MARK, YAML_LINE};
 use crate::goals::{Goal, VERDICTS};
 use crate::index_goals::{has_dashes, index};
-use asdf_second::{Block, Inner, Record, Verdict};
+use crate::line_end_goals::{line_end, line_ends_in};
+use asdf_second::{Block, Inner, LineEnd, Record, Verdict};
 
 /// A goal of edits.
 type EditGoal = Goal<EditAnswers>;
@@ -79,6 +80,16 @@ impl<'a> Seen<'a> {
     /// The bytes of the room.
     fn room(&self) -> usize {
         self.room_end - self.start
+    }
+
+    /// Whether every line of the text ends so.
+    fn ends_only_with(&self, kind: LineEnd) -> bool {
+        line_ends_in(self.text()).iter().all(|&end| end == kind)
+    }
+
+    /// Whether the header line of the file ends so.
+    fn header_ends_with(&self, kind: LineEnd) -> bool {
+        line_end(&self.answers.file) == Some(kind)
     }
 
     /// Whether the file has an index with dashes.
@@ -234,11 +245,11 @@ fn texts() -> Vec<EditGoal> {
             !seen.text().contains(&b'\r')
         }),
         edited("edited, only 0D 0A line ends", |seen| {
-            ends_0d_0a(seen.text()) == ends_0a(seen.text())
+            seen.ends_only_with(LineEnd::Crlf)
         }),
         edited("edited, both line ends", |seen| {
-            let both = 1..ends_0a(seen.text());
-            both.contains(&ends_0d_0a(seen.text()))
+            let ends = line_ends_in(seen.text());
+            ends.contains(&LineEnd::Lf) && ends.contains(&LineEnd::Crlf)
         }),
     ]
 }
@@ -248,22 +259,21 @@ fn has_mark(text: &[u8]) -> bool {
     !places_of(text, MARK).is_empty()
 }
 
-/// How many lines end with 0A, whatever is before it.
-fn ends_0a(text: &[u8]) -> usize {
-    places_of(text, b"\n").len()
-}
-
-/// How many lines end with 0D 0A.
-fn ends_0d_0a(text: &[u8]) -> usize {
-    places_of(text, b"\r\n").len()
-}
-
 /// Files that are edited.
 fn files() -> Vec<EditGoal> {
     vec![
         edited("edited, comments", |seen| {
             let layout = seen.answers.file.layout.as_ref();
             layout.is_ok_and(|layout| layout.comments.start < layout.comments.end)
+        }),
+        edited("edited, header ended by 0A, text by 0D 0A", |seen| {
+            seen.header_ends_with(LineEnd::Lf) && seen.ends_only_with(LineEnd::Crlf)
+        }),
+        edited("edited, header ended by 0D 0A, text by 0A", |seen| {
+            seen.header_ends_with(LineEnd::Crlf) && seen.ends_only_with(LineEnd::Lf)
+        }),
+        edited("edited, header and text ended by 0D 0A", |seen| {
+            seen.header_ends_with(LineEnd::Crlf) && seen.ends_only_with(LineEnd::Crlf)
         }),
         edited("edited, 64 blocks", |seen| {
             seen.answers.file.blocks().len() == 64

@@ -5,6 +5,7 @@ use crate::gap_goals::gap_goals;
 use crate::generate::{places_of, MARK};
 use crate::index_goals::index_goals;
 use crate::limits::limits;
+use crate::line_end_goals::line_end_goals;
 use crate::nest_goals::nest_goals;
 use crate::searches::BLOCK;
 use asdf_second::{Block, Record, Verdict};
@@ -109,6 +110,7 @@ pub fn goals() -> Vec<Goal> {
         refusals(),
         verdicts(),
         parts(),
+        line_end_goals(),
         limits(),
         index_goals(),
         gap_goals(),
@@ -163,10 +165,6 @@ fn parts() -> Vec<Goal> {
                 !places_of(bytes, MARK).is_empty()
             })
         }),
-        Goal::of_file("header ended by 0A", |file, answers| {
-            !ends_with_0d_0a(file, answers)
-        }),
-        Goal::of_file("header ended by 0D 0A", ends_with_0d_0a),
     ]
 }
 
@@ -182,12 +180,4 @@ fn has_comments(answers: &Answers) -> bool {
         .layout
         .as_ref()
         .is_ok_and(|layout| layout.comments.start < layout.comments.end)
-}
-
-/// Whether the header line of an accepted file ends with 0D 0A.
-fn ends_with_0d_0a(file: &[u8], answers: &Answers) -> bool {
-    answers
-        .layout
-        .as_ref()
-        .is_ok_and(|layout| file[..layout.header_end.0 as usize].ends_with(b"\r\n"))
 }

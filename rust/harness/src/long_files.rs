@@ -18,6 +18,7 @@ const ABSENT: u64 = 0;
 const GOOD: u64 = 1;
 const PLAIN: u64 = 0;
 const OPENED: u64 = 1;
+const LINE_END_0A: u64 = 0;
 
 /// The place of a first block.
 const FIRST: usize = HEADER_LINE.len();
@@ -185,7 +186,7 @@ fn longest_file(
     Ok(LongFile {
         name,
         file: SparseFile::new(LONGEST, &parts)?,
-        layout: Ok([1, 0, 0, end, end, 0, 0, 0, 0, count, verdict]),
+        layout: Ok([1, 0, 0, end, end, 0, 0, 0, 0, count, verdict, LINE_END_0A]),
         records: blocks.iter().map(Block::numbers).collect(),
         index,
     })

@@ -1,9 +1,12 @@
 //! What the second program says, as the numbers that the proved functions put into a buffer.
 
-use asdf_second::{Block, Inner, InnerKind, Layout, Record, Refusal, Row, Tree, Verdict};
+use asdf_second::{Block, Inner, InnerKind, Layout, LineEnd, Record, Refusal, Row, Tree, Verdict};
 pub use asdf_sys::{BLOCK_NUMBERS, LAYOUT_NUMBERS, NUMBER_BYTES, RECORD_NUMBERS, ROW_NUMBERS};
 
-/// The numbers of a layout: version, header end, comments' end, tree, number of blocks, verdict.
+/// The bytes of a layout.
+pub const LAYOUT_BYTES: usize = LAYOUT_NUMBERS * NUMBER_BYTES;
+
+/// The numbers of a layout: version, header end, comments' end, tree, number of blocks, verdict, line end.
 pub fn layout_numbers(layout: &Layout) -> [u64; LAYOUT_NUMBERS] {
     let version = layout.version;
     let [present, start, end, room_end] = tree_numbers(layout.tree);
@@ -19,6 +22,7 @@ pub fn layout_numbers(layout: &Layout) -> [u64; LAYOUT_NUMBERS] {
         room_end,
         layout.blocks.len() as u64,
         verdict_number(layout.index),
+        line_end_number(layout.line_end),
     ]
 }
 
@@ -41,6 +45,14 @@ fn verdict_number(verdict: Verdict) -> u64 {
         Verdict::Good => 1,
         Verdict::IgnoredForm => 2,
         Verdict::IgnoredList => 3,
+    }
+}
+
+/// The number of the header's line end.
+fn line_end_number(line_end: LineEnd) -> u64 {
+    match line_end {
+        LineEnd::Lf => 0,
+        LineEnd::Crlf => 1,
     }
 }
 

@@ -4,18 +4,21 @@ use crate::answers::{of_whole, Answers, BUFFER_TOO_SHORT, NO_INDEX_POSSIBLE};
 use crate::same::same;
 use asdf_second::{
     listing, most_rows, outline, read, read_outline, rewrite_outline, row_count, rows, write_index,
-    Block, Layout, Record, Refusal, Row, Verdict, LONGEST_INDEX, PROGRAM_LIMIT, ROW_LENGTH,
+    Layout, LineEnd, Record, Refusal, Row, Verdict, LONGEST_INDEX, PROGRAM_LIMIT, ROW_LENGTH,
 };
 
 /// What a lent buffer holds before it is written to.
 const UNTOUCHED: u8 = 0xA5;
 /// The bytes that a writer is lent beyond its result.
 const SPARE: usize = 3;
-/// The bytes of a written index without its numbers.
-const INDEX_FRAME: usize = 39;
+/// The bytes of a written index without its numbers and line ends.
+const INDEX_FRAME: usize = 35;
+/// The lines of a written index.
+const INDEX_LINES: usize = 4;
 
 /// Says what does not fit together, if anything.
 pub fn check(file: &[u8], answers: &Answers) -> Result<(), String> {
+    check_line_end(file, answers)?;
     check_records(answers)?;
     check_rows(file, answers)?;
     check_outline(file, answers)?;
@@ -89,25 +92,49 @@ fn checked_writing(
 fn check_index(file: &[u8], answers: &Answers) -> Result<(), String> {
     let text = checked_writing("index", LONGEST_INDEX, |out| write_index(file, out))?;
     match (&answers.layout, answers.chain_end(), text) {
-        (Ok(_), Some(end), Ok(text)) => check_index_text(&file[..end], answers.blocks(), &text),
+        (Ok(layout), Some(end), Ok(text)) => check_index_text(&file[..end], layout, &text),
         (Ok(_), Some(_), Err(refusal)) => Err(format!("index: {refusal}")),
         (Ok(_), None, text) => same("index", text, Err(of_whole(NO_INDEX_POSSIBLE))),
         (Err(refusal), _, text) => same("index", text, Err(*refusal)),
     }
 }
 
-/// The index that is written has the stated length and is good behind the last block.
-fn check_index_text(chain: &[u8], blocks: &[Block], text: &[u8]) -> Result<(), String> {
-    same("length of the index", text.len(), index_length(blocks))?;
-    let found = read(&[chain, text].concat()).map(|layout| (layout.index, layout.blocks));
-    let expected = (Verdict::Good, blocks.to_vec());
+/// The index that is written has the stated length and is good after the last block.
+fn check_index_text(chain: &[u8], layout: &Layout, text: &[u8]) -> Result<(), String> {
+    same("length of the index", text.len(), index_length(layout))?;
+    let mut expected = layout.clone();
+    expected.index = Verdict::Good;
+    let found = read(&[chain, text].concat());
     same("file with the written index", found, Ok(expected))
 }
 
-/// The length of the index of these blocks.
-fn index_length(blocks: &[Block]) -> usize {
+/// The length of the index of a file with this layout.
+fn index_length(layout: &Layout) -> usize {
+    let blocks = &layout.blocks;
     let digits = blocks.iter().map(|block| block.offset.0.to_string().len());
-    INDEX_FRAME + digits.sum::<usize>() + 2 * (blocks.len() - 1)
+    let line_ends = INDEX_LINES * line_end_bytes(layout.line_end).len();
+    INDEX_FRAME + line_ends + digits.sum::<usize>() + 2 * (blocks.len() - 1)
+}
+
+/// The bytes of a line end.
+fn line_end_bytes(line_end: LineEnd) -> &'static [u8] {
+    match line_end {
+        LineEnd::Lf => b"\n",
+        LineEnd::Crlf => b"\r\n",
+    }
+}
+
+/// The header line ends as is reported.
+fn check_line_end(file: &[u8], answers: &Answers) -> Result<(), String> {
+    let Ok(layout) = &answers.layout else {
+        return Ok(());
+    };
+    let header = file.get(..layout.header_end.0 as usize).unwrap_or(file);
+    let expected = match header {
+        [.., b'\r', b'\n'] => LineEnd::Crlf,
+        _ => LineEnd::Lf,
+    };
+    same("line end of the header", layout.line_end, expected)
 }
 
 /// The listing says what layout and records say.

@@ -7,7 +7,7 @@ mod common;
 use asdf_harness::exports;
 use asdf_harness::nests::file_of;
 use asdf_harness::sparse::{HEADER_LINE, LEAST_TREE};
-use common::{assert_writes, numbers, one_block, verdict};
+use common::{assert_writes, layout, one_block, verdict};
 use std::collections::HashSet;
 
 /// The first two lines of every index.
@@ -352,7 +352,7 @@ fn verdict_is_the_same_after_an_edit() {
 fn index_of_a_file_inside_decides_nothing() {
     for list in ["---\n- 12\n...\n", "---\n-  12\n...\n"] {
         let file = file_of([&with_index(&one_block(), list)[..]]);
-        let [.., blocks, _] = numbers::<11>(|out| exports::read(&file, out));
+        let [.., blocks, _verdict, _line_end] = layout(&file);
         assert_eq!((blocks, exports::count(&file)), (1, 2));
         assert_eq!(verdict(&file), "absent");
     }

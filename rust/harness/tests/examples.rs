@@ -4,6 +4,7 @@ mod common;
 
 use asdf_harness::exports;
 use asdf_harness::nests::file_of;
+use asdf_harness::numbers::LAYOUT_BYTES;
 use asdf_harness::sparse::{block_header, HEADER_LINE, LEAST_TREE};
 use common::{assert_writes, one_block, verdict};
 
@@ -54,7 +55,7 @@ fn p10_outline_of_a_file_in_a_block() {
 fn p11_layout_of_one_tree_and_one_block() {
     let file = one_tree();
     assert_eq!(file.len(), 94);
-    let layout: [u64; 11] = [1, 0, 0, 12, 12, 1, 12, 30, 40, 1, 0];
+    let layout: [u64; 12] = [1, 0, 0, 12, 12, 1, 12, 30, 40, 1, 0, 0];
     let bytes = layout.map(u64::to_be_bytes).concat();
     assert_writes(|out| exports::read(&file, out), &bytes);
     let block: [u64; 10] = [0, 40, 48, 0, 0, 0, 0, 0, 0, 0];
@@ -88,8 +89,8 @@ fn room_end(behind: &[u8]) -> usize {
     let file = [HEADER_LINE, LEAST_TREE, behind].concat();
     let found = exports::find_mark(&file, TREE_END);
     assert_eq!(exports::find_mark_plain(&file, TREE_END), found);
-    let mut layout = [0; 88];
-    if exports::read(&file, &mut layout) == 88 {
+    let mut layout = [0; LAYOUT_BYTES];
+    if exports::read(&file, &mut layout) == LAYOUT_BYTES as u64 {
         assert_eq!(layout[64..72], (found as u64).to_be_bytes());
     }
     found
@@ -126,7 +127,10 @@ fn first_of_two_marks_in_reach_is_found() {
     assert_eq!(room_end_before_a_block(b"x\xD3BLK"), 31);
     let file = [HEADER_LINE, LEAST_TREE, b"x\xD3BLK", &block_header(0, 0)].concat();
     let cut_header_at_31 = (11 << 56) + 31;
-    assert_eq!(exports::read(&file, &mut [0; 88]), cut_header_at_31);
+    assert_eq!(
+        exports::read(&file, &mut [0; LAYOUT_BYTES]),
+        cut_header_at_31
+    );
 }
 
 #[test]

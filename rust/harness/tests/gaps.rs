@@ -7,7 +7,7 @@ mod common;
 use asdf_harness::exports;
 use asdf_harness::nests::{file_of, file_with_gaps};
 use asdf_harness::sparse::{block_header, HEADER_LINE, INDEX_LINE, LEAST_TREE, MARK};
-use common::{assert_writes, numbers, one_block, verdict};
+use common::{assert_writes, layout, numbers, one_block, verdict};
 
 /// The index of a block at 12: 41 bytes.
 const INDEX_OF_12: &[u8] = b"#ASDF BLOCK INDEX\n%YAML 1.1\n--- [12]\n...\n";
@@ -69,7 +69,7 @@ fn block(file: &[u8], ordinal: u64) -> [u64; 4] {
 
 /// A file that is accepted with blocks at these offsets, none of them with a file inside, and this verdict.
 fn assert_blocks(file: &[u8], offsets: &[u64], expected: &str) {
-    let [.., blocks, _] = numbers::<11>(|out| exports::read(file, out));
+    let [.., blocks, _verdict, _line_end] = layout(file);
     let count = offsets.len() as u64;
     assert_eq!((blocks, verdict(file)), (count, expected));
     assert_eq!(exports::count(file), count);

@@ -5,6 +5,8 @@ use asdf_second::{records, Inner, Refusal};
 
 /// The worked example A: 12 bytes.
 pub const A: &[u8] = b"#ASDF 1.0.0\n";
+/// A with a DOS line end: 13 bytes.
+pub const DOS_A: &[u8] = b"#ASDF 1.0.0\r\n";
 /// The four bytes of a block mark.
 pub const MARK: &[u8] = &[0xD3, 0x42, 0x4C, 0x4B];
 /// The smallest tree: 18 bytes.

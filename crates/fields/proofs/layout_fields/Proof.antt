@@ -18,4 +18,5 @@ layout-fields-spec =
     (λ c. search needs)
     (λ c. search needs)
     (λ c κs. search needs)
+    (λ c κs. search needs)
     (λ c. search (layout-four, needs)))

@@ -1,6 +1,6 @@
 -- Where the file is accepted its offsets are kept; what is written is a good index.
 use borrow.Author.Needs.{needs}
-use Rattle.file.proofs.LayoutLaws.{blocks-kept}
+use Rattle.file.proofs.LayoutLaws.{accepted-as, blocks-kept}
 use Rattle.index.proofs.WriteLaws.{index-refused, index-written}
 use Rattle.index.proofs.write.Statement.{statement}
 use Rattle.index.proofs.write.Tie as tie
@@ -12,7 +12,7 @@ write-spec =
     (λ c κs. search needs)
     (λ c. search needs)
     (λ c. search needs)
-    (λ c κs. search (blocks-kept, needs))
+    (λ c κs. search (accepted-as, blocks-kept, needs))
     (λ c. search (index-refused, needs))
     (λ c. search needs)
     (λ c. search (index-written, needs)))

@@ -12,6 +12,7 @@ write-kept-spec =
     (λ c. search (no-block, needs))
     (λ c. search needs)
     (λ c. search needs)
+    (λ c. search needs)
     (λ c. search (last-room, needs))
     (λ c. search (last-inside, needs))
     (λ c. search (last-inside, needs))

@@ -1,6 +1,7 @@
 -- The file's refusal, or the count.
 use borrow.Author.Needs.{needs}
-use Rattle.nest.proofs.EntryLaws.{accepted-as, count-refused, count-accepted}
+use Rattle.file.proofs.LayoutLaws.{accepted-as}
+use Rattle.nest.proofs.EntryLaws.{count-refused, count-accepted}
 use Rattle.nest.proofs.count.Statement.{statement}
 use Rattle.nest.proofs.count.Tie as tie
 

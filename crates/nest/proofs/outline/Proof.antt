@@ -1,6 +1,7 @@
 -- The file's refusal, or its rows.
 use borrow.Author.Needs.{needs}
-use Rattle.nest.proofs.EntryLaws.{accepted-as, outline-refused, outline-written}
+use Rattle.file.proofs.LayoutLaws.{accepted-as}
+use Rattle.nest.proofs.EntryLaws.{outline-refused, outline-written}
 use Rattle.nest.proofs.outline.Statement.{statement}
 use Rattle.nest.proofs.outline.Tie as tie
 

@@ -1,6 +1,7 @@
 -- The file's refusal, or the record.
 use borrow.Author.Needs.{needs}
-use Rattle.nest.proofs.EntryLaws.{accepted-as, record-refused}
+use Rattle.file.proofs.LayoutLaws.{accepted-as}
+use Rattle.nest.proofs.EntryLaws.{record-refused}
 use Rattle.nest.proofs.record.Statement.{statement}
 use Rattle.nest.proofs.record.Tie as tie
 

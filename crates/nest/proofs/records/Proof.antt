@@ -1,6 +1,7 @@
 -- The file's refusal, or its records.
 use borrow.Author.Needs.{needs}
-use Rattle.nest.proofs.EntryLaws.{accepted-as, table-refused, table-written}
+use Rattle.file.proofs.LayoutLaws.{accepted-as}
+use Rattle.nest.proofs.EntryLaws.{table-refused, table-written}
 use Rattle.nest.proofs.records.Statement.{statement}
 use Rattle.nest.proofs.records.Tie as tie
 

@@ -13,6 +13,8 @@ use std::process::{Command, Output, Stdio};
 pub const DATA: &str = concat!(env!("CARGO_MANIFEST_DIR"), "/../../tests/data");
 /// A header line.
 pub const HEADER: &[u8] = b"#ASDF 1.0.0\n";
+/// A header line that ends with 0D 0A.
+pub const DOS_HEADER: &[u8] = b"#ASDF 1.0.0\r\n";
 /// The smallest tree.
 pub const TREE: &[u8] = b"%YAML 1.1\n---\n...\n";
 

@@ -2,6 +2,7 @@
 
 use asdf_harness::exports;
 use asdf_harness::nests::file_of;
+use asdf_harness::numbers::LAYOUT_NUMBERS;
 
 /// What every lent buffer holds before a call.
 const UNTOUCHED: u8 = 0xA5;
@@ -17,9 +18,14 @@ pub fn one_block() -> Vec<u8> {
     file_of([&b""[..]])
 }
 
-/// The verdict on the index of a file: the last number of its layout.
+/// The numbers of a file's layout.
+pub fn layout(file: &[u8]) -> [u64; LAYOUT_NUMBERS] {
+    numbers(|out| exports::read(file, out))
+}
+
+/// The verdict on the index of a file.
 pub fn verdict(file: &[u8]) -> &'static str {
-    let [.., verdict] = numbers::<11>(|out| exports::read(file, out));
+    let [.., verdict, _line_end] = layout(file);
     VERDICTS[verdict as usize]
 }
 

@@ -1,4 +1,4 @@
--- The list is put behind what stands before it, and what stands behind it comes last.
+-- The list is put after what stands before it, and what stands after it comes last.
 use borrow.Author.Needs.{needs}
 use Rattle.index.proofs.TextLaws.{list-fits, index-put}
 use Rattle.index.proofs.text.put_index.Statement.{statement}
@@ -8,10 +8,8 @@ pub put-index-spec : {M : Type 1} → statement M
 put-index-spec =
     tie.close
     (tie.spec
-    (λ c. search needs)
     (λ c κs. search needs)
     (λ c κs. search (list-fits, needs))
-    (λ c. search needs)
     (λ c κs. search needs)
     (λ c. search needs)
     (λ c. search (index-put, needs)))

@@ -4,13 +4,11 @@ use crate::index::indexed_files;
 use crate::measure::medians;
 use asdf_harness::exports::{self, SparseFile};
 use asdf_harness::nests::file_with_gaps;
+use asdf_harness::numbers::LAYOUT_BYTES;
 use asdf_harness::rng::Rng;
 use asdf_harness::sparse::{block_header, chain_of_blocks, HEADER_LINE, MARK};
 use std::hint::black_box;
 use std::io;
-
-/// The bytes of an answer.
-const LAYOUT_BYTES: usize = 88;
 
 pub const MIB: usize = 1 << 20;
 pub const GIB: usize = 1 << 30;
@@ -166,7 +164,7 @@ fn print_row(case: &Case) {
 
 /// How many blocks an answer tells of.
 fn blocks_of(answer: &[u8; LAYOUT_BYTES]) -> usize {
-    let [.., blocks, _verdict] = answer.as_chunks().0 else {
+    let [.., blocks, _verdict, _line_end] = answer.as_chunks().0 else {
         return 0;
     };
     u64::from_be_bytes(*blocks) as usize

@@ -1,0 +1,21 @@
+-- The text with this line end is put.
+use borrow.Author.Needs.{needs}
+use Rattle.put.proofs.PutLaws.{placed-length}
+use Rattle.index.proofs.TextLaws.{front-lf, front-crlf}
+use Rattle.index.proofs.text.put_front.Statement.{statement}
+use Rattle.index.proofs.text.put_front.Tie as tie
+
+pub put-front-spec : {M : Type 1} → statement M
+put-front-spec =
+    tie.close
+    (tie.spec
+    (λ c. search needs)
+    (λ c. search needs)
+    (λ c κs. search needs)
+    (λ c. search needs)
+    (λ c. search needs)
+    (λ c κs. search needs)
+    (λ c. search (placed-length, needs))
+    (λ c. search (front-lf, needs))
+    (λ c. search (placed-length, needs))
+    (λ c. search (front-crlf, needs)))
