@@ -14,6 +14,7 @@ HERE = os.path.dirname(os.path.abspath(__file__))
 SECOND = os.path.join(HERE, "../../build/cargo/release/asdf-second")
 
 A = b"#ASDF 1.0.0\n"
+DOS_A = b"#ASDF 1.0.0\r\n"
 TREE = b"%YAML 1.1\n---\n...\n"
 LONGER_TREE = b"%YAML 1.1\n---\nxxxxxxxxx\n...\n"
 INDEX_LINE = b"#ASDF BLOCK INDEX"
@@ -29,6 +30,10 @@ def block(content=b"", header_size=48, flags=0, allocated=None, used=None, data_
 
 def index(numbers):
     return INDEX_LINE + b"\n%YAML 1.1\n--- [" + numbers + b"]\n...\n"
+
+
+def dos_index(numbers):
+    return index(numbers).replace(b"\n", b"\r\n")
 
 
 def dashes(lines, start=b"---\n"):
@@ -107,6 +112,18 @@ CASES = {
     "dashes-empty-line": B + dashes(b"- 12\n\n"),
     "dashes-no-end-line": B + dashes(b"- 12\n")[:-4],
     "dashes-more-than-zeros": B + dashes(b"- 12\n") + b"\0x",
+    # line ends of two bytes
+    "dos-header": DOS_A,
+    "dos-one-block": DOS_A + block(),
+    "dos-good-index": DOS_A + block() + dos_index(b"13"),
+    "dos-index-with-0a": DOS_A + block() + index(b"13"),
+    "dos-index-after-0a": B + dos_index(b"12"),
+    "dos-lines-with-0a": DOS_A + b"#x\n" + TREE + block() + dos_index(b"34"),
+    "dos-tree-after-0a": A + b"#x\r\n" + TREE.replace(b"\n", b"\r\n") + block() + index(b"37"),
+    "dos-64-blocks": DOS_A + block() * 64 + dos_index(b", ".join(b"%d" % (13 + 54 * i) for i in range(64))),
+    "dos-file-inside": A + block(DOS_A + block() + dos_index(b"13")),
+    "dos-two-0d": b"#ASDF 1.0.0\r\r\n" + block(),
+    "dos-0d-alone": b"#ASDF 1.0.0\r" + block(),
 }
 
 
