@@ -58,8 +58,8 @@ enum asdf_refusal {
 /* Counts from the first byte of what was lent; of a refused inner file, from that file's first byte. */
 #define ASDF_REFUSAL_PLACE(word) ((word) & ((UINT64_C(1) << 56) - 1))
 
-/* The bytes of each result. A layout had 88 bytes before ASDF_LAYOUT_LINE_END was added: who still lends 88 is refused with
- * 21. */
+/* The bytes of each result. A layout had 88 before ASDF_LAYOUT_LINE_END was added: a call that still lends 88 is refused
+ * with 21. */
 #define ASDF_LAYOUT_BYTES 96
 #define ASDF_BLOCK_BYTES 80
 #define ASDF_RECORD_BYTES 120

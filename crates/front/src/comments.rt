@@ -16,12 +16,7 @@ pub fn comments_end(s: &[u8], from: usize) -> EndStep
 {
     let mut at = from;
     while text::begins_at(s, at, b"#") {
-        let Line::Ended {
-            text_end,
-            next,
-            ending: _,
-        } = line::line_at(s, at)
-        else {
+        let Line::Ended { text_end, next, .. } = line::line_at(s, at) else {
             return EndStep::Refused(Refusal::new(5, at));
         };
         if text::is(&s[at..text_end], b"#ASDF BLOCK INDEX") {

@@ -51,12 +51,7 @@ fn directives_end(s: &[u8], from: usize) -> EndStep
 {
     let mut at = from;
     loop {
-        let Line::Ended {
-            text_end,
-            next,
-            ending: _,
-        } = line::line_at(s, at)
-        else {
+        let Line::Ended { text_end, next, .. } = line::line_at(s, at) else {
             return EndStep::Refused(Refusal::new(10, at));
         };
         if is_start(&s[at..text_end]) {
@@ -75,12 +70,7 @@ fn content_end(s: &[u8], from: usize) -> EndStep
 {
     let mut at = from;
     loop {
-        let Line::Ended {
-            text_end,
-            next,
-            ending: _,
-        } = line::line_at(s, at)
-        else {
+        let Line::Ended { text_end, next, .. } = line::line_at(s, at) else {
             return EndStep::Refused(Refusal::new(10, at));
         };
         if text::is(&s[at..text_end], b"...") {

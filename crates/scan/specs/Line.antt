@@ -10,7 +10,7 @@ use Rattle.scan.specs.declared.line.Line.the-variants.{Ended, Unended}
 use Rattle.scan.specs.declared.line.Exact.{Exact}
 use Rattle.scan.specs.declared.line.Exact.the-variants.{Behind, Other}
 
--- the first line, of lines that begin at offset n, with its line end
+-- the first line, of lines that begin at offset n, and how it ends
 unfoldable pub lineAt : ℕ → Lines → Line
 lineAt n (unended t) = Unended
 lineAt n (line t e l) = Ended (n + length t) (behind n t e) e
@@ -30,7 +30,7 @@ pub record LineRead (s : Bytes) (at : ℕ) (r : Line) : Type 0 where
   pub is : r ≡ lineAt at (lines (drop at s))
   pub inside : LineInside (length s) at r
 
--- whether the first line is word, and where the next begins then, with its line end
+-- whether the first line is word; if so, where the next begins and how this one ends
 unfoldable pub exactLine : Bytes → ℕ → Lines → Exact
 exactLine word n (unended t) = Other
 exactLine word n (line t e l) = elim (same t word) [ true ↦ Behind (behind n t e) e | false ↦ Other ]

@@ -12,7 +12,7 @@ use format::line::LineEnd;
 
 // What the line at an offset is.
 pub enum Line {
-    // Its bytes run to text_end, its line end stands there, and the next line begins at next.
+    // Its bytes run to text_end, where its line end stands, and the next line begins at next.
     Ended {
         text_end: usize,
         next: usize,
@@ -75,7 +75,7 @@ fn ends_in_0d(s: &[u8], at: usize, end: usize) -> bool
 
 // Whether a line is the one that was asked for.
 pub enum Exact {
-    // It is, the next line begins here, and this is its line end.
+    // It is: where the next line begins, and how this one ends.
     Behind(usize, LineEnd),
     Other,
 }

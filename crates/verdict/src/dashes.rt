@@ -26,12 +26,7 @@ pub(crate) fn judge_lines(t: &[u8], offsets: &[u64]) -> Verdict
     let mut k = 0;
     let mut equal = true;
     loop {
-        let Line::Ended {
-            text_end,
-            next,
-            ending: _,
-        } = line::line_at(t, at)
-        else {
+        let Line::Ended { text_end, next, .. } = line::line_at(t, at) else {
             return Verdict::IgnoredForm;
         };
         if text::is(&t[at..text_end], b"...") {

@@ -35,12 +35,7 @@ pub(crate) fn index_list(t: &[u8]) -> ListStep
 fn styled_list(t: &[u8], at: usize) -> ListStep
     ensures { λ r. ⌜ ListRead (now (t .entry)) (styled (lines (drop at (now (t .entry))))) r ⌝ }
 {
-    let Line::Ended {
-        text_end,
-        next,
-        ending: _,
-    } = line::line_at(t, at)
-    else {
+    let Line::Ended { text_end, next, .. } = line::line_at(t, at) else {
         return ListStep::Nowhere;
     };
     if text::is(&t[at..text_end], b"---") {
