@@ -85,10 +85,10 @@ module _ (most : ℕ) where
   unfolding writes
   numbered-writes result out h = search (numbered-bind, numbered-need, at-first)
 
-  numbered-header-of : (v : Option Version) (n : ℕ) (e : LineEnd) → 6 ≤ most → Numbered most (headerOf v n e)
+  numbered-header-of : (v : Option Version) (e : LineEnd) (n : ℕ) → 6 ≤ most → Numbered most (headerOf v e n)
   unfolding headerOf
-  numbered-header-of none n e h = omega arith
-  numbered-header-of (some v) n e h = search numbered-need
+  numbered-header-of none e n h = omega arith
+  numbered-header-of (some v) e n h = search numbered-need
 
   numbered-version : (l : Lines) → 6 ≤ most → Numbered most (versionLine l)
   unfolding versionLine

@@ -215,10 +215,10 @@ module _ (n : ℕ) (s : Bytes) (m : ℕ) where
   tree-bounds h = front-bounds (tree-front h)
 
 -- a header ends where its line ends
-header-end : (v : Option Version) (n : ℕ) (e : LineEnd) → Accepts (λ h. h .end .0 ≡ n) (headerOf v n e)
+header-end : (v : Option Version) (e : LineEnd) (n : ℕ) → Accepts (λ h. h .end .0 ≡ n) (headerOf v e n)
 unfolding headerOf
-header-end none n e = tt
-header-end (some v) n e = search accepts-need
+header-end none e n = tt
+header-end (some v) e n = search accepts-need
 
 -- to read the line of the header h
 abbrev IsVersion : Header → Reading
@@ -229,7 +229,7 @@ version-lines : (h : Header) (l : Lines) → AreLines l → versionLine l ≡ ac
 unfolding versionLine joinLines
 version-lines h (unended t) a q = let z : _≡_ {A = ℕ} 0 1 = cc in absurd (omega arith)
 version-lines h (line t e l) a q =
-    subst (Front Any (IsVersion h) 6 _) (sym (accepted-holds _ _ h (header-end (version t) (behind 6 t e) e) q))
+    subst (Front Any (IsVersion h) 6 _) (sym (accepted-holds _ _ h (header-end (version t) e (behind 6 t e)) q))
     (front-line Any (IsVersion h) Stops 6 t e (joinLines l) (behind 6 t e) (λ k z j r. rw (lines-line t e z (a .0)) q) (stopped 6 t e l))
 
 -- to read the header h

@@ -82,7 +82,7 @@ abbrev pub layoutWith : Tree → ℕ → Verdict → Outcome Layout
 layoutWith t blocks v =
     accepted
     (record {
-      header = record { version = record { major = 1; minor = 0; patch = 0 }; end = record { 0 = 12 }; «line_end» = Lf };
+      header = record { version = record { major = 1; minor = 0; patch = 0 }; «line_end» = Lf; end = record { 0 = 12 } };
       «comments_end» = record { 0 = 12 };
       tree = t;
       blocks = blocks;

@@ -28,16 +28,16 @@ versionOf (some (x ∷ y ∷ z ∷ w ∷ r)) = none
 unfoldable pub version : Bytes → Option Version
 version t = versionOf (numerals 4 (split 46 t))
 
--- the header whose version is v, and whose line ends at offset n with the line end e
-unfoldable pub headerOf : Option Version → ℕ → LineEnd → Outcome Header
-headerOf none n e = refused (refusal 3 6)
-headerOf (some v) n e = do
+-- the header whose version is v, and whose line ends with the line end e at offset n
+unfoldable pub headerOf : Option Version → LineEnd → ℕ → Outcome Header
+headerOf none e n = refused (refusal 3 6)
+headerOf (some v) e n = do
   need (eqb (v .major) 1) 4 6
-  accepted (record { version = v; end = record { 0 = n }; «line_end» = e })
+  accepted (record { version = v; «line_end» = e; end = record { 0 = n } })
 
 unfoldable pub versionLine : Lines → Outcome Header
 versionLine (unended t) = refused (refusal 3 6)
-versionLine (line t e l) = headerOf (version t) (behind 6 t e) e
+versionLine (line t e l) = headerOf (version t) e (behind 6 t e)
 
 unfoldable pub header : Bytes → Outcome Header
 header s = do

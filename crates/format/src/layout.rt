@@ -8,11 +8,11 @@ pub struct Version {
     pub patch: u16,
 }
 
-// The first line. Its end lies after the line end.
+// The first line. Its end lies after the line end, which stands beside the version because it needs no room of its own there.
 pub struct Header {
     pub version: Version,
-    pub end: Offset,
     pub line_end: LineEnd,
+    pub end: Offset,
 }
 
 pub enum Tree {

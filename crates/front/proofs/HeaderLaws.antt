@@ -164,7 +164,7 @@ module _ (s : Bytes) (b : Bool) (h : b ≡ begins Header.token s) where
 
     module _ (m next : ℕ) (ending : LineEnd) (e : r ≡ Ended m next ending) (v : VersionStep) (k : versionOf v ≡ Header.version (take (m - 6) (drop 6 s))) where
       -- the header is that of the line's version
-      header-version : Header.header s ≡ Header.headerOf (versionOf v) next ending
+      header-version : Header.header s ≡ Header.headerOf (versionOf v) ending next
       unfolding Header.versionLine
       header-version =
           let first = ended-first s 6 r read m next ending e in
@@ -182,6 +182,6 @@ module _ (s : Bytes) (b : Bool) (h : b ≡ begins Header.token s) where
         header-other y n q = rw (header-version, d, ne-eqb (w .major) 1 n) (ap refused q)
 
         -- it is one that is read
-        pub header-read : w .major ≡ 1 → headerOf (Read (record { version = w; end = record { 0 = next }; «line_end» = ending })) ≡ Header.header s
+        pub header-read : w .major ≡ 1 → headerOf (Read (record { version = w; «line_end» = ending; end = record { 0 = next } })) ≡ Header.header s
         unfolding headerOf Header.headerOf versionOf
         header-read n = rw (header-version, d, eq-eqb (w .major) 1 n)

@@ -37,8 +37,8 @@ pub fn read_header(s: &[u8]) -> HeaderStep
     }
     HeaderStep::Read(Header {
         version,
-        end: Offset(next as u64),
         line_end: ending,
+        end: Offset(next as u64),
     })
 }
 

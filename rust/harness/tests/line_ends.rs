@@ -41,6 +41,25 @@ fn dos_index(list: &str) -> Vec<u8> {
     format!("#ASDF BLOCK INDEX\r\n%YAML 1.1\r\n--- [{list}]\r\n...\r\n").into_bytes()
 }
 
+/// An index of a list.
+type IndexOf = fn(&str) -> Vec<u8>;
+const INDEX: IndexOf = index;
+const DOS_INDEX: IndexOf = dos_index;
+
+/// The places of 64 empty blocks, one after another from here on.
+fn places_from(first: usize) -> Vec<usize> {
+    let length = block_header(0, 0).len();
+    (0..MOST_BLOCKS)
+        .map(|block| first + block * length)
+        .collect()
+}
+
+/// The list of these places in an index.
+fn list_of(places: &[usize]) -> String {
+    let numbers: Vec<String> = places.iter().map(usize::to_string).collect();
+    numbers.join(", ")
+}
+
 /// The number of the header's line end: the last of the layout.
 fn line_end(file: &[u8]) -> u64 {
     let [.., line_end] = layout(file);
@@ -126,35 +145,32 @@ fn a_0d_alone_is_no_line_end() {
 
 #[test]
 fn index_of_64_blocks_has_404_bytes_with_0d_0a_and_400_with_0a() {
-    for (header, first, length) in [(DOS_HEADER, 13, 404), (HEADER_LINE, 12, 400)] {
+    for (header, index, length) in [(DOS_HEADER, DOS_INDEX, 404), (HEADER_LINE, INDEX, 400)] {
         let file = [header, &block_header(0, 0).repeat(MOST_BLOCKS)].concat();
-        let offsets: Vec<String> = (0..MOST_BLOCKS)
-            .map(|block| (first + 54 * block).to_string())
-            .collect();
-        let list = offsets.join(", ");
-        let text = if header == DOS_HEADER {
-            dos_index(&list)
-        } else {
-            index(&list)
-        };
+        let text = index(&list_of(&places_from(header.len())));
         assert_eq!(text.len(), length);
         assert_written_exactly(&file, &text);
     }
 }
 
-/// A file has this index: it is refused with 21 where the buffer is shorter, down to an empty one, and the bytes after
-/// it stay.
+/// A file has this index, whatever is lent for it.
 fn assert_written_exactly(file: &[u8], text: &[u8]) {
     for lent in 0..text.len() + 3 {
-        let mut buffer = vec![UNTOUCHED; lent];
-        let returned = exports::index(file, &mut buffer);
-        if lent < text.len() {
-            assert_eq!((returned, buffer), (TOO_SHORT, vec![UNTOUCHED; lent]));
-        } else {
-            let after = vec![UNTOUCHED; lent - text.len()];
-            assert_eq!(returned, text.len() as u64);
-            assert_eq!(buffer, [text, &after].concat());
-        }
+        assert_written(file, text, lent);
+    }
+}
+
+/// A file has this index. With so many bytes lent it is written and the bytes after it stay, or it is refused with 21 and
+/// all of them stay.
+fn assert_written(file: &[u8], text: &[u8], lent: usize) {
+    let mut buffer = vec![UNTOUCHED; lent];
+    let returned = exports::index(file, &mut buffer);
+    if lent < text.len() {
+        assert_eq!((returned, buffer), (TOO_SHORT, vec![UNTOUCHED; lent]));
+    } else {
+        let after = vec![UNTOUCHED; lent - text.len()];
+        assert_eq!(returned, text.len() as u64);
+        assert_eq!(buffer, [text, &after].concat());
     }
 }
 
@@ -178,24 +194,19 @@ fn no_block_and_a_streamed_one_have_no_index() {
 
 #[test]
 fn longest_index_has_809_bytes_with_0d_0a_and_805_with_0a() {
-    let first = 1_000_000_000;
-    for (header, length) in [(DOS_HEADER, 809), (HEADER_LINE, 805)] {
-        let block = block_header(0, 0);
+    let places = places_from(1_000_000_000);
+    let block = block_header(0, 0);
+    for (header, index, length) in [(DOS_HEADER, DOS_INDEX, 809), (HEADER_LINE, INDEX, 805)] {
         let front = [header, LEAST_TREE].concat();
-        let places: Vec<usize> = (0..MOST_BLOCKS).map(|number| first + 54 * number).collect();
         let mut parts = vec![(0, &front[..])];
         parts.extend(places.iter().map(|&place| (place, &block[..])));
-        let file = SparseFile::new(first + 54 * MOST_BLOCKS, &parts).unwrap();
-        let mut buffer = [UNTOUCHED; 809];
-        assert_eq!(exports::index(&file, &mut buffer), length);
-        let offsets: Vec<String> = places.iter().map(usize::to_string).collect();
-        let list = offsets.join(", ");
-        let text = [dos_index(&list), index(&list)];
-        let text = &text[usize::from(header == HEADER_LINE)];
-        assert_eq!(buffer[..length as usize], text[..]);
-        assert!(buffer[length as usize..]
-            .iter()
-            .all(|&byte| byte == UNTOUCHED));
+        let end = places[MOST_BLOCKS - 1] + block.len();
+        let file = SparseFile::new(end, &parts).unwrap();
+        let text = index(&list_of(&places));
+        assert_eq!(text.len(), length);
+        assert_written(&file, &text, length);
+        assert_written(&file, &text, 809);
+        assert_written(&file, &text, length - 1);
     }
 }
 
