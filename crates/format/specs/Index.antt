@@ -7,9 +7,9 @@ use mathlib.Core.Option.{Option, none, some}
 use lib.ListN.{length, replicate}
 use mathlib.Core.Path.{_≡_}
 use lib.Dec.{eqb}
-use Rattle.format.specs.declared.line.LineEnd.{LineEnd}
 use Rattle.format.specs.declared.layout.Verdict.{Verdict}
 use Rattle.format.specs.declared.layout.Verdict.the-variants.{Absent, Good, IgnoredForm, IgnoredList}
+use Rattle.format.specs.declared.line.LineEnd.{LineEnd}
 use Rattle.format.specs.Bytes.{Bytes, text, same, allZero}
 use Rattle.format.specs.Numeral.{numeral, numerals, both, split, decimal}
 use Rattle.format.specs.Line.{Lines, unended, line, lines, lineEnd}

@@ -8,7 +8,7 @@ pub struct Version {
     pub patch: u16,
 }
 
-// The first line. Its end lies after the line end, which stands beside the version because it needs no room of its own there.
+// The first line. Its end lies after the line end. The line end stands beside the version, where it needs no room of its own.
 pub struct Header {
     pub version: Version,
     pub line_end: LineEnd,
