@@ -38,6 +38,27 @@ fn every_reason_is_documented() {
 }
 
 #[test]
+fn header_names_every_number_of_a_result() {
+    let header = text("include/asdf_layout.h");
+    let results = [
+        ("layout", "LAYOUT_LINE_END", asdf_sys::LAYOUT_NUMBERS),
+        ("block", "BLOCK_CHECKSUM_LOW", asdf_sys::BLOCK_NUMBERS),
+        ("row", "ROW_INNER", asdf_sys::ROW_NUMBERS),
+    ];
+    for (result, last, count) in results {
+        let begin = format!("enum asdf_{result}_number {{");
+        let (_, after) = header.split_once(&begin).unwrap();
+        let (found, _) = after.split_once("};").unwrap();
+        let names: Vec<&str> = found
+            .lines()
+            .filter_map(|line| line.trim().strip_prefix("ASDF_"))
+            .collect();
+        assert_eq!(names.len(), count, "{result}");
+        assert!(names[count - 1].starts_with(last), "{result}");
+    }
+}
+
+#[test]
 fn header_says_the_same_sizes() {
     let header = text("include/asdf_layout.h");
     let sizes = [
