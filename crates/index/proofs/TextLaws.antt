@@ -175,21 +175,13 @@ module _ (out : Bytes) (at : ℕ) (ns : List ℕ) (some-number : 1 ≤ length ns
       end = omega (arith, q .end, list-length);
     }
 
--- what stands before the list is put
-module _ (out after : Bytes) (e : LineEnd) where
-  pub front-lf : e ≡ Lf → after ≡ placed out 0 (frontText Lf) → PutAt out after 0 (frontText e) 33
-  front-lf h f = rw h (record { buffer = f; end = refl })
+-- the text for the line end that e is was put
+module _ (out after : Bytes) (e k : LineEnd) (h : e ≡ k) where
+  pub front-put : after ≡ placed out 0 (frontText k) → (n : ℕ) → n ≡ length (frontText k) → PutAt out after 0 (frontText e) n
+  front-put f n size = rw h (record { buffer = f; end = omega arith })
 
-  pub front-crlf : e ≡ Crlf → after ≡ placed out 0 (frontText Crlf) → PutAt out after 0 (frontText e) 35
-  front-crlf h f = rw h (record { buffer = f; end = refl })
-
-  -- what stands after it is put
-  module _ (at : ℕ) where
-    pub back-lf : e ≡ Lf → after ≡ placed out at (backText Lf) → after ≡ placed out at (backText e)
-    back-lf h f = rw h f
-
-    pub back-crlf : e ≡ Crlf → after ≡ placed out at (backText Crlf) → after ≡ placed out at (backText e)
-    back-crlf h f = rw h f
+  pub back-put : (at : ℕ) → after ≡ placed out at (backText k) → after ≡ placed out at (backText e)
+  back-put at f = rw h f
 
 module _ (out a : Bytes) (e : LineEnd) (ns : List ℕ) (room : length (indexText e ns) ≤ length out) (from : ℕ) (front : PutAt out a 0 (frontText e) from) where
   index-length : length (indexText e ns) ≡ from + length (listText ns) + length (backText e)

@@ -1,7 +1,7 @@
 -- The text with this line end is put.
 use borrow.Author.Needs.{needs}
 use Rattle.put.proofs.PutLaws.{placed-length}
-use Rattle.index.proofs.TextLaws.{front-lf, front-crlf}
+use Rattle.index.proofs.TextLaws.{front-put}
 use Rattle.index.proofs.text.put_front.Statement.{statement}
 use Rattle.index.proofs.text.put_front.Tie as tie
 
@@ -16,6 +16,6 @@ put-front-spec =
     (λ c. search needs)
     (λ c κs. search needs)
     (λ c. search (placed-length, needs))
-    (λ c. search (front-lf, needs))
+    (λ c. search (front-put, needs))
     (λ c. search (placed-length, needs))
-    (λ c. search (front-crlf, needs)))
+    (λ c. search (front-put, needs)))
