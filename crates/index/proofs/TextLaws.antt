@@ -175,7 +175,7 @@ module _ (out : Bytes) (at : ℕ) (ns : List ℕ) (some-number : 1 ≤ length ns
       end = omega (arith, q .end, list-length);
     }
 
--- the text for the line end that e is was put
+-- what stands before the list and after it is put with the right line end
 module _ (out after : Bytes) (e k : LineEnd) (h : e ≡ k) where
   pub front-put : after ≡ placed out 0 (frontText k) → (n : ℕ) → n ≡ length (frontText k) → PutAt out after 0 (frontText e) n
   front-put f n size = rw h (record { buffer = f; end = omega arith })
