@@ -80,7 +80,7 @@ enum asdf_layout_number {
     ASDF_LAYOUT_ROOM_END, /* the first block, or the end of the file: how far an edit may fill */
     ASDF_LAYOUT_BLOCKS,
     ASDF_LAYOUT_VERDICT,
-    ASDF_LAYOUT_LINE_END /* of the header line; the lines of a written index end so too */
+    ASDF_LAYOUT_LINE_END /* how the header line ends, and the lines of a written index */
 };
 
 /* How a line ends. */

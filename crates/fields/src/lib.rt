@@ -13,7 +13,8 @@ use format::layout::Verdict;
 use format::line::LineEnd;
 use format::row::Row;
 
-// A layout: the version, the header's end, the comments' end, the tree, the number of blocks, the verdict, the header's line end.
+// A layout: the version, the header's end, the comments' end, the tree, the number of blocks, the verdict, and the header's
+// line end.
 pub fn layout_fields(l: Layout) -> [u64; 12]
     ensures { λ r. ⌜ r ≡ layoutFields l ⌝ }
 {

@@ -9,7 +9,6 @@ use lib.ListN.{length, replicate, getD, length-append, length-map, length-replic
 use lib.Dec.{eqb}
 use Rattle.format.specs.declared.layout.Verdict.the-variants.{Absent, Good, IgnoredList}
 use Rattle.format.specs.declared.line.LineEnd.{LineEnd}
-use Rattle.format.specs.declared.line.LineEnd.the-variants.{Lf, Crlf}
 use Rattle.format.specs.Bytes.{Bytes, text, same, allZero}
 use Rattle.format.specs.Numeral.{isDigit, numeral, both, numerals, split, decimal}
 use Rattle.format.specs.Line.{lineEnd, Lines, unended, line, lines}
@@ -17,7 +16,7 @@ use Rattle.format.specs.Comments.{indexLine}
 use Rattle.format.specs.Tree.{yamlLine, endLine}
 use Rattle.format.specs.Index.{without, trim, inBrackets, listed, dashStart, afterWord, withZeros, dashNumbers, atLeastOne, styled, indexed, judged, verdict, Entry, entry, entries, dashLine, StyledList, brackets, dashes, styledText, numbersOf, rendering, spaced, indexText, IsIndex}
 use Rattle.format.proofs.ByteLaws.{same-true, eq-same, zeros-all-zero, without-some, lacks, lacks-append, lacks-replicate}
-use Rattle.format.proofs.LineLaws.{joinLines, join-lines, IsLine, plain-line, AreLines, ends-snoc, lines-join}
+use Rattle.format.proofs.LineLaws.{end-length, joinLines, join-lines, IsLine, plain-line, AreLines, ends-snoc, lines-join}
 use Rattle.format.proofs.NumeralLaws.{decimal-is, decimal-lacks, joined-lacks, numeral-decimal, numeral-text, both-some, joined, AllLack, split-joined, split-parts}
 use Rattle.format.proofs.SpaceLaws.{trim-padded, trim-text}
 use Rattle.format.proofs.DashLaws.{dashed-numbers, dashLines, endLines, zeros-read, dashes-read, some-read, some-again, dash-join, dashes-are-lines, dashes-again}
@@ -377,12 +376,7 @@ digits-at-most [] h = omega arith
 digits-at-most (n ∷ ns) h =
     omega (arith, decimal-is n .few 10 (omega arith) (omega (arith, h 0)), digits-at-most ns (λ i. h (suc i)))
 
--- a line end has at most two bytes
-end-at-most : (e : LineEnd) → length (lineEnd e) ≤ 2
-end-at-most Lf = omega arith
-end-at-most Crlf = omega arith
-
 -- the index of at most 64 offsets below 2 ^ 32 takes at most 809 bytes
 pub text-at-most : (e : LineEnd) (offsets : List ℕ) → 1 ≤ length offsets → length offsets ≤ 64 → ((i : ℕ) → getD offsets i 0 < 2 ^ 32)
     → length (indexText e offsets) ≤ 809
-text-at-most e offsets some-number few small = omega (arith, text-length e offsets some-number, end-at-most e, digits-at-most offsets small)
+text-at-most e offsets some-number few small = omega (arith, text-length e offsets some-number, end-length e, digits-at-most offsets small)

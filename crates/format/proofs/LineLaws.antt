@@ -1,5 +1,6 @@
 -- The lines of a byte string and the byte string determine each other.
-use Prim.Native.Nat.{ℕ, _+_}
+use Prim.Native.Nat.{ℕ, _+_, _≤_}
+use native.Mathlib.Omega.{arith}
 use mathlib.Core.Path.{_≡_, refl, sym, ap, _∙_, subst}
 use mathlib.Core.Bool.{Bool, true, false}
 use mathlib.Core.List.{[], _∷_, _++_}
@@ -12,6 +13,11 @@ use Rattle.format.specs.declared.line.LineEnd.the-variants.{Lf, Crlf}
 use Rattle.format.specs.Bytes.{Bytes}
 use Rattle.format.specs.Line.{lineEnd, Lines, unended, line, lead, lines}
 use Rattle.format.proofs.ByteLaws.{lacks, lacks-head, lacks-tail, lacks-cons}
+
+-- a line end has one byte or two
+pub end-length : (e : LineEnd) → (1 ≤ length (lineEnd e)) × (length (lineEnd e) ≤ 2)
+end-length Lf = (omega arith, omega arith)
+end-length Crlf = (omega arith, omega arith)
 
 -- the bytes of lines
 unfoldable pub joinLines : Lines → Bytes

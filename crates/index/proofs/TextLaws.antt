@@ -15,6 +15,7 @@ use Rattle.format.specs.Tree.{endLine}
 use Rattle.format.specs.Lent.{placed}
 use Rattle.format.specs.Numeral.{decimal}
 use Rattle.format.specs.Index.{Entry, entry, entries, styledText, rendering, spaced, indexText}
+use Rattle.format.proofs.LineLaws.{end-length}
 use Rattle.format.proofs.IndexLaws.{digitCount, text-length}
 use Rattle.put.specs.Decimal.{DecimalLength}
 use Rattle.put.proofs.PutLaws.{placed-append, placed-length, placed-sets, placed-behind}
@@ -58,11 +59,6 @@ around-length : (e : LineEnd) → aroundLength e ≡ 35 + 4 * length (lineEnd e)
 around-length Lf = refl
 around-length Crlf = refl
 
--- it is short, and has the two bytes that are counted too many for the first number
-around-bounds : (e : LineEnd) → (2 ≤ aroundLength e) × (aroundLength e ≤ 43)
-around-bounds Lf = (omega arith, omega arith)
-around-bounds Crlf = (omega arith, omega arith)
-
 -- so far n bytes are counted, from `base` on, with those of the numbers before i
 pub record Measured (base : ℕ) (ns : List ℕ) (n i : ℕ) : Type 0 where
   pub small : base ≤ 41
@@ -84,10 +80,10 @@ module _ (base : ℕ) (ns : List ℕ) (n i : ℕ) (h : Measured base ns n i) (d 
 -- the count begins with the bytes around the list, without the two that the first number is counted with too many
 module _ (k : LineEnd) (a : ℕ) (around : a ≡ aroundLength k) where
   pub around-some : 2 ≤ a
-  around-some = omega (arith, around-bounds k)
+  around-some = omega (arith, around-length k)
 
   pub measure-start : (ns : List ℕ) → Measured (a - 2) ns (a - 2) 0
-  measure-start ns = record { small = omega (arith, around-bounds k); inside = omega arith; few = omega arith; left = omega arith }
+  measure-start ns = record { small = omega (arith, around-length k, end-length k); inside = omega arith; few = omega arith; left = omega arith }
 
   -- all are counted
   pub measure-done : (ns : List ℕ) (n i : ℕ) → Measured (a - 2) ns n i → length ns ≤ i → 1 ≤ length ns → n ≡ length (indexText k ns)

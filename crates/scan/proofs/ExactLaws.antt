@@ -11,7 +11,7 @@ use Rattle.format.specs.Bytes.{Bytes, begins, same}
 use Rattle.format.specs.Line.{lineEnd, Lines, unended, line, behind, lines}
 use Rattle.format.specs.Tree.{yamlLine}
 use Rattle.format.proofs.ByteLaws.{same-true, eq-same, begins-true, begins-append}
-use Rattle.format.proofs.LineLaws.{IsLine, plain-line, lines-line, line-split}
+use Rattle.format.proofs.LineLaws.{end-length, IsLine, plain-line, lines-line, line-split}
 use Rattle.scan.specs.declared.line.Line.{Line}
 use Rattle.scan.specs.declared.line.Line.the-variants.{Ended, Unended}
 use Rattle.scan.specs.declared.line.Exact.{Exact}
@@ -68,11 +68,6 @@ module _ (s word : Bytes) (at : ℕ) (r : Exact) (read : ExactRead s word at r) 
       go (unended t) h = let z : _≡_ {A = ℕ} 0 1 = cc (read .is, h, p) in absurd (omega arith)
       go (line t e l) h = judge t e l (same t word) h refl
 
--- a line end has one byte or two
-some-end : (e : LineEnd) → 1 ≤ length (lineEnd e)
-some-end Lf = omega arith
-some-end Crlf = omega arith
-
 -- bytes that begin with a word and a line end have the word for their first line
 word-read : (s word : Bytes) (at : ℕ) (e : LineEnd) (next : ℕ) → IsLine word e → begins (word ++ lineEnd e) (drop at s) ≡ true
     → next ≡ behind at word e → ExactRead s word at (Behind next e)
@@ -81,7 +76,7 @@ word-read s word at e next l h n =
     let z = drop (length (word ++ lineEnd e)) (drop at s) in
     let split = begins-true (word ++ lineEnd e) (drop at s) h ∙ append-assoc word (lineEnd e) z in
     let size = length-append word (lineEnd e) in
-    let some = some-end e in
+    let some = end-length e in
     record {
       is = rw (ap lines split ∙ lines-line word e z l, exactLine, eq-same word word refl, n);
       inside = omega (arith, begins-inside (word ++ lineEnd e) at s h (omega arith));

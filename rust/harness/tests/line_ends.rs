@@ -41,10 +41,8 @@ fn dos_index(list: &str) -> Vec<u8> {
     format!("#ASDF BLOCK INDEX\r\n%YAML 1.1\r\n--- [{list}]\r\n...\r\n").into_bytes()
 }
 
-/// An index of a list.
-type IndexOf = fn(&str) -> Vec<u8>;
-const INDEX: IndexOf = index;
-const DOS_INDEX: IndexOf = dos_index;
+/// A header line, the index of a list with the same line end, and the length of one.
+type Kind = (&'static [u8], fn(&str) -> Vec<u8>, usize);
 
 /// The places of 64 empty blocks, one after another from here on.
 fn places_from(first: usize) -> Vec<usize> {
@@ -145,7 +143,8 @@ fn a_0d_alone_is_no_line_end() {
 
 #[test]
 fn index_of_64_blocks_has_404_bytes_with_0d_0a_and_400_with_0a() {
-    for (header, index, length) in [(DOS_HEADER, DOS_INDEX, 404), (HEADER_LINE, INDEX, 400)] {
+    let kinds: [Kind; 2] = [(DOS_HEADER, dos_index, 404), (HEADER_LINE, index, 400)];
+    for (header, index, length) in kinds {
         let file = [header, &block_header(0, 0).repeat(MOST_BLOCKS)].concat();
         let text = index(&list_of(&places_from(header.len())));
         assert_eq!(text.len(), length);
@@ -196,7 +195,8 @@ fn no_block_and_a_streamed_one_have_no_index() {
 fn longest_index_has_809_bytes_with_0d_0a_and_805_with_0a() {
     let places = places_from(1_000_000_000);
     let block = block_header(0, 0);
-    for (header, index, length) in [(DOS_HEADER, DOS_INDEX, 809), (HEADER_LINE, INDEX, 805)] {
+    let kinds: [Kind; 2] = [(DOS_HEADER, dos_index, 809), (HEADER_LINE, index, 805)];
+    for (header, index, length) in kinds {
         let front = [header, LEAST_TREE].concat();
         let mut parts = vec![(0, &front[..])];
         parts.extend(places.iter().map(|&place| (place, &block[..])));
