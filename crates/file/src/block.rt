@@ -8,6 +8,7 @@ ghost use Rattle.format.specs.Block.{blockWith};
 ghost use Rattle.file.specs.Block.{IsField, FieldRead, HeaderRead, Fault, Sound, BlockRead, soundBlock, soundLink};
 use crate::step::LinkStep;
 use format::block::Block;
+use format::limits::LEAST_HEADER;
 use format::offset::Offset;
 use format::refusal::Refusal;
 use scan::number;
@@ -37,7 +38,7 @@ pub(crate) fn fault(t: &[u8]) -> u8
         return 11;
     }
     let header_size = field(t, 4, 6);
-    if header_size < 48 {
+    if header_size < LEAST_HEADER {
         return 12;
     }
     let content = 6 + header_size as usize;

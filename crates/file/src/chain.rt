@@ -9,12 +9,13 @@ ghost use Rattle.file.specs.Chain.{Follows, NextMark, LinkIs, Walked};
 use crate::block;
 use crate::step::ChainStep;
 use crate::step::LinkStep;
+use format::limits::MOST_BLOCKS;
 use format::refusal::Refusal;
 use scan::text;
 
 // Walks the blocks from an offset on, and keeps where each begins. The offsets are all 0 before, and those after the last
 // block's stay so.
-pub(crate) fn walk(s: &[u8], first: usize, offsets: &mut [u64; 64]) -> ChainStep
+pub(crate) fn walk(s: &[u8], first: usize, offsets: &mut [u64; MOST_BLOCKS]) -> ChainStep
     requires { ⌜ first ≤ length (now s) ⌝ }
     requires { ⌜ now offsets ≡ replicate mostBlocks 0 ⌝ }
     ensures { λ r. ⌜ Walked (now (s .entry)) (chain mostBlocks 0 first (drop first (now (s .entry)))) (now (offsets .exit)) r ⌝ }
@@ -101,7 +102,7 @@ fn link_at_mark(s: &[u8], at: usize, next: usize, i: usize) -> LinkStep
     requires { ⌜ Follows (now s) at next ⌝ }
     ensures { λ r. ⌜ LinkIs (now (s .entry)) i at next r ⌝ }
 {
-    if 64 <= i {
+    if MOST_BLOCKS <= i {
         return LinkStep::Refused(Refusal::new(16, next));
     }
     let number = block::fault(&s[next..]);

@@ -20,6 +20,8 @@ use format::layout::Header;
 use format::layout::Layout;
 use format::layout::Tree;
 use format::layout::Verdict;
+use format::limits::MOST_BLOCKS;
+use format::limits::MOST_BYTES;
 use format::offset::Offset;
 use format::refusal::Refusal;
 use front::comments;
@@ -33,7 +35,7 @@ use front::tree;
 pub fn read(s: &[u8]) -> LayoutAnswer
     ensures { λ r. ⌜ layoutAnswer r ≡ layout (now (s .entry)) ⌝ }
 {
-    let mut offsets = [0u64; 64];
+    let mut offsets = [0u64; MOST_BLOCKS];
     judge(s, &mut offsets)
 }
 
@@ -43,7 +45,7 @@ pub fn read_with_offsets(s: &[u8]) -> OffsetsAnswer
     ensures { λ r. ⌜ layoutAnswer (r .layout) ≡ layout (now (s .entry)) ⌝ }
     ensures { λ r. ⌜ r .offsets ≡ offsetTable (file (now (s .entry))) ⌝ }
 {
-    let mut offsets = [0u64; 64];
+    let mut offsets = [0u64; MOST_BLOCKS];
     match judge(s, &mut offsets) {
         LayoutAnswer::Accepted(l) => OffsetsAnswer {
             layout: LayoutAnswer::Accepted(l),
@@ -51,7 +53,7 @@ pub fn read_with_offsets(s: &[u8]) -> OffsetsAnswer
         },
         LayoutAnswer::Refused(r) => OffsetsAnswer {
             layout: LayoutAnswer::Refused(r),
-            offsets: [0u64; 64],
+            offsets: [0u64; MOST_BLOCKS],
         },
     }
 }
@@ -72,7 +74,7 @@ pub fn block(s: &[u8], ordinal: u64) -> BlockAnswer
 }
 
 // The block of this ordinal, of an accepted file with so many blocks that begin at these offsets.
-fn kept_block(s: &[u8], offsets: [u64; 64], blocks: u8, ordinal: u64) -> BlockAnswer
+fn kept_block(s: &[u8], offsets: [u64; MOST_BLOCKS], blocks: u8, ordinal: u64) -> BlockAnswer
     requires { ⌜ Kept (now s) offsets blocks ⌝ }
     ensures { λ r. ⌜ blockAnswer r ≡ blockAt (now (s .entry)) ordinal ⌝ }
 {
@@ -87,11 +89,11 @@ fn kept_block(s: &[u8], offsets: [u64; 64], blocks: u8, ordinal: u64) -> BlockAn
 }
 
 // Judges a file. The offsets are all 0 before; of an accepted file they are the table of its blocks then.
-fn judge(s: &[u8], offsets: &mut [u64; 64]) -> LayoutAnswer
+fn judge(s: &[u8], offsets: &mut [u64; MOST_BLOCKS]) -> LayoutAnswer
     requires { ⌜ now offsets ≡ replicate mostBlocks 0 ⌝ }
     ensures { λ r. ⌜ Judged (file (now (s .entry))) (now (offsets .exit)) r ⌝ }
 {
-    if 4294967295 < s.len() {
+    if MOST_BYTES < s.len() {
         return LayoutAnswer::Refused(Refusal::new(1, 0));
     }
     match header::read_header(s) {
@@ -100,7 +102,7 @@ fn judge(s: &[u8], offsets: &mut [u64; 64]) -> LayoutAnswer
     }
 }
 
-fn behind_header(s: &[u8], h: Header, offsets: &mut [u64; 64]) -> LayoutAnswer
+fn behind_header(s: &[u8], h: Header, offsets: &mut [u64; MOST_BLOCKS]) -> LayoutAnswer
     requires { ⌜ h .end .0 ≤ length (now s) ⌝ }
     requires { ⌜ now offsets ≡ replicate mostBlocks 0 ⌝ }
     ensures { λ r. ⌜ Judged (behindHeader (now (s .entry)) h) (now (offsets .exit)) r ⌝ }
@@ -111,7 +113,7 @@ fn behind_header(s: &[u8], h: Header, offsets: &mut [u64; 64]) -> LayoutAnswer
     }
 }
 
-fn behind_comments(s: &[u8], h: Header, n: usize, offsets: &mut [u64; 64]) -> LayoutAnswer
+fn behind_comments(s: &[u8], h: Header, n: usize, offsets: &mut [u64; MOST_BLOCKS]) -> LayoutAnswer
     requires { ⌜ n ≤ length (now s) ⌝ }
     requires { ⌜ now offsets ≡ replicate mostBlocks 0 ⌝ }
     ensures { λ r. ⌜ Judged (behindComments (now (s .entry)) h n) (now (offsets .exit)) r ⌝ }
@@ -122,7 +124,13 @@ fn behind_comments(s: &[u8], h: Header, n: usize, offsets: &mut [u64; 64]) -> La
     }
 }
 
-fn behind_tree(s: &[u8], h: Header, n: usize, t: Tree, offsets: &mut [u64; 64]) -> LayoutAnswer
+fn behind_tree(
+    s: &[u8],
+    h: Header,
+    n: usize,
+    t: Tree,
+    offsets: &mut [u64; MOST_BLOCKS],
+) -> LayoutAnswer
     requires { ⌜ firstBlock n t ≤ length (now s) ⌝ }
     requires { ⌜ now offsets ≡ replicate mostBlocks 0 ⌝ }
     ensures { λ r. ⌜ Judged (behindTree (now (s .entry)) h n t) (now (offsets .exit)) r ⌝ }
@@ -158,7 +166,7 @@ fn with_blocks(
     n: usize,
     t: Tree,
     first: usize,
-    offsets: &mut [u64; 64],
+    offsets: &mut [u64; MOST_BLOCKS],
 ) -> LayoutAnswer
     requires { ⌜ first ≤ length (now s) ⌝ }
     requires { ⌜ now offsets ≡ replicate mostBlocks 0 ⌝ }

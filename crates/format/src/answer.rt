@@ -1,6 +1,9 @@
 // The answer of each public function: what was asked for, or the refusal.
+ghost use mathlib.Core.Path.{_≡_};
+ghost use Rattle.format.specs.Outcome.{refusal};
 use crate::block::Block;
 use crate::layout::Layout;
+use crate::limits::MOST_BLOCKS;
 use crate::refusal::Refusal;
 use crate::row::Row;
 
@@ -13,7 +16,7 @@ pub enum LayoutAnswer {
 // refused file.
 pub struct OffsetsAnswer {
     pub layout: LayoutAnswer,
-    pub offsets: [u64; 64],
+    pub offsets: [u64; MOST_BLOCKS],
 }
 
 pub enum BlockAnswer {
@@ -32,6 +35,15 @@ pub enum RowAnswer {
 pub enum CountAnswer {
     Counted(u64),
     Refused(Refusal),
+}
+
+impl CountAnswer {
+    // The refusal with this number, at this place of what was lent.
+    pub fn refuse(number: u8, place: usize) -> CountAnswer
+        ensures { λ r. ⌜ r ≡ CountAnswer.Refused (refusal number place) ⌝ }
+    {
+        CountAnswer::Refused(Refusal::new(number, place))
+    }
 }
 
 pub enum EditAnswer {

@@ -2,6 +2,7 @@
 pub mod answer;
 pub mod block;
 pub mod layout;
+pub mod limits;
 pub mod line;
 pub mod offset;
 pub mod refusal;
