@@ -15,7 +15,7 @@ use Rattle.format.specs.declared.block.Block.{Block}
 use Rattle.format.specs.declared.refusal.Refusal.{Refusal}
 use Rattle.format.specs.Bytes.{Bytes}
 use Rattle.format.specs.Outcome.{Outcome, accepted, refused, refusal, need, _>>_}
-use Rattle.format.specs.Block.{headerSize, flags, compression, allocatedSize, dataSize, leastHeader, isStreamed, contentStart, blockWith, block}
+use Rattle.format.specs.Block.{headerSize, flags, compression, allocatedSize, dataSize, leastHeader, isStreamed, isCompressed, contentStart, blockWith, block}
 use Rattle.format.specs.Tree.{mark}
 use Rattle.format.specs.Chain.{extent}
 use Rattle.format.proofs.OutcomeLaws.{accepted-holds}
@@ -40,12 +40,12 @@ field-read t from to r bytes field read =
     }
 
 -- a compressed block's data may have any size
-pub compressed-size : (size compression used : ℕ) → (compression ≡ 0 → ⊥) → true ≡ (not (eqb compression 0) || eqb size used)
-compressed-size size compression used n = rw (ne-eqb compression 0 n)
+pub compressed-size : (size compression used : ℕ) (x : Bool) → x ≡ isCompressed compression → x ≡ true → true ≡ (isCompressed compression || eqb size used)
+compressed-size size compression used x e h = rw (sym e ∙ h)
 
 -- another's has the used size
-pub plain-size : (size compression used : ℕ) → compression ≡ 0 → eqb size used ≡ (not (eqb compression 0) || eqb size used)
-plain-size size compression used e = rw (eq-eqb compression 0 e)
+pub plain-size : (size compression used : ℕ) (x : Bool) → x ≡ isCompressed compression → x ≡ false → eqb size used ≡ (isCompressed compression || eqb size used)
+plain-size size compression used x e h = rw (sym e ∙ h)
 
 -- a block is made of the numbers in its header
 pub block-fields : (i n : ℕ) (t : Bytes) (a u d h f c high low : ℕ) → FieldRead t 4 6 h → FieldRead t 6 10 f → FieldRead t 10 14 c
@@ -83,7 +83,7 @@ sound t h = record { fails = λ z. absurd (z refl); passes = λ e. h }
 
 module _ (t : Bytes) (left : ℕ) (header : HeaderRead t left) (a u : ℕ) (ra : FieldRead t 14 22 a) (ru : FieldRead t 22 30 u) where
   -- where the header is whole and not of a streamed block, the sizes decide
-  header-sized : (i n : ℕ) → block i n t ≡ sized i n t left a u (dataSize t) (not (eqb (compression t) 0) || eqb (dataSize t) u)
+  header-sized : (i n : ℕ) → block i n t ≡ sized i n t left a u (dataSize t) (isCompressed (compression t) || eqb (dataSize t) u)
   unfolding block
   header-sized i n =
       rw (
@@ -100,7 +100,7 @@ module _ (t : Bytes) (left : ℕ) (header : HeaderRead t left) (a u : ℕ) (ra :
   pub sizes-used : a < u → Fault t 13
   sizes-used h = faulty t 13 (omega arith) (λ i n. rw (header-sized i n, lt-leb u a h))
 
-  module _ (d c : ℕ) (rd : FieldRead t 30 38 d) (rc : FieldRead t 10 14 c) (ok : Bool) (is : ok ≡ (not (eqb c 0) || eqb d u)) (h : u ≤ a) where
+  module _ (d c : ℕ) (rd : FieldRead t 30 38 d) (rc : FieldRead t 10 14 c) (ok : Bool) (is : ok ≡ (isCompressed c || eqb d u)) (h : u ≤ a) where
     -- and so does what was found of the data
     data-sized : (i n : ℕ) → block i n t ≡ sized i n t left a u (dataSize t) ok
     data-sized i n = header-sized i n ∙ rw (is, rc .is, rd .is)

@@ -1,13 +1,14 @@
 // A block's header.
 ghost use Prim.Native.Nat.{_≤_};
 ghost use mathlib.Core.Path.{_≡_};
-ghost use mathlib.Core.Bool.{_||_, not};
+ghost use mathlib.Core.Bool.{_||_};
 ghost use lib.ListN.{length};
 ghost use lib.Dec.{eqb};
-ghost use Rattle.format.specs.Block.{blockWith};
+ghost use Rattle.format.specs.Block.{isCompressed, blockWith};
 ghost use Rattle.file.specs.Block.{IsField, FieldRead, HeaderRead, Fault, Sound, BlockRead, soundBlock, soundLink};
 use crate::step::LinkStep;
 use format::block::Block;
+use format::block::is_compressed;
 use format::limits::LEAST_HEADER;
 use format::offset::Offset;
 use format::refusal::Refusal;
@@ -73,9 +74,9 @@ fn sizes_fault(t: &[u8], left: u64) -> u8
 
 // Whether data may have this size: without compression only the used one.
 fn is_data_size(data_size: u64, compression: u64, used: u64) -> bool
-    ensures { λ r. ⌜ r ≡ (not (eqb compression 0) || eqb data_size used) ⌝ }
+    ensures { λ r. ⌜ r ≡ (isCompressed compression || eqb data_size used) ⌝ }
 {
-    if compression != 0 {
+    if is_compressed(compression) {
         return true;
     }
     data_size == used

@@ -40,6 +40,14 @@ leastHeader = 48
 abbrev pub isStreamed : ℕ → Bool
 isStreamed f = eqb (f % 2) 1
 
+-- whether a compression name is one: four zeros are none
+abbrev pub isCompressed : ℕ → Bool
+isCompressed name = not (eqb name 0)
+
+-- whether the two halves of a checksum state one: zeros in both do not
+abbrev pub hasChecksum : ℕ → ℕ → Bool
+hasChecksum high low = not (eqb high 0) || not (eqb low 0)
+
 -- where the content begins, and how many bytes the file has from there on
 abbrev pub contentStart : Bytes → ℕ
 contentStart t = 6 + headerSize t
@@ -74,7 +82,7 @@ block i n t = do
     | true ↦ accepted (blockWith i n t (bytesLeft t) (bytesLeft t) (bytesLeft t))
     | false ↦ do
       need (leb (usedSize t) (allocatedSize t)) 13 n
-      need (not (eqb (compression t) 0) || eqb (dataSize t) (usedSize t)) 14 n
+      need (isCompressed (compression t) || eqb (dataSize t) (usedSize t)) 14 n
       need (leb (allocatedSize t) (bytesLeft t)) 15 n
       accepted (blockWith i n t (allocatedSize t) (usedSize t) (dataSize t))
   ]

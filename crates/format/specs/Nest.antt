@@ -1,6 +1,6 @@
 -- The files inside blocks, and all blocks of an outermost file in walking order.
 use Prim.Native.Nat.{ℕ, zero, suc, _+_}
-use mathlib.Core.Bool.{Bool, true, false, _&&_}
+use mathlib.Core.Bool.{Bool, true, false, not, _&&_}
 use mathlib.Core.List.{List, [], _∷_, _++_}
 use mathlib.Core.Option.{Option}
 use lib.ListN.{length, take, drop, getElem?}
@@ -12,6 +12,7 @@ use Rattle.format.specs.declared.block.Inner.the-variants.{Plain, Opened
 use Rattle.format.specs.Bytes.{Bytes, begins}
 use Rattle.format.specs.Outcome.{Outcome, accepted, refused, _>>=_}
 use Rattle.format.specs.Header.{token}
+use Rattle.format.specs.Block.{isCompressed}
 use Rattle.format.specs.File.{file}
 
 -- the deepest depth of a file that is read; the outermost file has depth 0
@@ -27,7 +28,7 @@ contentOf b s = take (b .used) (drop (contentAt b) s)
 
 -- whether a block is one to be read as a file of its own
 abbrev pub isFile : Block → Bytes → Bool
-isFile b t = eqb (b .compression) 0 && begins token t
+isFile b t = not (isCompressed (b .compression)) && begins token t
 
 -- what a block's content is: its inner state, and the records of the blocks inside
 pub record Inside : Type 0 where

@@ -1,6 +1,6 @@
 -- The outline: a row of sixteen bytes for each block. And the reader of stored outlines.
 use Prim.Native.Nat.{ℕ, zero, suc, _+_, _*_, _/_, _%_, _^_}
-use mathlib.Core.Bool.{Bool, _&&_, not}
+use mathlib.Core.Bool.{Bool, _&&_}
 use mathlib.Core.List.{List, [], _∷_, map, flatMap}
 use mathlib.Core.Option.{Option}
 use lib.ListN.{length, take, drop, getD, getElem?}
@@ -11,7 +11,7 @@ use Rattle.format.specs.declared.block.Inner.the-variants.{Plain, Opened
 use Rattle.format.specs.declared.row.Row.{Row}
 use Rattle.format.specs.Bytes.{Bytes, bigEndian, toBytes, bit}
 use Rattle.format.specs.Outcome.{Outcome, accepted, need, _>>=_, _>>_}
-use Rattle.format.specs.Block.{isStreamed, leastHeader}
+use Rattle.format.specs.Block.{isStreamed, isCompressed, hasChecksum, leastHeader}
 use Rattle.format.specs.Chain.{mostBlocks}
 use Rattle.format.specs.Nest.{records}
 
@@ -28,8 +28,8 @@ rowOf r =
     record {
       depth = r .depth;
       streamed = isStreamed (b .flags);
-      compressed = not (eqb (b .compression) 0);
-      checksum = not (eqb (b .«checksum_high») 0 && eqb (b .«checksum_low») 0);
+      compressed = isCompressed (b .compression);
+      checksum = hasChecksum (b .«checksum_high») (b .«checksum_low»);
       inner = innerNumber (r .inner);
       ordinal = b .ordinal;
       «header_size» = b .«header_size»;

@@ -1,4 +1,6 @@
 // What is reported of a block.
+ghost use mathlib.Core.Path.{_≡_};
+ghost use Rattle.format.specs.Block.{isCompressed, hasChecksum};
 use crate::offset::Offset;
 use crate::offset::OutermostOffset;
 use crate::refusal::Refusal;
@@ -41,4 +43,18 @@ pub struct Record {
     pub at: OutermostOffset,
     pub block: Block,
     pub inner: Inner,
+}
+
+// Whether a compression name is one: 0 is none.
+pub fn is_compressed(name: u64) -> bool
+    ensures { λ r. ⌜ r ≡ isCompressed name ⌝ }
+{
+    name != 0
+}
+
+// Whether the two halves of a checksum state one: all zeros do not. Both are tested, with no branch.
+pub fn has_checksum(high: u64, low: u64) -> bool
+    ensures { λ r. ⌜ r ≡ hasChecksum high low ⌝ }
+{
+    (high != 0) | (low != 0)
 }

@@ -4,7 +4,7 @@ use native.Mathlib.Omega.{arith}
 use mathlib.Core.Path.{_≡_, refl, sym, ap, _∙_}
 use mathlib.Core.Bool.{Bool, true, false, not}
 use lib.ListN.{length, drop}
-use borrow.Author.Tests.{leb-true, eq-eqb, ne-eqb, not-true, not-false}
+use borrow.Author.Tests.{leb-true, not-true, not-false}
 use Rattle.format.specs.declared.answer.LayoutAnswer.{LayoutAnswer}
 use Rattle.format.specs.declared.answer.LayoutAnswer.the-variants as LayoutAnswer·is
 use Rattle.format.specs.declared.block.Block.{Block}
@@ -14,6 +14,7 @@ use Rattle.format.specs.declared.layout.Tree.the-variants.{NoTree, Found}
 use Rattle.format.specs.declared.offset.Offset.{Offset}
 use Rattle.format.specs.declared.refusal.Refusal.{Refusal}
 use Rattle.format.specs.Answer.{layoutAnswer}
+use Rattle.format.specs.Block.{isCompressed}
 use Rattle.format.specs.Bytes.{Bytes, begins}
 use Rattle.format.specs.Header.{token}
 use Rattle.format.specs.Outcome.{Outcome, accepted, refused, _>>=_}
@@ -82,20 +83,20 @@ accepted-records depth start s l h =
 
 module _ (depth : ℕ) (b : Block) (t : Bytes) where
   -- the content of a compressed block
-  pub content-compressed : (b .compression ≡ 0 → ⊥) → (start : ℕ) → insideOf depth start b t ≡ closed Plain
+  pub content-compressed : (z : Bool) → z ≡ isCompressed (b .compression) → z ≡ true → (start : ℕ) → insideOf depth start b t ≡ closed Plain
   unfolding insideOf
-  content-compressed h start = rw (insideOf, ne-eqb (b .compression) 0 h)
+  content-compressed z e h start = rw (insideOf, sym e ∙ h)
 
-  module _ (plain : b .compression ≡ 0) (x : Bool) (is : x ≡ begins token (drop 0 t)) where
+  module _ (z : Bool) (z-is : z ≡ isCompressed (b .compression)) (plain : z ≡ false) (x : Bool) (is : x ≡ begins token (drop 0 t)) where
     -- content that does not begin like a file
     pub content-plain : not x ≡ true → (start : ℕ) → insideOf depth start b t ≡ closed Plain
     unfolding insideOf
-    content-plain h start = let e = sym is ∙ not-true x h in rw (insideOf, eq-eqb (b .compression) 0 plain, e)
+    content-plain h start = let e = sym is ∙ not-true x h in rw (insideOf, sym z-is ∙ plain, e)
 
     module _ (starts : not x ≡ false) where
       -- content that does
       is-file : isFile b t ≡ true
-      is-file = let e = sym is ∙ not-false x starts in rw (eq-eqb (b .compression) 0 plain, e)
+      is-file = let e = sym is ∙ not-false x starts in rw (sym z-is ∙ plain, e)
 
       like-file : (start : ℕ) → insideOf depth start b t ≡ reads depth start t
       unfolding insideOf

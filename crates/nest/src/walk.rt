@@ -9,9 +9,10 @@ ghost use Rattle.nest.specs.Sink.{Delivered};
 ghost use Rattle.nest.specs.Walk.{recordsOf, recordsWith, insideOf, NextIs, ContentIs, allRecords};
 use crate::sink;
 use crate::sink::Form;
-use file::block;
 use file::block::BlockStep;
+use file::block::read_block;
 use format::answer::LayoutAnswer;
+use format::block;
 use format::block::Block;
 use format::block::Inner;
 use format::block::Record;
@@ -115,7 +116,7 @@ fn next_block(s: &[u8], at: usize, ordinal: u8) -> NextStep
     ensures { λ x. ⌜ NextIs (now (s .entry)) ordinal at x ⌝ }
 {
     let here = mark::find(s, at);
-    match block::read_block(&s[here..], ordinal, here) {
+    match read_block(&s[here..], ordinal, here) {
         BlockStep::Refused(_) => NextStep::NoBlock,
         BlockStep::Read(b) => {
             let from = here + 6 + b.header_size as usize;
@@ -173,7 +174,7 @@ fn walk_content(
 fn content_of(t: &[u8], depth: u8, b: Block) -> ContentStep
     ensures { λ x. ⌜ ContentIs depth b (now (t .entry)) x ⌝ }
 {
-    if b.compression != 0 {
+    if block::is_compressed(b.compression as u64) {
         return ContentStep::Closed(Inner::Plain);
     }
     if !text::begins_at(t, 0, b"#ASDF ") {

@@ -3,7 +3,7 @@ use Prim.Native.Nat.{ℕ, _+_, _*_, _-_, _/_, _%_, _^_, _≤_, _<_}
 use native.Mathlib.Nat.{add-zero, add-assoc, mul-one, div-one, mod-mod, mod-eq-of-lt}
 use native.Mathlib.Omega.{arith}
 use mathlib.Core.Path.{_≡_, refl, sym, ap, _∙_}
-use mathlib.Core.Bool.{Bool, true, not}
+use mathlib.Core.Bool.{Bool, true}
 use mathlib.Core.List.{List, [], _∷_, _++_, append-nil}
 use lib.ListN.{length, take, drop, getD, length-append, length-take, length-drop}
 use lib.Seq.{take-add, drop-drop}
@@ -11,14 +11,14 @@ use lib.Pow.{pow-add}
 use lib.Dec.{eqb}
 use mir.Syntax.{w8}
 use mir.Val.{Fits}
-use borrow.Author.Tests.{ne-eqb, le-leb, lt-leb}
+use borrow.Author.Tests.{le-leb, lt-leb}
 use Rattle.format.specs.declared.answer.RowAnswer.the-variants.{Found, NoSuchRow}
-use Rattle.format.specs.declared.block.Block.{Block}
 use Rattle.format.specs.declared.block.Record.{Record}
 use Rattle.format.specs.declared.offset.OutermostOffset.{OutermostOffset}
 use Rattle.format.specs.declared.row.Row.{Row}
 use Rattle.format.specs.Answer.{rowAnswer}
 use Rattle.format.specs.Bytes.{Bytes, IsBytes, bigEndian, toBytes, wrapped, bit}
+use Rattle.format.specs.Block.{isCompressed, hasChecksum}
 use Rattle.format.specs.Lent.{placed}
 use Rattle.format.specs.Outcome.{accepted}
 use Rattle.format.specs.Outline.{innerNumber, rowOf, fieldsOf, sum, packed, unpacked, encodeRow, decodeRow}
@@ -28,22 +28,15 @@ use Rattle.format.proofs.RowLaws.{RowFits, encoded-length, bit-lt, bit-of-flag,
 use Rattle.scan.specs.Number.{BigEndian}
 use Rattle.scan.proofs.NumberLaws.{big-endian-number, big-endian-below}
 use Rattle.put.proofs.PutLaws.{placed-behind, placed-long}
-use Rattle.outline.specs.Row.{hasChecksum, frontOf, Field, rowAt}
-
--- a checksum whose first half is not zero
-pub checksum-high : (b : Block) → (b .«checksum_high» ≡ 0 → ⊥) → true ≡ hasChecksum b
-checksum-high b h = rw (ne-eqb (b .«checksum_high») 0 h)
-
--- one whose first half is zero
-pub checksum-low : (b : Block) → b .«checksum_high» ≡ 0 → not (eqb (b .«checksum_low») 0) ≡ hasChecksum b
-checksum-low b h = rw h
+use Rattle.outline.specs.Row.{frontOf, Field, rowAt}
 
 -- the row of a block
-pub row-made : (r : Record) (checksum : Bool) (inner : ℕ) → checksum ≡ hasChecksum (r .block) → inner ≡ innerNumber (r .inner)
+pub row-made : (r : Record) (compressed checksum : Bool) (inner : ℕ) → compressed ≡ isCompressed (r .block .compression)
+    → checksum ≡ hasChecksum (r .block .«checksum_high») (r .block .«checksum_low») → inner ≡ innerNumber (r .inner)
     → record {
       depth = r .depth;
       streamed = eqb (r .block .flags % 2) 1;
-      compressed = not (eqb (r .block .compression) 0);
+      compressed = compressed;
       checksum = checksum;
       inner = inner;
       ordinal = r .block .ordinal;
@@ -53,7 +46,7 @@ pub row-made : (r : Record) (checksum : Bool) (inner : ℕ) → checksum ≡ has
       used = r .block .used;
     } ≡ rowOf r
 unfolding rowOf
-row-made r checksum inner e f = rw (e, f)
+row-made r compressed checksum inner d e f = rw (d, e, f)
 
 -- two numbers in bytes, one behind the other, are one number in bytes
 to-bytes-append : (a b x y : ℕ) → toBytes (a + b) (x % 256 ^ a * 256 ^ b + y % 256 ^ b) ≡ toBytes a x ++ toBytes b y

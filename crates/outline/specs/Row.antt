@@ -1,19 +1,14 @@
 -- Parts of a row, and the rows in bytes.
 use Prim.Native.Nat.{ℕ, zero, suc, _+_, _*_, _%_, _^_, _<_}
 use mathlib.Core.Path.{_≡_}
-use mathlib.Core.Bool.{Bool, true, false, _&&_, not}
+use mathlib.Core.Bool.{true, false}
 use mathlib.Core.List.{List, [], _∷_}
 use mathlib.Core.Option.{Option, none, some}
-use lib.Dec.{eqb, leb}
+use lib.Dec.{leb}
 use lib.ListN.{length, take, drop}
-use Rattle.format.specs.declared.block.Block.{Block}
 use Rattle.format.specs.declared.row.Row.{Row}
 use Rattle.format.specs.Bytes.{Bytes, bit, number}
 use Rattle.format.specs.Outline.{rowBytes, decodeRow}
-
--- whether a block's checksum is not all zeros
-abbrev pub hasChecksum : Block → Bool
-hasChecksum b = not (eqb (b .«checksum_high») 0 && eqb (b .«checksum_low») 0)
 
 -- the first byte: depth 3 bits, streamed 1, compressed 1, checksum 1, inner state 2
 abbrev pub stateOf : Row → ℕ

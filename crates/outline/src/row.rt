@@ -6,11 +6,11 @@ ghost use Rattle.format.specs.Answer.{rowAnswer};
 ghost use Rattle.format.specs.Lent.{placed};
 ghost use Rattle.format.specs.Outcome.{accepted};
 ghost use Rattle.format.specs.Outline.{encodeRow, decodeRow, rowOf};
-ghost use Rattle.outline.specs.Row.{hasChecksum, stateOf, frontOf, Field, rowAt};
+ghost use Rattle.outline.specs.Row.{stateOf, frontOf, Field, rowAt};
 use fields::bit;
 use fields::inner_number;
 use format::answer::RowAnswer;
-use format::block::Block;
+use format::block;
 use format::block::Record;
 use format::offset::Offset;
 use format::offset::OutermostOffset;
@@ -27,8 +27,8 @@ pub fn row_of(r: Record) -> Row
     Row {
         depth: r.depth,
         streamed: b.flags % 2 == 1,
-        compressed: b.compression != 0,
-        checksum: has_checksum(b),
+        compressed: block::is_compressed(b.compression as u64),
+        checksum: block::has_checksum(b.checksum_high, b.checksum_low),
         inner: inner_number(inner),
         ordinal: b.ordinal,
         header_size: b.header_size,
@@ -36,16 +36,6 @@ pub fn row_of(r: Record) -> Row
         allocated: b.allocated,
         used: b.used,
     }
-}
-
-// Whether a block's checksum is not all zeros.
-fn has_checksum(b: Block) -> bool
-    ensures { λ r. ⌜ r ≡ hasChecksum b ⌝ }
-{
-    if b.checksum_high != 0 {
-        return true;
-    }
-    b.checksum_low != 0
 }
 
 // Puts a row at an offset. Where it does not fit, nothing changes.

@@ -5,4 +5,4 @@ use Rattle.file.proofs.block.is_data_size.Statement.{statement}
 use Rattle.file.proofs.block.is_data_size.Tie as tie
 
 pub is-data-size-spec : {M : Type 1} → statement M
-is-data-size-spec = tie.close (tie.spec (λ c. search (compressed-size, needs)) (λ c. search (plain-size, needs)))
+is-data-size-spec = tie.close (tie.spec (λ c κs. search needs) (λ c. search (compressed-size, needs)) (λ c. search (plain-size, needs)))

@@ -8,6 +8,8 @@ pub content-of-spec : {M : Type 1} → statement M
 content-of-spec =
     tie.close
     (tie.spec
+    (λ c. search needs)
+    (λ c κs. search needs)
     (λ c. search (content-compressed, needs))
     (λ c. search needs)
     (λ c κs. search needs)
