@@ -1,9 +1,10 @@
 //! Blocks: the header of one, the chain of them with the space between, and
 //! the tail after the last.
 
-use crate::index::INDEX_LINE;
+use crate::index_form::INDEX_LINE;
 use crate::offset::InFile;
 use crate::refusal::*;
+use crate::zeros::only_zeros;
 
 /// The four bytes with which every block begins.
 const MARK: [u8; 4] = [0xD3, 0x42, 0x4C, 0x4B];
@@ -156,11 +157,6 @@ fn what_follows(file: &[u8], block: &Block) -> Result<Follower, Refusal> {
         None if only_zeros(&file[end..]) => Ok(Follower::Tail(Tail::NoIndex)),
         None => Err(Refusal::at(STRAY_TAIL, end)),
     }
-}
-
-/// Whether there is nothing but zero bytes, or nothing at all.
-pub(crate) fn only_zeros(bytes: &[u8]) -> bool {
-    bytes.iter().all(|&byte| byte == 0)
 }
 
 /// Reads the block whose mark stands at `start` (11, 12, 11, 13, 14, 15).

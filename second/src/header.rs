@@ -1,6 +1,6 @@
 //! The header line and the comments behind it.
 
-use crate::index::INDEX_LINE;
+use crate::index_form::INDEX_LINE;
 use crate::line::{decimal, line_at, LineEnd};
 use crate::refusal::*;
 
