@@ -1,11 +1,12 @@
 -- The chain of blocks: one law for each way out of a link and of the walk. The blocks so far, in front of the chain from here on, are the chain.
 use Prim.Native.Nat.{ℕ, zero, suc, _+_, _-_, _^_, _≤_, _<_}
+use native.Mathlib.Numerals.{add-one}
 use native.Mathlib.Omega.{arith}
 use mathlib.Core.Path.{_≡_, refl, sym, ap, subst, _∙_}
 use mathlib.Core.Bool.{Bool, true, false}
 use mathlib.Core.List.{List, [], _∷_, _++_, append-nil, map-append}
-use lib.ListN.{length, take, drop, set, replicate, length-append, length-drop, length-map, drop-of-length-le}
-use lib.Seq.{set-at, append-snoc, drop-drop}
+use lib.ListN.{length, take, drop, getD, set, length-set, length-append, length-drop, length-map, drop-of-length-le}
+use lib.Seq.{set-at, append-snoc, drop-drop, drop-cons}
 use mir.Syntax.{w64}
 use mir.Val.{Fits}
 use Rattle.format.specs.declared.block.Block.{Block}
@@ -16,7 +17,7 @@ use Rattle.format.specs.Comments.{indexLine}
 use Rattle.format.specs.Tree.{mark, freeSpace}
 use Rattle.format.specs.Block.{flags, allocatedSize, isStreamed, contentStart, block}
 use Rattle.format.specs.Chain.{Chain, mostBlocks, ended, linked, follows, tail, linkedAt, chain}
-use Rattle.format.specs.File.{offsets, table}
+use Rattle.format.specs.File.{offsets, tableOf}
 use Rattle.format.proofs.ByteLaws.{begins-true}
 use Rattle.format.proofs.LocalLaws.{free-space-mark, free-space-stops}
 use Rattle.format.proofs.BlockLaws.{Starts}
@@ -169,35 +170,39 @@ in-front-next : (bs : List Block) (b : Block) (o : Outcome Chain) → inFront bs
 in-front-next bs b (accepted c) = rw (append-snoc bs b (c .blocks))
 in-front-next bs b (refused r) = refl
 
--- i blocks are walked, out is the table of where they begin, and o is the chain after them
-pub record Walking (s out : Bytes) (first i : ℕ) (o : Outcome Chain) : Type 0 where
+-- i blocks are walked, where they begin is kept at the front of a table, and o is the chain after them
+pub record Walking (s : Bytes) (before out : List ℕ) (first i : ℕ) (o : Outcome Chain) : Type 0 where
   pub blocks : List Block
   pub is : onward s 0 first ≡ inFront blocks o
   pub count : length blocks ≡ i
   pub few : i ≤ mostBlocks
-  pub kept : out ≡ table blocks
+  pub kept : out ≡ tableOf before blocks
+  pub room : length before ≡ mostBlocks
+  pub size : length out ≡ length before
 
 -- no block is walked
-pub walk-begins : (s out : Bytes) (first : ℕ) → out ≡ replicate mostBlocks 0 → Walking s out first 0 (onward s 0 first)
-walk-begins s out first zeros =
-    record { blocks = []; is = in-front-none (onward s 0 first); count = refl; few = omega arith; kept = zeros }
+pub walk-begins : (s : Bytes) (before : List ℕ) (first : ℕ) → length before ≡ mostBlocks → Walking s before before first 0 (onward s 0 first)
+walk-begins s before first room =
+    record { blocks = []; is = in-front-none (onward s 0 first); count = refl; few = omega arith; kept = refl; room = room; size = refl }
 
 -- where block b begins is kept after the others
-table-next : (bs : List Block) (b : Block) → length bs < mostBlocks → set (table bs) (length bs) (b .at .0) ≡ table (bs ++ (b ∷ []))
-table-next bs b h =
-    let more : mostBlocks - length bs ≡ suc (mostBlocks - (length bs + 1)) = omega arith in
+table-next : (before : List ℕ) (bs : List Block) (b : Block) → length bs < length before
+    → set (tableOf before bs) (length bs) (b .at .0) ≡ tableOf before (bs ++ (b ∷ []))
+table-next before bs b h =
     let size : length (offsets bs) ≡ length bs = length-map bs (λ (a : Block). a .at .0) in
-    let put = set-at (offsets bs) 0 (replicate (mostBlocks - (length bs + 1)) 0) (b .at .0) (length bs) size in
-    rw (more, put, length-append, map-append, append-snoc)
+    ap (λ (l : List ℕ). set (offsets bs ++ l) (length bs) (b .at .0)) (drop-cons before (length bs) 0 h)
+    ∙ (set-at (offsets bs) (getD before (length bs) 0) (drop (suc (length bs)) before) (b .at .0) (length bs) size
+    ∙ rw (length-append, add-one, map-append, append-snoc))
 
 -- where no block stands behind them, they are all
-walk-ends : (s out : Bytes) (first i : ℕ) (o : Outcome Chain) (w : Walking s out first i o) (t : Bytes) → o ≡ accepted (ended t)
-    → Chained (onward s 0 first) out i (record { blocks = w .blocks; tail = t })
-walk-ends s out first i o w t e = record {
+walk-ends : (s : Bytes) (before out : List ℕ) (first i : ℕ) (o : Outcome Chain) (w : Walking s before out first i o) (t : Bytes) → o ≡ accepted (ended t)
+    → Chained (onward s 0 first) before out i (record { blocks = w .blocks; tail = t })
+walk-ends s before out first i o w t e = record {
   is = w .is ∙ ap (inFront (w .blocks)) e ∙ rw (append-nil (w .blocks));
   count = w .count;
   few = w .few;
   kept = w .kept;
+  room = w .room;
 }
 
 module _ (s : Bytes) (i n m : ℕ) (r : LinkStep) (link : LinkIs s i n m r) where
@@ -230,40 +235,42 @@ module _ (s : Bytes) (i n m : ℕ) (r : LinkStep) (link : LinkIs s i n m r) wher
     pub block-fits : length s < 2 ^ 64 → Fits w64 (m + e)
     block-fits q = omega (arith, block-inside)
 
-module _ (s out : Bytes) (first i n m : ℕ) (w : Walking s out first i (onward s i n)) (r : LinkStep) (link : LinkIs s i n m r) where
+module _ (s : Bytes) (before out : List ℕ) (first i n m : ℕ) (w : Walking s before out first i (onward s i n)) (r : LinkStep) (link : LinkIs s i n m r) where
   -- the chain is refused here
   pub walk-refused : (x : Refusal) → r ≡ LinkStep·is.Refused x → onward s 0 first ≡ refused x
   walk-refused x h = w .is ∙ ap (inFront (w .blocks)) (rw h at link)
 
   -- zeros only stand behind the blocks
-  pub walk-zeros : r ≡ LinkStep·is.Zeros → WalkedAlone (onward s 0 first) out i
+  pub walk-zeros : r ≡ LinkStep·is.Zeros → WalkedAlone (onward s 0 first) before out i
   walk-zeros h =
       let t : TailBegins s i n true = rw h at link in
-      record { c = _; chained = walk-ends s out first i _ w (drop n s) (t .is); zeros = t .tail }
+      record { c = _; chained = walk-ends s before out first i _ w (drop n s) (t .is); zeros = t .tail }
 
   -- what begins like an index stands behind them
-  pub walk-index : r ≡ LinkStep·is.Index → n ≤ length s → WalkedTo s (onward s 0 first) out i n
+  pub walk-index : r ≡ LinkStep·is.Index → n ≤ length s → WalkedTo s (onward s 0 first) before out i n
   walk-index h inside =
       let t : TailBegins s i n false = rw h at link in
-      record { c = _; chained = walk-ends s out first i _ w (drop n s) (t .is); zeros = t .tail; tail = refl; inside = inside }
+      record { c = _; chained = walk-ends s before out first i _ w (drop n s) (t .is); zeros = t .tail; tail = refl; inside = inside }
 
-  module _ (out' : Bytes) (keep : out' ≡ set out i m) where
+  module _ (out' : List ℕ) (keep : out' ≡ set out i m) where
     -- one block more is walked
-    walk-next : (o : Outcome Chain) → BlockBegins s i n m o → Walking s out' first (i + 1) o
+    walk-next : (o : Outcome Chain) → BlockBegins s i n m o → Walking s before out' first (i + 1) o
     walk-next o b = record {
       blocks = w .blocks ++ (b .first ∷ []);
       is = w .is ∙ ap (inFront (w .blocks)) (b .is) ∙ in-front-next (w .blocks) (b .first) o;
       count = rw (length-append, w .count);
       few = omega (arith, b .few);
-      kept = rw (keep, w .kept, ← w .count, ← b .at) (table-next (w .blocks) (b .first) (omega (arith, w .count, b .few)));
+      kept = rw (keep, w .kept, ← w .count, ← b .at) (table-next before (w .blocks) (b .first) (omega (arith, w .count, w .room, b .few)));
+      room = w .room;
+      size = rw (keep, length-set) (w .size);
     }
 
     -- a streamed block is the last
-    pub walk-streamed : r ≡ LinkStep·is.Streamed → WalkedAlone (onward s 0 first) out' (i + 1)
+    pub walk-streamed : r ≡ LinkStep·is.Streamed → WalkedAlone (onward s 0 first) before out' (i + 1)
     walk-streamed h =
         let next = walk-next (accepted (ended [])) (streamed-here s i n m r link h) in
-        record { c = _; chained = walk-ends s out' first (i + 1) _ next [] refl; zeros = refl }
+        record { c = _; chained = walk-ends s before out' first (i + 1) _ next [] refl; zeros = refl }
 
     -- after another the chain goes on
-    pub walk-block : (e : ℕ) → r ≡ LinkStep·is.Block e → Walking s out' first (i + 1) (onward s (i + 1) (m + e))
+    pub walk-block : (e : ℕ) → r ≡ LinkStep·is.Block e → Walking s before out' first (i + 1) (onward s (i + 1) (m + e))
     walk-block e h = walk-next (onward s (i + 1) (m + e)) (block-here s i n m r link e h .0)

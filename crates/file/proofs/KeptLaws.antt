@@ -5,7 +5,7 @@ use mathlib.Core.Path.{_≡_, refl, sym, ap, _∙_}
 use mathlib.Core.Bool.{Bool, true, false}
 use mathlib.Core.List.{List, [], _∷_}
 use mathlib.Core.Option.{none, some}
-use lib.ListN.{length, take, drop, getD, getElem?, replicate, length-take, length-drop, length-map}
+use lib.ListN.{length, take, drop, getD, getElem?, length-take, length-drop, length-map}
 use lib.Seq.{drop-drop, getD-take, take-at}
 use Rattle.format.specs.declared.answer.BlockAnswer.the-variants as BlockAnswer·is
 use Rattle.format.specs.declared.block.Block.{Block}
@@ -15,7 +15,7 @@ use Rattle.format.specs.Outcome.{Outcome, accepted, refused, _>>=_}
 use Rattle.format.specs.Tree.{freeSpace}
 use Rattle.format.specs.Block.{isStreamed, block}
 use Rattle.format.specs.Chain.{Chain, mostBlocks, extent, ended, linked, follows, tail, linkedAt, chain}
-use Rattle.format.specs.File.{offsets, table, file, blockAt}
+use Rattle.format.specs.File.{offsets, tableOf, file, blockAt}
 use Rattle.format.specs.Answer.{blockAnswer}
 use Rattle.format.proofs.OutcomeLaws.{Accepts, accepted-holds, accepts-bind, accepts-need, choice}
 use Rattle.format.proofs.BlockLaws.{Starts, block-starts}
@@ -107,8 +107,8 @@ no-element (b ∷ bs) zero h = absurd (omega arith)
 no-element (b ∷ bs) (suc j) h = no-element bs j (omega arith)
 
 -- a table begins with the offsets of its blocks
-pub table-kept : (k : ℕ) (out : Bytes) (bs : List Block) → length bs ≡ k → out ≡ table bs → take k out ≡ offsets bs
-table-kept k out bs n h = rw h (take-at (offsets bs) (replicate (mostBlocks - length bs) 0) k (length-map bs (λ (b : Block). b .at .0) ∙ n))
+pub table-kept : (k : ℕ) (before out : List ℕ) (bs : List Block) → length bs ≡ k → out ≡ tableOf before bs → take k out ≡ offsets bs
+table-kept k before out bs n h = rw h (take-at (offsets bs) (drop (length bs) before) k (length-map bs (λ (b : Block). b .at .0) ∙ n))
 
 -- as many offsets are kept as there are blocks
 pub enough-kept : (out : Bytes) (k : ℕ) (bs : List Block) → length bs ≡ k → take k out ≡ offsets bs → k ≤ length out

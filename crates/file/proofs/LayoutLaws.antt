@@ -2,6 +2,7 @@
 use Prim.Native.Nat.{ℕ, _-_, _≤_, _<_}
 use native.Mathlib.Omega.{arith}
 use mathlib.Core.Path.{_≡_, refl, sym, ap, _∙_}
+use mathlib.Core.List.{List}
 use mathlib.Core.Bool.{Bool, true, false, not}
 use lib.ListN.{length, take, drop, replicate, drop-of-length-le, length-drop}
 use lib.Seq.{drop-cons}
@@ -25,7 +26,7 @@ use Rattle.format.specs.Comments.{comments}
 use Rattle.format.specs.Tree.{tree, mark}
 use Rattle.format.specs.Chain.{Chain, mostBlocks, chain}
 use Rattle.format.specs.Index.{indexed, judged, verdict}
-use Rattle.format.specs.File.{File, mostBytes, firstBlock, goesOn, offsets, table, file, offsetTable, layoutOf, layout, blockAt}
+use Rattle.format.specs.File.{File, mostBytes, firstBlock, goesOn, offsets, tableOf, file, offsetTable, layoutOf, layout, blockAt}
 use Rattle.format.specs.Answer.{layoutAnswer, blockAnswer}
 use Rattle.format.proofs.ReadLaws.{header-bounds, comments-bounds, first-block-bounds}
 use Rattle.front.specs.declared.step.HeaderStep.{HeaderStep}
@@ -43,23 +44,23 @@ use Rattle.file.proofs.PartLaws.{part-all}
 use Rattle.file.proofs.KeptLaws.{table-kept, enough-kept}
 
 -- a refused file is answered by its refusal
-refused-judged : (o : Outcome File) (out : Bytes) (r : Refusal) → o ≡ refused r → Judged o out (LayoutAnswer·is.Refused r)
+refused-judged : (o : Outcome File) (before out : List ℕ) (r : Refusal) → o ≡ refused r → Judged o before out (LayoutAnswer·is.Refused r)
 unfolding layoutAnswer
-refused-judged o out r h = record { is = rw h; kept = λ f e. cc }
+refused-judged o before out r h = record { is = rw h; kept = λ f e. cc }
 
 -- an accepted file is answered by its layout, where out is the table of its blocks
-accepted-judged : (o : Outcome File) (out : Bytes) (l : Layout) (f : File) → o ≡ accepted f → l ≡ layoutOf f → out ≡ table (f .blocks)
-    → Judged o out (LayoutAnswer·is.Accepted l)
+accepted-judged : (o : Outcome File) (before out : List ℕ) (l : Layout) (f : File) → o ≡ accepted f → l ≡ layoutOf f → out ≡ tableOf before (f .blocks)
+    → Judged o before out (LayoutAnswer·is.Accepted l)
 unfolding layoutAnswer
-accepted-judged o out l f h e k = record { is = rw (h, e); kept = λ g q. let same : f ≡ g = cc in rw same at k }
+accepted-judged o before out l f h e k = record { is = rw (h, e); kept = λ g q. let same : f ≡ g = cc in rw same at k }
 
-module _ {A : Type 0} (o : Outcome File) (p : Outcome A) (then : A → Outcome File) (step : o ≡ _>>=_ p then) (out : Bytes) where
+module _ {A : Type 0} (o : Outcome File) (p : Outcome A) (then : A → Outcome File) (step : o ≡ _>>=_ p then) (before out : List ℕ) where
   -- a step that refuses
-  step-refused : (r : Refusal) → p ≡ refused r → Judged o out (LayoutAnswer·is.Refused r)
-  step-refused r h = refused-judged o out r (rw (step, h))
+  step-refused : (r : Refusal) → p ≡ refused r → Judged o before out (LayoutAnswer·is.Refused r)
+  step-refused r h = refused-judged o before out r (rw (step, h))
 
   -- a step that accepts hands on to what comes after it
-  step-accepted : (a : A) → p ≡ accepted a → (x : LayoutAnswer) → Judged (then a) out x → Judged o out x
+  step-accepted : (a : A) → p ≡ accepted a → (x : LayoutAnswer) → Judged (then a) before out x → Judged o before out x
   step-accepted a h x j = rw (step, h) j
 
 -- a file that is short enough is read from its header on
@@ -68,21 +69,21 @@ unfolding file behindHeader behindComments behindTree withBlocks
 file-begins s h = rw (le-leb (length s) mostBytes h, file)
 
 -- a file that is too long is refused
-pub file-long : (s : Bytes) → mostBytes < length s → (r : Refusal) → r ≡ refusal 1 0 → (out : Bytes) → Judged (file s) out (LayoutAnswer·is.Refused r)
+pub file-long : (s : Bytes) → mostBytes < length s → (r : Refusal) → r ≡ refusal 1 0 → (before out : List ℕ) → Judged (file s) before out (LayoutAnswer·is.Refused r)
 unfolding file
-file-long s h r e out = refused-judged (file s) out r (rw (lt-leb (length s) mostBytes h, file, e))
+file-long s h r e before out = refused-judged (file s) before out r (rw (lt-leb (length s) mostBytes h, file, e))
 
 module _ (s : Bytes) (x : HeaderStep) (read : headerOf x ≡ header s) where
-  module _ (few : length s ≤ mostBytes) (out : Bytes) where
+  module _ (few : length s ≤ mostBytes) (before out : List ℕ) where
     -- the header is refused
-    pub header-refused : (r : Refusal) → x ≡ HeaderStep·is.Refused r → Judged (file s) out (LayoutAnswer·is.Refused r)
+    pub header-refused : (r : Refusal) → x ≡ HeaderStep·is.Refused r → Judged (file s) before out (LayoutAnswer·is.Refused r)
     unfolding headerOf
-    header-refused r e = step-refused (file s) (header s) (behindHeader s) (file-begins s few) out r (sym read ∙ ap headerOf e)
+    header-refused r e = step-refused (file s) (header s) (behindHeader s) (file-begins s few) before out r (sym read ∙ ap headerOf e)
 
     -- the header is read
-    pub header-read : (h : Header) → x ≡ HeaderStep·is.Read h → (a : LayoutAnswer) → Judged (behindHeader s h) out a → Judged (file s) out a
+    pub header-read : (h : Header) → x ≡ HeaderStep·is.Read h → (a : LayoutAnswer) → Judged (behindHeader s h) before out a → Judged (file s) before out a
     unfolding headerOf
-    header-read h e = step-accepted (file s) (header s) (behindHeader s) (file-begins s few) out h (sym read ∙ ap headerOf e)
+    header-read h e = step-accepted (file s) (header s) (behindHeader s) (file-begins s few) before out h (sym read ∙ ap headerOf e)
 
   -- it ends inside
   pub header-inside : (h : Header) → x ≡ HeaderStep·is.Read h → h .end .0 ≤ length s
@@ -91,15 +92,15 @@ module _ (s : Bytes) (x : HeaderStep) (read : headerOf x ≡ header s) where
 
 module _ (s : Bytes) (h : Header) (x : EndStep) (read : endOf x ≡ comments (h .end .0) (lines (drop (h .end .0) s))) where
   -- the comments are refused
-  pub comments-refused : (out : Bytes) (r : Refusal) → x ≡ EndStep·is.Refused r → Judged (behindHeader s h) out (LayoutAnswer·is.Refused r)
+  pub comments-refused : (before out : List ℕ) (r : Refusal) → x ≡ EndStep·is.Refused r → Judged (behindHeader s h) before out (LayoutAnswer·is.Refused r)
   unfolding endOf behindHeader
-  comments-refused out r e = step-refused (behindHeader s h) _ (behindComments s h) refl out r (sym read ∙ ap endOf e)
+  comments-refused before out r e = step-refused (behindHeader s h) _ (behindComments s h) refl before out r (sym read ∙ ap endOf e)
 
   module _ (n : ℕ) (e : x ≡ EndStep·is.At n) where
     -- the comments are read
-    pub comments-read : (out : Bytes) (a : LayoutAnswer) → Judged (behindComments s h n) out a → Judged (behindHeader s h) out a
+    pub comments-read : (before out : List ℕ) (a : LayoutAnswer) → Judged (behindComments s h n) before out a → Judged (behindHeader s h) before out a
     unfolding endOf behindHeader
-    comments-read out = step-accepted (behindHeader s h) _ (behindComments s h) refl out n (sym read ∙ ap endOf e)
+    comments-read before out = step-accepted (behindHeader s h) _ (behindComments s h) refl before out n (sym read ∙ ap endOf e)
 
     -- they end inside
     pub comments-inside : h .end .0 ≤ length s → n ≤ length s
@@ -109,15 +110,15 @@ module _ (s : Bytes) (h : Header) (x : EndStep) (read : endOf x ≡ comments (h 
 
 module _ (s : Bytes) (h : Header) (n : ℕ) (x : TreeStep) (read : treeOf x ≡ tree n s) where
   -- the tree is refused
-  pub tree-refused : (out : Bytes) (r : Refusal) → x ≡ TreeStep·is.Refused r → Judged (behindComments s h n) out (LayoutAnswer·is.Refused r)
+  pub tree-refused : (before out : List ℕ) (r : Refusal) → x ≡ TreeStep·is.Refused r → Judged (behindComments s h n) before out (LayoutAnswer·is.Refused r)
   unfolding treeOf behindComments
-  tree-refused out r e = step-refused (behindComments s h n) _ (behindTree s h n) refl out r (sym read ∙ ap treeOf e)
+  tree-refused before out r e = step-refused (behindComments s h n) _ (behindTree s h n) refl before out r (sym read ∙ ap treeOf e)
 
   module _ (t : Tree) (e : x ≡ TreeStep·is.Read t) where
     -- the tree is read
-    pub tree-read : (out : Bytes) (a : LayoutAnswer) → Judged (behindTree s h n t) out a → Judged (behindComments s h n) out a
+    pub tree-read : (before out : List ℕ) (a : LayoutAnswer) → Judged (behindTree s h n t) before out a → Judged (behindComments s h n) before out a
     unfolding treeOf behindComments
-    tree-read out = step-accepted (behindComments s h n) _ (behindTree s h n) refl out t (sym read ∙ ap treeOf e)
+    tree-read before out = step-accepted (behindComments s h n) _ (behindTree s h n) refl before out t (sym read ∙ ap treeOf e)
 
     -- the blocks begin inside
     pub tree-inside : n ≤ length s → firstBlock n t ≤ length s
@@ -127,23 +128,23 @@ module _ (s : Bytes) (h : Header) (n : ℕ) (x : TreeStep) (read : treeOf x ≡ 
 module _ (s : Bytes) (h : Header) (n : ℕ) (t : Tree) where
   module _ (x y m : Offset) (e : t ≡ Found x y m) where
     -- the blocks begin behind the tree's room
-    pub blocks-behind : (out : Bytes) (a : LayoutAnswer) → Judged (withBlocks s h n (Found x y m) (m .0)) out a → Judged (behindTree s h n t) out a
+    pub blocks-behind : (before out : List ℕ) (a : LayoutAnswer) → Judged (withBlocks s h n (Found x y m) (m .0)) before out a → Judged (behindTree s h n t) before out a
     unfolding behindTree goesOn firstBlock
-    blocks-behind out a j = rw e j
+    blocks-behind before out a j = rw e j
 
     -- the room ends inside
     pub room-inside : firstBlock n t ≤ length s → m .0 ≤ length s
     unfolding firstBlock
     room-inside q = rw e at q
 
-  module _ (e : t ≡ NoTree) (b : Bool) (goes : b ≡ goesOn NoTree (drop n s)) (out : Bytes) where
+  module _ (e : t ≡ NoTree) (b : Bool) (goes : b ≡ goesOn NoTree (drop n s)) (before out : List ℕ) where
     -- something else stands where no tree begins
-    pub blocks-none : not b ≡ true → (r : Refusal) → r ≡ refusal 7 n → Judged (behindTree s h n t) out (LayoutAnswer·is.Refused r)
+    pub blocks-none : not b ≡ true → (r : Refusal) → r ≡ refusal 7 n → Judged (behindTree s h n t) before out (LayoutAnswer·is.Refused r)
     unfolding behindTree
-    blocks-none q r i = refused-judged _ out r (rw (e, behindTree, sym goes ∙ not-true b q, i))
+    blocks-none q r i = refused-judged _ before out r (rw (e, behindTree, sym goes ∙ not-true b q, i))
 
     -- the blocks begin there, or the file ends
-    pub blocks-here : not b ≡ false → (a : LayoutAnswer) → Judged (withBlocks s h n t n) out a → Judged (behindTree s h n t) out a
+    pub blocks-here : not b ≡ false → (a : LayoutAnswer) → Judged (withBlocks s h n t n) before out a → Judged (behindTree s h n t) before out a
     unfolding behindTree firstBlock
     blocks-here q a j = rw (e, behindTree, sym goes ∙ not-false b q) (rw e at j)
 
@@ -162,22 +163,22 @@ pub goes-mark : (s : Bytes) (at : ℕ) → at < length s → (b : Bool) → b �
 unfolding goesOn
 goes-mark s at h b e = rw (drop-cons s at 0 h) (rw (drop-cons s at 0 h) at e)
 
-module _ (s : Bytes) (h : Header) (n : ℕ) (t : Tree) (first : ℕ) (out : Bytes) where
+module _ (s : Bytes) (h : Header) (n : ℕ) (t : Tree) (first : ℕ) (before out : List ℕ) where
   -- the chain c was walked, and v is the verdict on its tail
-  chain-judged : (c : Chain) (k : ℕ) → Chained (chain mostBlocks 0 first (drop first s)) out k c → (v : Verdict) → v ≡ verdict (offsets (c .blocks)) (c .tail)
-      → (l : Layout) → l ≡ layoutWith h n t k v → Judged (withBlocks s h n t first) out (LayoutAnswer·is.Accepted l)
+  chain-judged : (c : Chain) (k : ℕ) → Chained (chain mostBlocks 0 first (drop first s)) before out k c → (v : Verdict) → v ≡ verdict (offsets (c .blocks)) (c .tail)
+      → (l : Layout) → l ≡ layoutWith h n t k v → Judged (withBlocks s h n t first) before out (LayoutAnswer·is.Accepted l)
   unfolding withBlocks layoutOf
-  chain-judged c k w v q l e = accepted-judged _ out l (fileWith h n t c) (rw (w .is, withBlocks)) (rw (e, w .count, q)) (w .kept)
+  chain-judged c k w v q l e = accepted-judged _ before out l (fileWith h n t c) (rw (w .is, withBlocks)) (rw (e, w .count, q)) (w .kept)
 
-  module _ (x : ChainStep) (walked : Walked s (chain mostBlocks 0 first (drop first s)) out x) where
+  module _ (x : ChainStep) (walked : Walked s (chain mostBlocks 0 first (drop first s)) before out x) where
     -- the chain is refused
-    pub walk-refused : (r : Refusal) → x ≡ ChainStep·is.Refused r → Judged (withBlocks s h n t first) out (LayoutAnswer·is.Refused r)
+    pub walk-refused : (r : Refusal) → x ≡ ChainStep·is.Refused r → Judged (withBlocks s h n t first) before out (LayoutAnswer·is.Refused r)
     unfolding withBlocks
-    walk-refused r e = step-refused (withBlocks s h n t first) (chain mostBlocks 0 first (drop first s)) _ refl out r (rw e at walked)
+    walk-refused r e = step-refused (withBlocks s h n t first) (chain mostBlocks 0 first (drop first s)) _ refl before out r (rw e at walked)
 
     module _ (k : ℕ) (e : x ≡ ChainStep·is.Walked k) where
       -- the walk ended at zeros, or at the end
-      walked-alone : WalkedAlone (chain mostBlocks 0 first (drop first s)) out k
+      walked-alone : WalkedAlone (chain mostBlocks 0 first (drop first s)) before out k
       walked-alone = rw e at walked
 
       -- few blocks were walked
@@ -185,13 +186,13 @@ module _ (s : Bytes) (h : Header) (n : ℕ) (t : Tree) (first : ℕ) (out : Byte
       alone-few = walked-alone .chained .few
 
       -- no index stands behind the blocks
-      pub alone-judged : (l : Layout) → l ≡ layoutWith h n t k Absent → Judged (withBlocks s h n t first) out (LayoutAnswer·is.Accepted l)
+      pub alone-judged : (l : Layout) → l ≡ layoutWith h n t k Absent → Judged (withBlocks s h n t first) before out (LayoutAnswer·is.Accepted l)
       unfolding verdict
       alone-judged = let w = walked-alone in chain-judged (w .c) k (w .chained) Absent (rw (verdict, w .zeros))
 
     module _ (k m : ℕ) (e : x ≡ ChainStep·is.Indexed k m) where
       -- the walk ended at what begins like an index
-      walked-to : WalkedTo s (chain mostBlocks 0 first (drop first s)) out k m
+      walked-to : WalkedTo s (chain mostBlocks 0 first (drop first s)) before out k m
       walked-to = rw e at walked
 
       -- few blocks were walked
@@ -200,7 +201,7 @@ module _ (s : Bytes) (h : Header) (n : ℕ) (t : Tree) (first : ℕ) (out : Byte
 
       -- where they begin is kept
       to-begin : take k out ≡ offsets (walked-to .c .blocks)
-      to-begin = table-kept k out (walked-to .c .blocks) (walked-to .chained .count) (walked-to .chained .kept)
+      to-begin = table-kept k before out (walked-to .c .blocks) (walked-to .chained .count) (walked-to .chained .kept)
 
       -- for all of them
       pub to-kept : k ≤ length out
@@ -212,13 +213,13 @@ module _ (s : Bytes) (h : Header) (n : ℕ) (t : Tree) (first : ℕ) (out : Byte
 
       -- the tail is judged
       pub to-judged : (v : Verdict) → v ≡ judged (take k out) (indexed (lines (take (length s - m) (drop m s))))
-          → (l : Layout) → l ≡ layoutWith h n t k v → Judged (withBlocks s h n t first) out (LayoutAnswer·is.Accepted l)
+          → (l : Layout) → l ≡ layoutWith h n t k v → Judged (withBlocks s h n t first) before out (LayoutAnswer·is.Accepted l)
       unfolding verdict
       to-judged v q =
           let w = walked-to in
           chain-judged (w .c) k (w .chained) v (q ∙ rw (part-all s m, verdict, w .zeros, to-begin, w .tail))
 
-module _ (s out : Bytes) (a : LayoutAnswer) (judged : Judged (file s) out a) where
+module _ (s : Bytes) (before out : List ℕ) (a : LayoutAnswer) (judged : Judged (file s) before out a) where
   -- the answer is the layout
   pub layout-judged : layoutAnswer a ≡ layout s
   unfolding layout
@@ -245,31 +246,31 @@ module _ (s : Bytes) (a : LayoutAnswer) (judged : layoutAnswer a ≡ layout s) w
   block-refused j r e = rw (file-refused r e, blockAt)
 
   -- the blocks of an accepted file begin where it is kept
-  pub blocks-kept : (out : Bytes) → out ≡ offsetTable (file s) → (l : Layout) → a ≡ LayoutAnswer·is.Accepted l → Kept s out (l .blocks)
+  pub blocks-kept : (before out : List ℕ) → out ≡ offsetTable before (file s) → (l : Layout) → a ≡ LayoutAnswer·is.Accepted l → Kept s out (l .blocks)
   unfolding layoutAnswer layoutOf layout offsetTable
-  blocks-kept out kept l e = go (file s) refl
+  blocks-kept before out kept l e = go (file s) refl
     where
       go : (o : Outcome File) → file s ≡ o → Kept s out (l .blocks)
       go (accepted f) h =
           let same : accepted l ≡ accepted (layoutOf f) = sym (ap layoutAnswer e) ∙ rw (layout, h) at judged in
           let count : length (f .blocks) ≡ l .blocks = cc in
-          record { f = f; is = h; count = count; begin = table-kept (l .blocks) out (f .blocks) count (rw h at kept) }
+          record { f = f; is = h; count = count; begin = table-kept (l .blocks) before out (f .blocks) count (rw h at kept) }
       go (refused q) h =
           let clash : accepted l ≡ refused q = sym (ap layoutAnswer e) ∙ rw (layout, h) at judged in
           let z : _≡_ {A = ℕ} 0 1 = cc in
           absurd (omega arith)
 
-module _ (s out : Bytes) (a : LayoutAnswer) (judged : Judged (file s) out a) where
+module _ (s : Bytes) (before out : List ℕ) (a : LayoutAnswer) (judged : Judged (file s) before out a) where
   -- the answer that was judged is told again
   pub layout-again : (x : LayoutAnswer) → a ≡ x → layoutAnswer x ≡ layout s
-  layout-again x e = sym (ap layoutAnswer e) ∙ layout-judged s out a judged
+  layout-again x e = sym (ap layoutAnswer e) ∙ layout-judged s before out a judged
 
   -- the table of an accepted file is the one that was kept
-  pub table-accepted : (l : Layout) → a ≡ LayoutAnswer·is.Accepted l → out ≡ offsetTable (file s)
+  pub table-accepted : (l : Layout) → a ≡ LayoutAnswer·is.Accepted l → out ≡ offsetTable before (file s)
   unfolding layoutAnswer offsetTable
   table-accepted l e = go (file s) refl
     where
-      go : (o : Outcome File) → file s ≡ o → out ≡ offsetTable o
+      go : (o : Outcome File) → file s ≡ o → out ≡ offsetTable before o
       go (accepted f) h = judged .kept f h
       go (refused q) h =
           let clash : accepted l ≡ refused q = sym (ap layoutAnswer e) ∙ rw h at (judged .is) in
@@ -277,6 +278,6 @@ module _ (s out : Bytes) (a : LayoutAnswer) (judged : Judged (file s) out a) whe
           absurd (omega arith)
 
   -- that of a refused one has only zeros
-  pub table-refused : (r : Refusal) → a ≡ LayoutAnswer·is.Refused r → replicate mostBlocks 0 ≡ offsetTable (file s)
+  pub table-refused : (r : Refusal) → a ≡ LayoutAnswer·is.Refused r → replicate mostBlocks 0 ≡ offsetTable before (file s)
   unfolding offsetTable
-  table-refused r e = rw (file-refused s a (layout-judged s out a judged) r e)
+  table-refused r e = rw (file-refused s a (layout-judged s before out a judged) r e)

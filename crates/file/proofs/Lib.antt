@@ -1,6 +1,7 @@
 -- Laws that the proofs of the steps cite.
 pub mod PartLaws
 pub mod BlockLaws
+pub mod AgainLaws
 pub mod ChainLaws
 pub mod FewLaws
 pub mod KeptLaws

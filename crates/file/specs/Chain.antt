@@ -2,14 +2,14 @@
 use Prim.Native.Nat.{ℕ, _+_, _-_, _≤_, _<_}
 use mathlib.Core.Path.{_≡_}
 use mathlib.Core.Bool.{Bool, true, false}
-use mathlib.Core.List.{[]}
+use mathlib.Core.List.{List, []}
 use lib.ListN.{length, drop}
 use Rattle.format.specs.declared.block.Block.{Block}
 use Rattle.format.specs.Bytes.{Bytes, allZero}
 use Rattle.format.specs.Outcome.{Outcome, accepted, refused, _>>=_}
 use Rattle.format.specs.Tree.{freeSpace}
 use Rattle.format.specs.Chain.{Chain, mostBlocks, ended, linked, chain, follows as Chain·follows}
-use Rattle.format.specs.File.{table}
+use Rattle.format.specs.File.{tableOf}
 use Rattle.file.specs.declared.step.LinkStep.{LinkStep}
 use Rattle.file.specs.declared.step.LinkStep.the-variants as LinkStep·is
 use Rattle.file.specs.declared.step.ChainStep.{ChainStep}
@@ -50,29 +50,30 @@ LinkIs s i n m LinkStep·is.Zeros = TailBegins s i n true
 LinkIs s i n m LinkStep·is.Index = TailBegins s i n false
 LinkIs s i n m (LinkStep·is.Refused r) = onward s i n ≡ refused r
 
--- the chain c of k blocks was walked, and out is the table of where they begin
-pub record Chained (o : Outcome Chain) (out : Bytes) (k : ℕ) (c : Chain) : Type 0 where
+-- the chain c of k blocks was walked, and where they begin was kept at the front of a table
+pub record Chained (o : Outcome Chain) (before out : List ℕ) (k : ℕ) (c : Chain) : Type 0 where
   pub is : o ≡ accepted c
   pub count : length (c .blocks) ≡ k
   pub few : k ≤ mostBlocks
-  pub kept : out ≡ table (c .blocks)
+  pub kept : out ≡ tableOf before (c .blocks)
+  pub room : length before ≡ mostBlocks
 
 -- a chain was walked, and no index stands after it
-pub record WalkedAlone (o : Outcome Chain) (out : Bytes) (k : ℕ) : Type 0 where
+pub record WalkedAlone (o : Outcome Chain) (before out : List ℕ) (k : ℕ) : Type 0 where
   pub c : Chain
-  pub chained : Chained o out k c
+  pub chained : Chained o before out k c
   pub zeros : allZero (c .tail) ≡ true
 
 -- a chain was walked, and after it, at offset n, stands what begins like an index
-pub record WalkedTo (s : Bytes) (o : Outcome Chain) (out : Bytes) (k n : ℕ) : Type 0 where
+pub record WalkedTo (s : Bytes) (o : Outcome Chain) (before out : List ℕ) (k n : ℕ) : Type 0 where
   pub c : Chain
-  pub chained : Chained o out k c
+  pub chained : Chained o before out k c
   pub zeros : allZero (c .tail) ≡ false
   pub tail : c .tail ≡ drop n s
   pub inside : n ≤ length s
 
--- what a walk of the file s answers whose outcome is o, where out is what it kept
-abbrev pub Walked : Bytes → Outcome Chain → Bytes → ChainStep → Type 0
-Walked s o out (ChainStep·is.Refused r) = o ≡ refused r
-Walked s o out (ChainStep·is.Walked k) = WalkedAlone o out k
-Walked s o out (ChainStep·is.Indexed k n) = WalkedTo s o out k n
+-- what a walk of the file s answers whose outcome is o, where out is the table after it
+abbrev pub Walked : Bytes → Outcome Chain → List ℕ → List ℕ → ChainStep → Type 0
+Walked s o before out (ChainStep·is.Refused r) = o ≡ refused r
+Walked s o before out (ChainStep·is.Walked k) = WalkedAlone o before out k
+Walked s o before out (ChainStep·is.Indexed k n) = WalkedTo s o before out k n

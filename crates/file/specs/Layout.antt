@@ -1,6 +1,7 @@
 -- The steps of reading a file, each with what comes behind it.
 use Prim.Native.Nat.{ℕ}
 use mathlib.Core.Path.{_≡_}
+use mathlib.Core.List.{List}
 use lib.ListN.{length, take, drop}
 use Rattle.format.specs.declared.answer.LayoutAnswer.{LayoutAnswer}
 use Rattle.format.specs.declared.layout.Header.{Header}
@@ -14,7 +15,7 @@ use Rattle.format.specs.Comments.{comments}
 use Rattle.format.specs.Tree.{tree}
 use Rattle.format.specs.Chain.{Chain, chain, mostBlocks}
 use Rattle.format.specs.Index.{verdict}
-use Rattle.format.specs.File.{File, file, firstBlock, goesOn, offsets, table, layoutOf}
+use Rattle.format.specs.File.{File, file, firstBlock, goesOn, offsets, tableOf, layoutOf}
 use Rattle.format.specs.Answer.{layoutAnswer}
 
 -- the file that has these parts and this chain
@@ -49,13 +50,13 @@ behindHeader s h = do
 abbrev pub layoutWith : Header → ℕ → Tree → ℕ → Verdict → Layout
 layoutWith h n t blocks v = record { header = h; «comments_end» = record { 0 = n }; tree = t; blocks = blocks; verdict = v }
 
--- r answers for the outcome o, and out is the table of an accepted file's blocks
-pub record Judged (o : Outcome File) (out : Bytes) (r : LayoutAnswer) : Type 0 where
+-- r answers for the outcome o, and an accepted file's offsets were kept at the front of a table
+pub record Judged (o : Outcome File) (before out : List ℕ) (r : LayoutAnswer) : Type 0 where
   pub is : layoutAnswer r ≡ _>>=_ o (λ f. accepted (layoutOf f))
-  pub kept : (f : File) → o ≡ accepted f → out ≡ table (f .blocks)
+  pub kept : (f : File) → o ≡ accepted f → out ≡ tableOf before (f .blocks)
 
 -- s is an accepted file of so many blocks, which begin at the first of out
-pub record Kept (s : Bytes) (out : Bytes) (blocks : ℕ) : Type 0 where
+pub record Kept (s : Bytes) (out : List ℕ) (blocks : ℕ) : Type 0 where
   pub f : File
   pub is : file s ≡ accepted f
   pub count : length (f .blocks) ≡ blocks

@@ -1,5 +1,6 @@
 -- What the contracts of the steps cite.
 pub mod Step
 pub mod Block
+pub mod Again
 pub mod Chain
 pub mod Layout

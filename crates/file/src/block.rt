@@ -6,6 +6,7 @@ ghost use lib.ListN.{length};
 ghost use lib.Dec.{eqb};
 ghost use Rattle.format.specs.Block.{isCompressed, blockWith};
 ghost use Rattle.file.specs.Block.{IsField, FieldRead, HeaderRead, Fault, Sound, BlockRead, soundBlock, soundLink};
+use crate::again;
 use crate::step::LinkStep;
 use format::block::Block;
 use format::block::is_compressed;
@@ -28,7 +29,7 @@ pub fn read_block(t: &[u8], ordinal: u8, at: usize) -> BlockStep
     if number != 0 {
         return BlockStep::Refused(Refusal::new(number, at));
     }
-    BlockStep::Read(sound_block(t, ordinal, at))
+    BlockStep::Read(again::block_of(t, ordinal, at))
 }
 
 // The number that refuses the block whose first byte is t's, or 0.
@@ -83,29 +84,14 @@ fn is_data_size(data_size: u64, compression: u64, used: u64) -> bool
 }
 
 // The number in the bytes from one offset to another, at most eight of them.
-fn field(t: &[u8], from: usize, to: usize) -> u64
+pub(crate) fn field(t: &[u8], from: usize, to: usize) -> u64
     requires { ⌜ IsField (now t) from to ⌝ }
     ensures { λ r. ⌜ FieldRead (now (t .entry)) from to r ⌝ }
 {
     number::big_endian(&t[from..to])
 }
 
-// The block that nothing is wrong with.
-fn sound_block(t: &[u8], ordinal: u8, at: usize) -> Block
-    requires { ⌜ Sound (now t) ⌝ }
-    ensures { λ r. ⌜ r ≡ soundBlock ordinal at (now (t .entry)) ⌝ }
-{
-    if field(t, 6, 10) % 2 == 1 {
-        let content = 6 + field(t, 4, 6) as usize;
-        let left = (t.len() - content) as u64;
-        return block_with(t, ordinal, at, left, left, left);
-    }
-    let allocated = field(t, 14, 22);
-    let used = field(t, 22, 30);
-    block_with(t, ordinal, at, allocated, used, field(t, 30, 38))
-}
-
-// How such a block leads on.
+// How a block leads on that nothing is wrong with.
 pub(crate) fn sound_link(t: &[u8]) -> LinkStep
     requires { ⌜ Sound (now t) ⌝ }
     ensures { λ r. ⌜ r ≡ soundLink (now (t .entry)) ⌝ }
@@ -115,22 +101,4 @@ pub(crate) fn sound_link(t: &[u8]) -> LinkStep
     }
     let content = 6 + field(t, 4, 6) as usize;
     LinkStep::Block(content + field(t, 14, 22) as usize)
-}
-
-fn block_with(t: &[u8], ordinal: u8, at: usize, allocated: u64, used: u64, data_size: u64) -> Block
-    requires { ⌜ 54 ≤ length (now t) ⌝ }
-    ensures { λ r. ⌜ r ≡ blockWith ordinal at (now (t .entry)) allocated used data_size ⌝ }
-{
-    Block {
-        ordinal,
-        at: Offset(at as u64),
-        header_size: field(t, 4, 6) as u16,
-        flags: field(t, 6, 10) as u32,
-        compression: field(t, 10, 14) as u32,
-        allocated,
-        used,
-        data_size,
-        checksum_high: field(t, 38, 46),
-        checksum_low: field(t, 46, 54),
-    }
 }

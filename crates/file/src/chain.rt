@@ -1,7 +1,7 @@
 // The chain of blocks, with unallocated space between them, and the tail after the last of them.
 ghost use Prim.Native.Nat.{_≤_, _<_};
 ghost use mathlib.Core.Path.{_≡_};
-ghost use lib.ListN.{length, drop, set, replicate};
+ghost use lib.ListN.{length, drop, set};
 ghost use Rattle.format.specs.Bytes.{begins};
 ghost use Rattle.format.specs.Comments.{indexLine};
 ghost use Rattle.format.specs.Chain.{chain, mostBlocks};
@@ -13,12 +13,11 @@ use format::limits::MOST_BLOCKS;
 use format::refusal::Refusal;
 use scan::text;
 
-// Walks the blocks from an offset on, and keeps where each begins. The offsets are all 0 before, and those after the last
-// block's stay so.
-pub(crate) fn walk(s: &[u8], first: usize, offsets: &mut [u64; MOST_BLOCKS]) -> ChainStep
+// Walks the blocks from an offset on, and keeps where each begins. The offsets after the last block's stay as they are.
+pub(crate) fn walk(s: &[u8], first: usize, offsets: &mut [u64]) -> ChainStep
     requires { ⌜ first ≤ length (now s) ⌝ }
-    requires { ⌜ now offsets ≡ replicate mostBlocks 0 ⌝ }
-    ensures { λ r. ⌜ Walked (now (s .entry)) (chain mostBlocks 0 first (drop first (now (s .entry)))) (now (offsets .exit)) r ⌝ }
+    requires { ⌜ length (now offsets) ≡ mostBlocks ⌝ }
+    ensures { λ r. ⌜ Walked (now (s .entry)) (chain mostBlocks 0 first (drop first (now (s .entry)))) (now (offsets .entry)) (now (offsets .exit)) r ⌝ }
 {
     let mut at = first;
     let mut i: usize = 0;

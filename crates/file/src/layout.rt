@@ -9,13 +9,11 @@ ghost use Rattle.format.specs.Chain.{mostBlocks};
 ghost use Rattle.format.specs.Index.{judged, indexed};
 ghost use Rattle.format.specs.declared.layout.Tree.the-variants.{NoTree};
 ghost use Rattle.file.specs.Layout.{behindHeader, behindComments, behindTree, withBlocks, layoutWith, Judged, Kept};
-use crate::block::BlockStep;
-use crate::block::read_block;
+use crate::again;
 use crate::chain;
 use crate::step::ChainStep;
 use format::answer::BlockAnswer;
 use format::answer::LayoutAnswer;
-use format::answer::OffsetsAnswer;
 use format::layout::Header;
 use format::layout::Layout;
 use format::layout::Tree;
@@ -39,22 +37,29 @@ pub fn read(s: &[u8]) -> LayoutAnswer
     judge(s, &mut offsets)
 }
 
-// The same, and where the blocks begin. The offsets after the last block's are 0, and so are all of a refused file: what the
-// walk had kept before the refusal is not handed on.
-pub fn read_with_offsets(s: &[u8]) -> OffsetsAnswer
-    ensures { λ r. ⌜ layoutAnswer (r .layout) ≡ layout (now (s .entry)) ⌝ }
-    ensures { λ r. ⌜ r .offsets ≡ offsetTable (file (now (s .entry))) ⌝ }
+// The same, and where the blocks begin. An accepted file's offsets come first in the table, and what stood after them stays; a
+// refused file leaves only zeros, so that nothing of what was kept before the refusal is handed on.
+pub fn read_into(s: &[u8], offsets: &mut [u64; MOST_BLOCKS]) -> LayoutAnswer
+    ensures { λ r. ⌜ layoutAnswer r ≡ layout (now (s .entry)) ⌝ }
+    ensures { λ _. ⌜ now (offsets .exit) ≡ offsetTable (now (offsets .entry)) (file (now (s .entry))) ⌝ }
 {
-    let mut offsets = [0u64; MOST_BLOCKS];
-    match judge(s, &mut offsets) {
-        LayoutAnswer::Accepted(l) => OffsetsAnswer {
-            layout: LayoutAnswer::Accepted(l),
-            offsets,
-        },
-        LayoutAnswer::Refused(r) => OffsetsAnswer {
-            layout: LayoutAnswer::Refused(r),
-            offsets: [0u64; MOST_BLOCKS],
-        },
+    match judge(s, offsets) {
+        LayoutAnswer::Accepted(l) => LayoutAnswer::Accepted(l),
+        LayoutAnswer::Refused(r) => {
+            clear(offsets);
+            LayoutAnswer::Refused(r)
+        }
+    }
+}
+
+// Sets every offset to 0.
+fn clear(offsets: &mut [u64])
+    ensures { λ _. ⌜ now (offsets .exit) ≡ replicate (length (now (offsets .entry))) 0 ⌝ }
+{
+    let mut i = 0;
+    while i < offsets.len() {
+        offsets[i] = 0;
+        i += 1;
     }
 }
 
@@ -62,36 +67,30 @@ pub fn read_with_offsets(s: &[u8]) -> OffsetsAnswer
 pub fn block(s: &[u8], ordinal: u64) -> BlockAnswer
     ensures { λ r. ⌜ blockAnswer r ≡ blockAt (now (s .entry)) ordinal ⌝ }
 {
-    let found = read_with_offsets(s);
-    let answer = found.layout;
-    match answer {
+    let mut offsets = [0u64; MOST_BLOCKS];
+    match read_into(s, &mut offsets) {
         LayoutAnswer::Refused(r) => BlockAnswer::Refused(r),
-        LayoutAnswer::Accepted(l) => {
-            let offsets = found.offsets;
-            kept_block(s, offsets, l.blocks, ordinal)
-        }
+        LayoutAnswer::Accepted(l) => kept_block(s, &offsets, l.blocks, ordinal),
     }
 }
 
 // The block of this ordinal, of an accepted file with so many blocks that begin at these offsets.
-fn kept_block(s: &[u8], offsets: [u64; MOST_BLOCKS], blocks: u8, ordinal: u64) -> BlockAnswer
-    requires { ⌜ Kept (now s) offsets blocks ⌝ }
+fn kept_block(s: &[u8], offsets: &[u64], blocks: u8, ordinal: u64) -> BlockAnswer
+    requires { ⌜ Kept (now s) (now offsets) blocks ⌝ }
     ensures { λ r. ⌜ blockAnswer r ≡ blockAt (now (s .entry)) ordinal ⌝ }
 {
     if blocks as u64 <= ordinal {
         return BlockAnswer::NoSuchBlock;
     }
     let at = offsets[ordinal as usize] as usize;
-    match read_block(&s[at..], ordinal as u8, at) {
-        BlockStep::Read(b) => BlockAnswer::Found(b),
-        BlockStep::Refused(r) => BlockAnswer::Refused(r),
-    }
+    BlockAnswer::Found(again::block_of(&s[at..], ordinal as u8, at))
 }
 
-// Judges a file. The offsets are all 0 before; of an accepted file they are the table of its blocks then.
-fn judge(s: &[u8], offsets: &mut [u64; MOST_BLOCKS]) -> LayoutAnswer
-    requires { ⌜ now offsets ≡ replicate mostBlocks 0 ⌝ }
-    ensures { λ r. ⌜ Judged (file (now (s .entry))) (now (offsets .exit)) r ⌝ }
+// Judges a file. An accepted file's offsets come first in the table then. It comes as a slice here and below, since a
+// reference to an array says nothing of the array's length in a proof.
+fn judge(s: &[u8], offsets: &mut [u64]) -> LayoutAnswer
+    requires { ⌜ length (now offsets) ≡ mostBlocks ⌝ }
+    ensures { λ r. ⌜ Judged (file (now (s .entry))) (now (offsets .entry)) (now (offsets .exit)) r ⌝ }
 {
     if MOST_BYTES < s.len() {
         return LayoutAnswer::Refused(Refusal::new(1, 0));
@@ -102,10 +101,10 @@ fn judge(s: &[u8], offsets: &mut [u64; MOST_BLOCKS]) -> LayoutAnswer
     }
 }
 
-fn behind_header(s: &[u8], h: Header, offsets: &mut [u64; MOST_BLOCKS]) -> LayoutAnswer
+fn behind_header(s: &[u8], h: Header, offsets: &mut [u64]) -> LayoutAnswer
     requires { ⌜ h .end .0 ≤ length (now s) ⌝ }
-    requires { ⌜ now offsets ≡ replicate mostBlocks 0 ⌝ }
-    ensures { λ r. ⌜ Judged (behindHeader (now (s .entry)) h) (now (offsets .exit)) r ⌝ }
+    requires { ⌜ length (now offsets) ≡ mostBlocks ⌝ }
+    ensures { λ r. ⌜ Judged (behindHeader (now (s .entry)) h) (now (offsets .entry)) (now (offsets .exit)) r ⌝ }
 {
     match comments::comments_end(s, h.end.0 as usize) {
         EndStep::Refused(r) => LayoutAnswer::Refused(r),
@@ -113,10 +112,10 @@ fn behind_header(s: &[u8], h: Header, offsets: &mut [u64; MOST_BLOCKS]) -> Layou
     }
 }
 
-fn behind_comments(s: &[u8], h: Header, n: usize, offsets: &mut [u64; MOST_BLOCKS]) -> LayoutAnswer
+fn behind_comments(s: &[u8], h: Header, n: usize, offsets: &mut [u64]) -> LayoutAnswer
     requires { ⌜ n ≤ length (now s) ⌝ }
-    requires { ⌜ now offsets ≡ replicate mostBlocks 0 ⌝ }
-    ensures { λ r. ⌜ Judged (behindComments (now (s .entry)) h n) (now (offsets .exit)) r ⌝ }
+    requires { ⌜ length (now offsets) ≡ mostBlocks ⌝ }
+    ensures { λ r. ⌜ Judged (behindComments (now (s .entry)) h n) (now (offsets .entry)) (now (offsets .exit)) r ⌝ }
 {
     match tree::read_tree(s, n) {
         TreeStep::Refused(r) => LayoutAnswer::Refused(r),
@@ -124,16 +123,10 @@ fn behind_comments(s: &[u8], h: Header, n: usize, offsets: &mut [u64; MOST_BLOCK
     }
 }
 
-fn behind_tree(
-    s: &[u8],
-    h: Header,
-    n: usize,
-    t: Tree,
-    offsets: &mut [u64; MOST_BLOCKS],
-) -> LayoutAnswer
+fn behind_tree(s: &[u8], h: Header, n: usize, t: Tree, offsets: &mut [u64]) -> LayoutAnswer
     requires { ⌜ firstBlock n t ≤ length (now s) ⌝ }
-    requires { ⌜ now offsets ≡ replicate mostBlocks 0 ⌝ }
-    ensures { λ r. ⌜ Judged (behindTree (now (s .entry)) h n t) (now (offsets .exit)) r ⌝ }
+    requires { ⌜ length (now offsets) ≡ mostBlocks ⌝ }
+    ensures { λ r. ⌜ Judged (behindTree (now (s .entry)) h n t) (now (offsets .entry)) (now (offsets .exit)) r ⌝ }
 {
     match t {
         Tree::Found {
@@ -166,11 +159,11 @@ fn with_blocks(
     n: usize,
     t: Tree,
     first: usize,
-    offsets: &mut [u64; MOST_BLOCKS],
+    offsets: &mut [u64],
 ) -> LayoutAnswer
     requires { ⌜ first ≤ length (now s) ⌝ }
-    requires { ⌜ now offsets ≡ replicate mostBlocks 0 ⌝ }
-    ensures { λ r. ⌜ Judged (withBlocks (now (s .entry)) h n t first) (now (offsets .exit)) r ⌝ }
+    requires { ⌜ length (now offsets) ≡ mostBlocks ⌝ }
+    ensures { λ r. ⌜ Judged (withBlocks (now (s .entry)) h n t first) (now (offsets .entry)) (now (offsets .exit)) r ⌝ }
 {
     match chain::walk(s, first, offsets) {
         ChainStep::Refused(r) => LayoutAnswer::Refused(r),
@@ -198,7 +191,7 @@ fn judge_tail(t: &[u8], offsets: &[u64], count: usize) -> Verdict
 }
 
 fn layout_with(h: Header, n: usize, t: Tree, blocks: usize, v: Verdict) -> Layout
-    requires { ⌜ blocks ≤ 64 ⌝ }
+    requires { ⌜ blocks ≤ mostBlocks ⌝ }
     ensures { λ r. ⌜ r ≡ layoutWith h n t blocks v ⌝ }
 {
     Layout {

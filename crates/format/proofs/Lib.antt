@@ -1,6 +1,7 @@
 -- Laws over the definitions of the format.
 pub mod Meaning
 pub mod Examples
+pub mod FillLaws
 pub mod OutcomeLaws
 pub mod NumberedLaws
 pub mod WordLaws

@@ -36,6 +36,10 @@ checksumLow t = number 46 8 t
 abbrev pub leastHeader : ℕ
 leastHeader = 48
 
+-- the least bytes of a block: the mark and the header size stand before what it counts
+abbrev pub leastBlock : ℕ
+leastBlock = 6 + leastHeader
+
 -- bit 0 of the flags
 abbrev pub isStreamed : ℕ → Bool
 isStreamed f = eqb (f % 2) 1

@@ -56,14 +56,14 @@ file s = do
   c ← chain mostBlocks 0 (firstBlock n t) (drop (firstBlock n t) s)
   accepted (record { header = h; commentsEnd = n; tree = t; blocks = c .blocks; verdict = verdict (offsets (c .blocks)) (c .tail) })
 
--- where blocks begin, in a table for as many as there can be: zeros fill it up
-abbrev pub table : List Block → List ℕ
-table bs = offsets bs ++ replicate (mostBlocks - length bs) 0
+-- a table of offsets that begins with those of these blocks; what stood after them stays
+abbrev pub tableOf : List ℕ → List Block → List ℕ
+tableOf before bs = offsets bs ++ drop (length bs) before
 
--- where the blocks of a file begin; a refused one has none
-unfoldable pub offsetTable : Outcome File → List ℕ
-offsetTable (accepted f) = table (f .blocks)
-offsetTable (refused r) = table []
+-- such a table after a file was read into it: a refused file leaves only zeros
+unfoldable pub offsetTable : List ℕ → Outcome File → List ℕ
+offsetTable before (accepted f) = tableOf before (f .blocks)
+offsetTable before (refused r) = replicate mostBlocks 0
 
 -- what is answered of it
 unfoldable pub layoutOf : File → Layout

@@ -3,20 +3,12 @@ ghost use mathlib.Core.Path.{_≡_};
 ghost use Rattle.format.specs.Outcome.{refusal};
 use crate::block::Block;
 use crate::layout::Layout;
-use crate::limits::MOST_BLOCKS;
 use crate::refusal::Refusal;
 use crate::row::Row;
 
 pub enum LayoutAnswer {
     Accepted(Layout),
     Refused(Refusal),
-}
-
-// The layout, and where the blocks begin, in their order. The offsets after those of the blocks are 0, and so are all of a
-// refused file.
-pub struct OffsetsAnswer {
-    pub layout: LayoutAnswer,
-    pub offsets: [u64; MOST_BLOCKS],
 }
 
 pub enum BlockAnswer {

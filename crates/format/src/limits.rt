@@ -17,3 +17,6 @@ pub const ROW_BYTES: usize = 16;
 
 // The bytes of a record.
 pub const RECORD_BYTES: usize = 120;
+
+// The least bytes of a block: those of the least header and of what stands before it.
+pub const LEAST_BLOCK: usize = 54;

@@ -10,7 +10,7 @@ use Rattle.file.proofs.chain.walk.Statement.{statement}
 use Rattle.file.proofs.chain.walk.Tie as tie
 
 abbrev Inv-loop : tie.InvT-loop
-Inv-loop s first offsets₀ at₀ i₀ offsets at i = Walking s offsets first i (onward s i at) × (at ≤ length s)
+Inv-loop s first offsets₀ at₀ i₀ offsets at i = Walking s offsets₀ offsets first i (onward s i at) × (at ≤ length s)
 
 abbrev μ-loop : tie.MeasureT-loop
 μ-loop s first offsets₀ at₀ i₀ offsets at i = mostBlocks - i
