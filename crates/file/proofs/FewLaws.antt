@@ -9,14 +9,13 @@ use Rattle.format.specs.declared.block.Record.{Record}
 use Rattle.format.specs.declared.row.Row.{Row}
 use Rattle.format.specs.Bytes.{Bytes}
 use Rattle.format.specs.Outcome.{Outcome, accepted, refused, _>>=_}
-use Rattle.format.specs.Tree.{freeSpace}
 use Rattle.format.specs.Block.{isStreamed, block}
-use Rattle.format.specs.Chain.{Chain, mostBlocks, extent, ended, linked, isTail, follows, tail, linkedAt, chain}
+use Rattle.format.specs.Chain.{Chain, mostBlocks, extent, ended, linked, isTail, nextBlock, tail, linkedAt, chain}
 use Rattle.format.specs.File.{file}
 use Rattle.format.specs.Nest.{deepest, contentAt, contentOf, isFile, Inside, inside, opened, walked, walk, walkFile, recordsFrom, records}
 use Rattle.format.specs.Outline.{rowOf, rows}
 use Rattle.format.proofs.FileLaws.{blocksStart, file-parts}
-use Rattle.format.proofs.OutcomeLaws.{Accepts, accepted-holds, accepts-bind, accepts-need, choice}
+use Rattle.format.proofs.OutcomeLaws.{Accepts, accepted-holds, accepts-bind, accepts-need, choice, found-choice}
 use Rattle.format.proofs.BlockLaws.{Starts, block-starts}
 
 -- how many bytes blocks take at least: their headers and contents
@@ -58,12 +57,10 @@ linked-at-lies i n t others h =
 -- the blocks of every chain
 chain-lies : (k i n : ℕ) (t : Bytes) → Accepts (LieIn t) (chain k i n t)
 unfolding chain
-chain-lies zero i n t = choice (Accepts (LieIn t)) (follows t) _ _ tt (tail-lies n t)
+chain-lies zero i n t = found-choice (Accepts (LieIn t)) (nextBlock t) _ _ (λ e. tail-lies n t) (λ g e. tt)
 chain-lies (suc k) i n t =
-    choice (Accepts (LieIn t)) (follows t) _ _
-    (lies-after t (freeSpace t) (linkedAt i (n + freeSpace t) (drop (freeSpace t) t) (chain k (i + 1)))
-    (linked-at-lies i (n + freeSpace t) (drop (freeSpace t) t) (chain k (i + 1)) (chain-lies k (i + 1))))
-    (tail-lies n t)
+    found-choice (Accepts (LieIn t)) (nextBlock t) _ _ (λ e. tail-lies n t)
+    λ g e. lies-after t g (linkedAt i (n + g) (drop g t) (chain k (i + 1))) (linked-at-lies i (n + g) (drop g t) (chain k (i + 1)) (chain-lies k (i + 1)))
 
 -- for each record there are 54 bytes
 abbrev pub Few : Bytes → List Record → Type 0

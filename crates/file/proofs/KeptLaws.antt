@@ -12,12 +12,11 @@ use Rattle.format.specs.declared.block.Block.{Block}
 use Rattle.format.specs.declared.refusal.Refusal.{Refusal}
 use Rattle.format.specs.Bytes.{Bytes}
 use Rattle.format.specs.Outcome.{Outcome, accepted, refused, _>>=_}
-use Rattle.format.specs.Tree.{freeSpace}
 use Rattle.format.specs.Block.{isStreamed, block}
-use Rattle.format.specs.Chain.{Chain, mostBlocks, extent, ended, linked, follows, tail, linkedAt, chain}
+use Rattle.format.specs.Chain.{Chain, mostBlocks, extent, ended, linked, nextBlock, tail, linkedAt, chain}
 use Rattle.format.specs.File.{offsets, table, file, blockAt}
 use Rattle.format.specs.Answer.{blockAnswer}
-use Rattle.format.proofs.OutcomeLaws.{Accepts, accepted-holds, accepts-bind, accepts-need, choice}
+use Rattle.format.proofs.OutcomeLaws.{Accepts, accepted-holds, accepts-bind, accepts-need, found-choice}
 use Rattle.format.proofs.BlockLaws.{Starts, block-starts}
 use Rattle.file.specs.declared.block.BlockStep.{BlockStep}
 use Rattle.file.specs.declared.block.BlockStep.the-variants as BlockStep·is
@@ -70,12 +69,10 @@ linked-at-blocks s i m others h =
 -- every block of a chain is read where it begins
 chain-blocks : (s : Bytes) (k i n : ℕ) → Accepts (ChainBlocks s i) (chain k i n (drop n s))
 unfolding chain
-chain-blocks s zero i n = choice (Accepts (ChainBlocks s i)) (follows (drop n s)) _ _ tt (tail-blocks s i n (drop n s))
+chain-blocks s zero i n = found-choice (Accepts (ChainBlocks s i)) (nextBlock (drop n s)) _ _ (λ e. tail-blocks s i n (drop n s)) (λ g e. tt)
 chain-blocks s (suc k) i n =
-    let g = freeSpace (drop n s) in
-    choice (Accepts (ChainBlocks s i)) (follows (drop n s)) _ _
-    (rw (drop-drop g n s) (linked-at-blocks s i (n + g) (chain k (i + 1)) (chain-blocks s k (i + 1))))
-    (tail-blocks s i n (drop n s))
+    found-choice (Accepts (ChainBlocks s i)) (nextBlock (drop n s)) _ _ (λ e. tail-blocks s i n (drop n s))
+    λ g e. rw (drop-drop g n s) (linked-at-blocks s i (n + g) (chain k (i + 1)) (chain-blocks s k (i + 1)))
 
 -- and so is every block of a file
 file-blocks : (s : Bytes) → Accepts (λ f. AreBlocks s 0 (f .blocks)) (file s)

@@ -11,11 +11,10 @@ use borrow.Author.Tests.{leb-true}
 use Rattle.format.specs.declared.block.Block.{Block}
 use Rattle.format.specs.Bytes.{Bytes, IsBytes}
 use Rattle.format.specs.Outcome.{Outcome, accepted, refused, _>>=_}
-use Rattle.format.specs.Tree.{freeSpace}
 use Rattle.format.specs.Block.{headerSize, flags, leastHeader, isStreamed, contentStart, bytesLeft, blockWith, block}
-use Rattle.format.specs.Chain.{Chain, mostBlocks, extent, ended, linked, follows, tail, linkedAt, chain}
+use Rattle.format.specs.Chain.{Chain, mostBlocks, extent, ended, linked, nextBlock, tail, linkedAt, chain}
 use Rattle.format.specs.File.{File, file}
-use Rattle.format.proofs.OutcomeLaws.{Accepts, accepted-holds, accepts-bind, accepts-need, choice}
+use Rattle.format.proofs.OutcomeLaws.{Accepts, accepted-holds, accepts-bind, accepts-need, choice, found-choice}
 use Rattle.format.proofs.PackLaws.{is-bytes-drop, number-lt}
 
 -- a block that ends inside a file of this size
@@ -99,16 +98,16 @@ module _ (P : Block → Type 0) where
       → ((k i n : ℕ) (t : Bytes) (b : Block) → Known (suc k) i n t → block i n t ≡ accepted b → P b × Known k (i + 1) (n + extent b) (drop (extent b) t))
       → (k i n : ℕ) (t : Bytes) → Known k i n t → Accepts AllOfChain (chain k i n t)
   unfolding chain linkedAt
-  chain-all Known skip step zero i n t h = choice (Accepts AllOfChain) (follows t) _ _ tt (tail-all n t)
+  chain-all Known skip step zero i n t h = found-choice (Accepts AllOfChain) (nextBlock t) _ _ (λ e. tail-all n t) (λ g e. tt)
   chain-all Known skip step (suc k) i n t h =
-      let m = n + freeSpace t in
-      let u = drop (freeSpace t) t in
-      let there = skip (suc k) i n (freeSpace t) t h in
-      choice (Accepts AllOfChain) (follows t) _ _
-      (accepts-bind AllOfChain (block i m u) _ λ b q.
+      found-choice (Accepts AllOfChain) (nextBlock t) _ _ (λ e. tail-all n t)
+      λ g e.
+      let m = n + g in
+      let u = drop g t in
+      let there = skip (suc k) i n g t h in
+      accepts-bind AllOfChain (block i m u) _ λ b q.
       linked-all b (isStreamed (b .flags)) (chain k (i + 1) (m + extent b) (drop (extent b) u)) (step k i m u b there q .0)
-      (chain-all Known skip step k (i + 1) (m + extent b) (drop (extent b) u) (step k i m u b there q .1)))
-      (tail-all n t)
+      (chain-all Known skip step k (i + 1) (m + extent b) (drop (extent b) u) (step k i m u b there q .1))
 
 -- the block i at offset n, where t stands, is one of those allowed, k more with it, and inside a file of this size
 record Inside (size k i n : ℕ) (t : Bytes) : Type 0 where

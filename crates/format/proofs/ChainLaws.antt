@@ -1,25 +1,26 @@
 -- The blocks of a chain, with the space between them, are a front part of the bytes, and the same with another tail after the last of them.
 use Prim.Native.Nat.{ℕ, zero, suc, _+_, _≤_}
 use mathlib.Core.Path.{_≡_, refl, sym, ap, subst, _∙_}
-use mathlib.Core.Bool.{Bool, true, false, not, _&&_, _||_, or-false, true≢false}
+use mathlib.Core.Bool.{Bool, true, false, not, _&&_, _||_, true≢false}
 use mathlib.Core.List.{List, [], _∷_, _++_, append-nil, append-assoc}
+use mathlib.Core.Option.{some}
 use native.Mathlib.Omega.{arith}
 use lib.ListN.{length, take, drop, length-append, length-drop, take-append-drop}
-use lib.Seq.{length-take-le, take-append-seam, drop-append-seam, take-append-le, drop-append-le, drop-length, take-at, drop-at, drop-drop}
+use lib.Seq.{length-take-le, take-append-seam, drop-append-seam, take-append-le, drop-append-le, take-at, drop-at, drop-drop}
 use lib.Dec.{eqb, leb}
-use borrow.Author.Tests.{leb-true, le-leb, not-true}
+use borrow.Author.Tests.{leb-true, le-leb}
 use Rattle.format.specs.declared.block.Block.{Block}
-use Rattle.format.specs.Bytes.{Bytes, begins, allZero}
+use Rattle.format.specs.Bytes.{Bytes, begins}
 use Rattle.format.specs.Outcome.{Outcome, accepted, refused, _>>=_}
 use Rattle.format.specs.Block.{headerSize, flags, compression, allocatedSize, usedSize, dataSize, leastHeader, isStreamed, contentStart, bytesLeft, blockWith, block}
 use Rattle.format.specs.Comments.{indexLine}
 use Rattle.format.specs.Tree.{mark, freeSpace}
-use Rattle.format.specs.Chain.{Chain, extent, isTail, ended, linked, follows, tail, linkedAt, chain, blocksEnd}
+use Rattle.format.specs.Chain.{Chain, extent, isTail, ended, linked, nextBlock, tail, linkedAt, chain, blocksEnd}
 use Rattle.format.specs.IndexWriter.{mayHaveIndex}
-use Rattle.format.proofs.OutcomeLaws.{Accepts, accepted-holds, accepts-bind, accepts-need}
-use Rattle.format.proofs.ByteLaws.{and-left, and-right, all-zero-true, lacks-replicate}
-use Rattle.format.proofs.ReadLaws.{accepts-choice, Between, free-space-bounds}
-use Rattle.format.proofs.LocalLaws.{free-space-all, free-space-again}
+use Rattle.format.proofs.OutcomeLaws.{Accepts, accepted-holds, accepts-bind, accepts-need, found-choice}
+use Rattle.format.proofs.ReadLaws.{accepts-choice, Between}
+use Rattle.format.proofs.LocalLaws.{free-space-again}
+use Rattle.format.proofs.NextLaws.{Next, next-is, next-tail, next-mark}
 
 -- a field in the first 54 bytes is the same with anything behind them
 header-field : (p y z : Bytes) → 54 ≤ length p → (n w : ℕ) → leb (n + w) 54 ≡ true → take w (drop n (p ++ y)) ≡ take w (drop n (p ++ z))
@@ -122,22 +123,11 @@ record ChainFront (k i n : ℕ) (t : Bytes) (c : Chain) : Type 0 where
   local : (b : Block) → mayHaveIndex (b ∷ c .blocks) ≡ true → (y : Bytes) → isTail y ≡ true
       → chain k i n (front ++ y) ≡ accepted (record { blocks = c .blocks; tail = y })
 
--- no block follows in a tail
-tail-unfollowed : (y : Bytes) → isTail y ≡ true → follows y ≡ false
-tail-unfollowed y h = go (begins indexLine y) refl
-  where
-    go : (x : Bool) → begins indexLine y ≡ x → follows y ≡ false
-    go true e = rw e
-    go false e =
-        let zeros : allZero y ≡ true = sym (or-false (allZero y)) ∙ rw e at h in
-        let free = free-space-all y (rw (all-zero-true y zeros) (lacks-replicate 0xD3 0 (length y) refl)) in
-        rw (e, free, drop-length)
-
 -- a tail is a chain of no blocks
 no-blocks : (k i n : ℕ) (y : Bytes) → isTail y ≡ true → chain k i n y ≡ accepted (ended y)
 unfolding chain tail
-no-blocks zero i n y h = rw (tail-unfollowed y h, chain, h)
-no-blocks (suc k) i n y h = rw (tail-unfollowed y h, chain, h)
+no-blocks zero i n y h = rw (next-tail y h, chain, tail, h)
+no-blocks (suc k) i n y h = rw (next-tail y h, chain, tail, h)
 
 -- a tail is the rest of no blocks
 tail-front : (k i n : ℕ) (t : Bytes) → Accepts (ChainFront k i n t) (tail n t)
@@ -147,14 +137,14 @@ tail-front k i n t = search (accepts-need, nothing)
     nothing : ChainFront k i n t (ended t)
     nothing = record { front = []; whole = refl; end = omega arith; few = omega arith; marked = λ h. absurd (true≢false (sym h)); local = λ b h. no-blocks k i n }
 
--- a streamed block is all that is left
-streamed-front : (k i n : ℕ) (t : Bytes) (b : Block) → freeSpace t ≤ length t → Begun i (n + freeSpace t) (drop (freeSpace t) t) b
-    → isStreamed (b .flags) ≡ true → ChainFront (suc k) i n t (linked b (ended []))
+-- a streamed block, after g bytes, is all that is left
+streamed-front : (k i n g : ℕ) (t : Bytes) (b : Block) → g ≤ length t → Begun i (n + g) (drop g t) b → isStreamed (b .flags) ≡ true
+    → ChainFront (suc k) i n t (linked b (ended []))
 unfolding blocksEnd mayHaveIndex
-streamed-front k i n t b g h s = record {
+streamed-front k i n g t b l h s = record {
   front = t;
   whole = sym (append-nil t);
-  end = omega (arith, h .at, h .streamed s, length-drop (freeSpace t) t);
+  end = omega (arith, h .at, h .streamed s, length-drop g t);
   few = omega arith;
   marked = λ q. absurd (true≢false (sym q ∙ ap not s));
   local = λ a q. absurd (true≢false (sym q ∙ ap not s));
@@ -167,9 +157,9 @@ begins-front (a ∷ p) [] y z h = absurd (omega arith)
 begins-front (a ∷ p) (b ∷ s) y z h = ap (λ (x : Bool). eqb a b && x) (begins-front p s y z (omega arith))
 
 -- where a block follows, the chain goes on at its mark
-pub chain-follows : (k i n : ℕ) (t : Bytes) → follows t ≡ true → chain (suc k) i n t ≡ linkedAt i (n + freeSpace t) (drop (freeSpace t) t) (chain k (i + 1))
+pub chain-next : (k i n g : ℕ) (t : Bytes) → nextBlock t ≡ some g → chain (suc k) i n t ≡ linkedAt i (n + g) (drop g t) (chain k (i + 1))
 unfolding chain
-chain-follows k i n t h = rw (h, chain)
+chain-next k i n g t h = rw (h, chain)
 
 -- after q, in which no mark begins, stands the block b, which is p
 module _ (k i n : ℕ) (q p z : Bytes) (b : Block) (size : length p ≡ extent b) (unindexed : begins indexLine (q ++ (p ++ z)) ≡ false)
@@ -190,9 +180,9 @@ module _ (k i n : ℕ) (q p z : Bytes) (b : Block) (size : length p ≡ extent b
       let same-block = plain-block i (n + length q) (p ++ u) b (plain-again i (n + length q) p u z b size plain) in
       let here : linkedAt i (n + length q) (p ++ u) (chain k (i + 1)) ≡ accepted (linked b d)
       = rw (same-block, linkedAt, unstreamed, drop-at p u (extent b) size, h) in
-      let block-follows : follows (q ++ (p ++ u)) ≡ true = rw (index, gap, drop-append-seam q (p ++ u), marked-again u) in
-      chain-follows k i n (q ++ (p ++ u)) block-follows
-      ∙ ap (λ (g : ℕ). linkedAt i (n + g) (drop g (q ++ (p ++ u))) (chain k (i + 1))) gap
+      let after : nextBlock (q ++ (p ++ u)) ≡ some (length q)
+      = next-mark (q ++ (p ++ u)) index (simp length-append (omega (arith, gap, plain-least plain))) ∙ ap some gap in
+      chain-next k i n (length q) (q ++ (p ++ u)) after
       ∙ ap (λ (v : Bytes). linkedAt i (n + length q) v (chain k (i + 1))) (drop-append-seam q (p ++ u))
       ∙ here
 
@@ -216,36 +206,33 @@ module _ (k i n : ℕ) (q p z : Bytes) (b : Block) (size : length p ≡ extent b
       no-gap (a ∷ q) e y = absurd (omega arith)
 
 -- a block is a front part: alone where it is streamed, and else with those behind it
-block-front : (k i n : ℕ) (t : Bytes) (b : Block) → follows t ≡ true → Begun i (n + freeSpace t) (drop (freeSpace t) t) b
-    → (streamed : Bool) → isStreamed (b .flags) ≡ streamed
-    → (o : Outcome Chain) → Accepts (ChainFront k (i + 1) (n + freeSpace t + extent b) (drop (extent b) (drop (freeSpace t) t))) o
+block-front : (k i n g : ℕ) (t : Bytes) (b : Block) → Next t g → Begun i (n + g) (drop g t) b → (streamed : Bool) → isStreamed (b .flags) ≡ streamed
+    → (o : Outcome Chain) → Accepts (ChainFront k (i + 1) (n + g + extent b) (drop (extent b) (drop g t))) o
     → Accepts (ChainFront (suc k) i n t) (_>>=_ (elim streamed [ true ↦ accepted (ended []) | false ↦ o ]) (λ c. accepted (linked b c)))
-block-front k i n t b m h true e o f = streamed-front k i n t b (free-space-bounds t) h e
-block-front k i n t b m h false e (refused r) f = tt
-block-front k i n t b m h false e (accepted c) f =
-    let g = freeSpace t in
+block-front k i n g t b m h true e o f = streamed-front k i n g t b (omega (arith, m .inside)) h e
+block-front k i n g t b m h false e (refused r) f = tt
+block-front k i n g t b m h false e (accepted c) f =
     let u = drop g t in
     let outer : take g t ++ u ≡ t = take-append-drop g t in
     let inner : take (extent b) u ++ drop (extent b) u ≡ u = take-append-drop (extent b) u in
-    let gap : length (take g t) ≡ g = length-take-le g t (free-space-bounds t) in
+    let gap : length (take g t) ≡ g = length-take-le g t (omega (arith, m .inside)) in
     let size = length-take-le (extent b) u (omega (arith, plain-extent (h .plain e), h .plain e .inside)) in
-    let unindexed = not-true (begins indexLine t) (and-left _ _ m) in
     subst (λ (s : Bytes). ChainFront (suc k) i n s (linked b c)) (ap (λ (v : Bytes). take g t ++ v) inner ∙ outer)
     (linked-front k i n (take g t) (take (extent b) u) (drop (extent b) u) b size
-    (rw (inner, outer) unindexed) (rw (inner, outer, gap)) (rw inner (and-right (not (begins indexLine t)) _ m))
+    (rw (inner, outer) (m .unindexed)) (rw (inner, outer, gap) (m .free)) (rw inner (m .marked))
     (rw gap (h .at)) (rw (inner, gap) (h .plain e)) e c (rw gap f))
 
 -- the blocks of a chain are a front part
 chain-front : (k i n : ℕ) (t : Bytes) → Accepts (ChainFront k i n t) (chain k i n t)
 unfolding chain linkedAt
-chain-front zero i n t = accepts-choice _ (follows t) _ _ (λ m. tt) (λ m. tail-front zero i n t)
+chain-front zero i n t = found-choice (Accepts (ChainFront zero i n t)) (nextBlock t) _ _ (λ e. tail-front zero i n t) (λ g e. tt)
 chain-front (suc k) i n t =
-    let j = n + freeSpace t in
-    let u = drop (freeSpace t) t in
-    accepts-choice _ (follows t) _ _
-    (λ m. accepts-bind _ (block i j u) _ λ b e. block-front k i n t b m (accepted-holds _ _ b (block-begun i j u) e) (isStreamed (b .flags)) refl
-    (chain k (i + 1) (j + extent b) (drop (extent b) u)) (chain-front k (i + 1) (j + extent b) (drop (extent b) u)))
-    (λ m. tail-front (suc k) i n t)
+    found-choice (Accepts (ChainFront (suc k) i n t)) (nextBlock t) _ _ (λ e. tail-front (suc k) i n t)
+    λ g e.
+    let j = n + g in
+    let u = drop g t in
+    accepts-bind _ (block i j u) _ λ b q. block-front k i n g t b (next-is t g e) (accepted-holds _ _ b (block-begun i j u) q) (isStreamed (b .flags)) refl
+    (chain k (i + 1) (j + extent b) (drop (extent b) u)) (chain-front k (i + 1) (j + extent b) (drop (extent b) u))
 
 -- where the last block is not streamed, a block may stand in front
 with-first : (bs : List Block) → mayHaveIndex bs ≡ true → (b : Block) × (mayHaveIndex (b ∷ bs) ≡ true)
