@@ -14,7 +14,7 @@ use Rattle.format.specs.Bytes.{Bytes}
 use Rattle.format.specs.Outcome.{Outcome, accepted, refused, _>>=_}
 use Rattle.format.specs.Block.{isStreamed, block}
 use Rattle.format.specs.Chain.{Chain, mostBlocks, extent, ended, linked, nextBlock, tail, linkedAt, chain}
-use Rattle.format.specs.File.{offsets, table, file, blockAt}
+use Rattle.format.specs.File.{offsets, table, body, file, blockAt}
 use Rattle.format.specs.Answer.{blockAnswer}
 use Rattle.format.proofs.OutcomeLaws.{Accepts, accepted-holds, accepts-bind, accepts-need, found-choice}
 use Rattle.format.proofs.BlockLaws.{Starts, block-starts}
@@ -76,7 +76,7 @@ chain-blocks s (suc k) i n =
 
 -- and so is every block of a file
 file-blocks : (s : Bytes) → Accepts (λ f. AreBlocks s 0 (f .blocks)) (file s)
-unfolding file
+unfolding file body
 file-blocks s = search (accepts-need, accepts-bind, blocks) depth 12
   where
     blocks : (m : ℕ) (c : Chain) → chain mostBlocks 0 m (drop m s) ≡ accepted c → AreBlocks s 0 (c .blocks)

@@ -25,7 +25,7 @@ use Rattle.format.specs.Comments.{comments}
 use Rattle.format.specs.Tree.{tree, mark}
 use Rattle.format.specs.Chain.{Chain, mostBlocks, chain}
 use Rattle.format.specs.Index.{indexed, judged, verdict}
-use Rattle.format.specs.File.{File, mostBytes, firstBlock, goesOn, offsets, table, file, offsetTable, layoutOf, layout, blockAt}
+use Rattle.format.specs.File.{File, mostBytes, firstBlock, goesOn, offsets, table, body, file, offsetTable, layoutOf, layout, blockAt}
 use Rattle.format.specs.Answer.{layoutAnswer, blockAnswer}
 use Rattle.format.proofs.ReadLaws.{header-bounds, comments-bounds, first-block-bounds}
 use Rattle.front.specs.declared.step.HeaderStep.{HeaderStep}
@@ -64,7 +64,7 @@ module _ {A : Type 0} (o : Outcome File) (p : Outcome A) (then : A → Outcome F
 
 -- a file that is short enough is read from its header on
 file-begins : (s : Bytes) → length s ≤ mostBytes → file s ≡ _>>=_ (header s) (behindHeader s)
-unfolding file behindHeader behindComments behindTree withBlocks
+unfolding file body behindHeader behindComments behindTree withBlocks
 file-begins s h = rw (le-leb (length s) mostBytes h, file)
 
 -- a file that is too long is refused

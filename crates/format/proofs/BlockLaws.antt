@@ -13,7 +13,7 @@ use Rattle.format.specs.Bytes.{Bytes, IsBytes}
 use Rattle.format.specs.Outcome.{Outcome, accepted, refused, _>>=_}
 use Rattle.format.specs.Block.{headerSize, flags, leastHeader, isStreamed, contentStart, bytesLeft, blockWith, block}
 use Rattle.format.specs.Chain.{Chain, mostBlocks, extent, ended, linked, nextBlock, tail, linkedAt, chain}
-use Rattle.format.specs.File.{File, file}
+use Rattle.format.specs.File.{File, body, file}
 use Rattle.format.proofs.OutcomeLaws.{Accepts, accepted-holds, accepts-bind, accepts-need, choice, found-choice}
 use Rattle.format.proofs.PackLaws.{is-bytes-drop, number-lt}
 
@@ -135,7 +135,7 @@ SoundFile s f = AllSound (length s) (f .blocks)
 
 -- every block of an accepted file is sound
 pub file-sound : (s : Bytes) → IsBytes s → Accepts (SoundFile s) (file s)
-unfolding file
+unfolding file body
 file-sound s bytes = search (accepts-need, accepts-bind, blocks-sound) depth 12
   where
     blocks-sound : (m : ℕ) (c : Chain) → chain mostBlocks 0 m (drop m s) ≡ accepted c → AllSound (length s) (c .blocks)

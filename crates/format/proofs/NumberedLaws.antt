@@ -25,7 +25,7 @@ use Rattle.format.specs.Comments.{comments, indexLine}
 use Rattle.format.specs.Tree.{endLine, yamlLine, isStart, isDirective, content, directives, treeEnd, tree}
 use Rattle.format.specs.Block.{block, isStreamed, flags}
 use Rattle.format.specs.Chain.{Chain, mostBlocks, extent, ended, linked, nextBlock, tail, linkedAt, chain}
-use Rattle.format.specs.File.{mostBytes, firstBlock, goesOn, file, layout, blockAt}
+use Rattle.format.specs.File.{mostBytes, firstBlock, goesOn, body, file, layout, blockAt}
 use Rattle.format.specs.Nest.{walkFile, recordsFrom, records, recordCount, recordAt}
 use Rattle.format.specs.Outline.{rowBytes, decodeRow, rows, outline, storedFrom, stored, storedCount, storedAt, rewritten}
 use Rattle.format.specs.Fields.{layoutBytes, recordTable, foundBytes}
@@ -187,7 +187,7 @@ numbered-tree n s h =
     numbered-value (length s) (treeEnd n (lines (drop n s))) _ (numbered-tree-end (length s) n (lines (drop n s)) (lines-inside n s h))
 
 numbered-file : (s : Bytes) → Numbered (length s) (file s)
-unfolding file
+unfolding file body
 numbered-file s =
     let most = length s in
     numbered-need most (leb most mostBytes) 1 0 _ refl (omega arith)
