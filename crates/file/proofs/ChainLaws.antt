@@ -14,20 +14,19 @@ use Rattle.format.specs.Bytes.{Bytes, begins, allZero}
 use Rattle.format.specs.Outcome.{Outcome, accepted, refused, refusal, _>>=_}
 use Rattle.format.specs.Comments.{indexLine}
 use Rattle.format.specs.Tree.{mark, freeSpace}
-use Rattle.format.specs.Block.{flags, allocatedSize, isStreamed, contentStart, block}
+use Rattle.format.specs.Block.{flags, allocatedSize, isStreamed, contentStart, block, soundBlock}
 use Rattle.format.specs.Chain.{Chain, mostBlocks, ended, linked, tail, linkedAt, chain}
 use Rattle.format.specs.File.{offsets, table}
 use Rattle.format.proofs.ByteLaws.{begins-true}
 use Rattle.format.proofs.NextLaws.{next-index, next-none, next-mark, next-here}
-use Rattle.format.proofs.BlockLaws.{Starts}
+use Rattle.format.proofs.BlockLaws.{BlockIs, accepted-block, sound-accepted}
 use Rattle.format.proofs.ChainLaws.{chain-next}
 use Rattle.mark.specs.Mark.{MarkFound}
 use Rattle.file.specs.declared.step.LinkStep.{LinkStep}
 use Rattle.file.specs.declared.step.LinkStep.the-variants as LinkStep·is
 use Rattle.file.proofs.PartLaws.{part-all}
-use Rattle.file.specs.Block.{Fault, soundBlock, soundLink}
+use Rattle.file.specs.Block.{Fault, soundLink}
 use Rattle.file.specs.Chain.{onward, TailBegins, Follows, NextMark, BlockBegins, LinkIs, Chained, WalkedAlone, WalkedTo}
-use Rattle.file.proofs.BlockLaws.{sound-flags, sound-extent, sound-starts}
 
 module _ (s : Bytes) (n : ℕ) where
   -- a mark stands there
@@ -127,24 +126,24 @@ module _ (s : Bytes) (i n m : ℕ) (here : Follows s n m) where
     mark-block x r fault h z = subst (LinkIs s i n m) (sym (h ∙ ap soundLink (part-all s m))) (go (isStreamed (flags (drop m s))) refl)
       where
         read : block i m (drop m s) ≡ accepted (soundBlock i m (drop m s))
-        read = rw (part-all s m) at (fault .passes z .is i m)
+        read = sound-accepted i m (drop m s) (rw (part-all s m) at (fault .passes z))
 
-        starts : Starts m (drop m s) (soundBlock i m (drop m s))
-        starts = sound-starts i m (drop m s) read
+        known : BlockIs i m (drop m s) (soundBlock i m (drop m s))
+        known = accepted-block read
 
         go : (y : Bool) → isStreamed (flags (drop m s)) ≡ y
             → LinkIs s i n m (elim y [ true ↦ LinkStep·is.Streamed | false ↦ LinkStep·is.Block (contentStart (drop m s) + allocatedSize (drop m s)) ])
         go true k =
-            record { first = soundBlock i m (drop m s); is = onward-linked ∙ rw (read, linkedAt, sound-flags i m (drop m s), k); at = starts .at; few = few }
+            record { first = soundBlock i m (drop m s); is = onward-linked ∙ rw (read, linkedAt, known .same-flags, k); at = known .at; few = few }
         go false k =
-            let size = sound-extent i m (drop m s) k in (
+            let size = known .plain k in (
               record {
                 first = soundBlock i m (drop m s);
-                is = onward-linked ∙ rw (read, linkedAt, sound-flags i m (drop m s), k, size, drop-drop (contentStart (drop m s) + allocatedSize (drop m s)) m s);
-                at = starts .at;
+                is = onward-linked ∙ rw (read, linkedAt, known .same-flags, k, size, drop-drop (contentStart (drop m s) + allocatedSize (drop m s)) m s);
+                at = known .at;
                 few = few;
               },
-              omega (arith, starts .inside, size, length-drop m s, here .inside),
+              omega (arith, known .inside, size, length-drop m s, here .inside),
             )
 
 -- a chain with these blocks in front

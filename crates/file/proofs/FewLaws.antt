@@ -16,7 +16,7 @@ use Rattle.format.specs.Nest.{deepest, contentAt, contentOf, isFile, Inside, in
 use Rattle.format.specs.Outline.{rowOf, rows}
 use Rattle.format.proofs.FileLaws.{blocksStart, file-parts}
 use Rattle.format.proofs.OutcomeLaws.{Accepts, accepted-holds, accepts-bind, accepts-need, choice, found-choice}
-use Rattle.format.proofs.BlockLaws.{Starts, block-starts}
+use Rattle.format.proofs.BlockLaws.{BlockIs, accepted-block}
 
 -- how many bytes blocks take at least: their headers and contents
 abbrev taken : List Block → ℕ
@@ -33,11 +33,11 @@ unfolding tail
 tail-lies n t = accepts-need (LieIn t) (isTail t) 17 n (accepted (ended t)) λ h. omega arith
 
 -- a block in front of others, or of none where it is streamed
-linked-lies : (n : ℕ) (t : Bytes) (b : Block) (streamed : Bool) (o : Outcome Chain) → Starts n t b → Accepts (LieIn (drop (extent b) t)) o
+linked-lies : (i n : ℕ) (t : Bytes) (b : Block) (streamed : Bool) (o : Outcome Chain) → BlockIs i n t b → Accepts (LieIn (drop (extent b) t)) o
     → Accepts (LieIn t) (_>>=_ (elim streamed [ true ↦ accepted (ended []) | false ↦ o ]) (λ c. accepted (linked b c)))
-linked-lies n t b true o h hs = omega (arith, h .header-least, h .inside, h .used)
-linked-lies n t b false (accepted c) h hs = omega (arith, h .header-least, h .inside, h .used, length-drop (extent b) t)
-linked-lies n t b false (refused r) h hs = tt
+linked-lies i n t b true o h hs = omega (arith, h .header-least, h .inside, h .used)
+linked-lies i n t b false (accepted c) h hs = omega (arith, h .header-least, h .inside, h .used, length-drop (extent b) t)
+linked-lies i n t b false (refused r) h hs = tt
 
 -- what lies in a part of t lies in t
 lies-after : (t : Bytes) (g : ℕ) (o : Outcome Chain) → Accepts (LieIn (drop g t)) o → Accepts (LieIn t) o
@@ -50,8 +50,8 @@ linked-at-lies : (i n : ℕ) (t : Bytes) (others : ℕ → Bytes → Outcome Cha
 unfolding linkedAt
 linked-at-lies i n t others h =
     accepts-bind (LieIn t) (block i n t) _ λ b e.
-    linked-lies n t b (isStreamed (b .flags)) (others (n + extent b) (drop (extent b) t))
-    (accepted-holds (Starts n t) (block i n t) b (block-starts i n t) e)
+    linked-lies i n t b (isStreamed (b .flags)) (others (n + extent b) (drop (extent b) t))
+    (accepted-block e)
     (h (n + extent b) (drop (extent b) t))
 
 -- the blocks of every chain

@@ -17,7 +17,7 @@ use Rattle.format.specs.Chain.{Chain, mostBlocks, extent, ended, linked, nextBl
 use Rattle.format.specs.File.{offsets, table, body, file, blockAt}
 use Rattle.format.specs.Answer.{blockAnswer}
 use Rattle.format.proofs.OutcomeLaws.{Accepts, accepted-holds, accepts-bind, accepts-need, found-choice}
-use Rattle.format.proofs.BlockLaws.{Starts, block-starts}
+use Rattle.format.proofs.BlockLaws.{accepted-block}
 use Rattle.file.specs.declared.block.BlockStep.{BlockStep}
 use Rattle.file.specs.declared.block.BlockStep.the-variants as BlockStep·is
 use Rattle.file.specs.Step.{blockOf}
@@ -42,8 +42,8 @@ ChainBlocks s i c = AreBlocks s i (c .blocks)
 -- a block that is read at an offset begins there
 block-is : (s : Bytes) (i n : ℕ) (b : Block) → block i n (drop n s) ≡ accepted b → IsBlock s i b
 block-is s i n b h =
-    let starts = accepted-holds (Starts n (drop n s)) (block i n (drop n s)) b (block-starts i n (drop n s)) h in
-    record { read = ap (λ (m : ℕ). block i m (drop m s)) (starts .at) ∙ h; inside = omega (arith, starts .at, starts .inside, length-drop n s) }
+    let known = accepted-block h in
+    record { read = ap (λ (m : ℕ). block i m (drop m s)) (known .at) ∙ h; inside = omega (arith, known .at, known .inside, length-drop n s) }
 
 -- a block in front of others, or of none where it is streamed
 linked-blocks : (s : Bytes) (i : ℕ) (b : Block) (streamed : Bool) (o : Outcome Chain) → IsBlock s i b → Accepts (ChainBlocks s (i + 1)) o

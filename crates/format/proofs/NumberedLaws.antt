@@ -32,12 +32,12 @@ use Rattle.format.specs.Fields.{layoutBytes, recordTable, foundBytes}
 use Rattle.format.specs.Lent.{writes}
 use Rattle.format.specs.IndexWriter.{indexFor}
 use Rattle.format.specs.Edit.{editTree, edit}
-use Rattle.format.proofs.OutcomeLaws.{accepted-holds, choice, found-choice}
+use Rattle.format.proofs.OutcomeLaws.{choice, found-choice}
 use Rattle.format.proofs.ByteLaws.{begins-true}
 use Rattle.format.proofs.LineLaws.{joinLines, join-lines}
 use Rattle.format.proofs.ReadLaws.{header-bounds, comments-bounds, first-block-bounds}
 use Rattle.format.proofs.NextLaws.{next-is}
-use Rattle.format.proofs.BlockLaws.{Starts, block-starts}
+use Rattle.format.proofs.BlockLaws.{accepted-block}
 
 -- the refusal's number is not 0, and its place is at most so far
 pub record Proper (most : ℕ) (r : Refusal) : Type 0 where
@@ -159,7 +159,7 @@ module _ (most : ℕ) where
       let there : m + length u ≤ most = simp length-drop (omega (arith, next-is t g e .inside)) in
       numbered-bind (block i m u) _ (numbered-block i m u (omega arith))
       λ b q.
-      let inside = accepted-holds (Starts m u) (block i m u) b (block-starts i m u) q .inside in
+      let inside = accepted-block q .inside in
       numbered-linked b (isStreamed (b .flags)) (chain k (i + 1) (m + extent b) (drop (extent b) u))
       (numbered-chain k (i + 1) (m + extent b) (drop (extent b) u) (simp length-drop (omega arith)))
 

@@ -26,6 +26,17 @@ pub accepts-need : {A : Type 0} (P : A → Type 0) (t : Bool) (n p : ℕ) (o : O
 accepts-need P true n p o h = h refl
 accepts-need P false n p o h = tt
 
+-- what follows a choice may count on its test
+pub accepts-choice : {A : Type 0} (P : A → Type 0) (t : Bool) (x y : Outcome A) → (t ≡ true → Accepts P x) → (t ≡ false → Accepts P y)
+    → Accepts P (elim t [ true ↦ x | false ↦ y ])
+accepts-choice P true x y h k = h refl
+accepts-choice P false x y h k = k refl
+
+-- what holds of each accepted value holds of all that can be accepted
+pub accepts-each : {A : Type 0} (P : A → Type 0) (o : Outcome A) → ((a : A) → o ≡ accepted a → P a) → Accepts P o
+accepts-each P (accepted a) h = h a refl
+accepts-each P (refused r) h = tt
+
 -- what holds of both ways of a choice holds of the choice
 pub choice : {A : Type 0} (P : A → Type 0) (t : Bool) (x y : A) → P x → P y → P (elim t [ true ↦ x | false ↦ y ])
 choice P true x y h k = h

@@ -20,7 +20,7 @@ use Rattle.format.specs.File.{File, file}
 use Rattle.format.proofs.FileLaws.{blocksStart, file-parts, in-order}
 use Rattle.format.proofs.OutcomeLaws.{Accepts, accepted-holds, accepts-bind, accepts-need, found-choice}
 use Rattle.format.proofs.NextLaws.{next-is}
-use Rattle.format.proofs.BlockLaws.{Starts, block-starts}
+use Rattle.format.proofs.BlockLaws.{accepted-block}
 use Rattle.mark.specs.Mark.{MarkFound}
 use Rattle.file.specs.declared.block.BlockStep.{BlockStep}
 use Rattle.file.specs.declared.block.BlockStep.the-variants as BlockStep·is
@@ -86,8 +86,8 @@ pub record Begins (s : Bytes) (i n : ℕ) (b : Block) : Type 0 where
 
 pub block-begins : (s : Bytes) (i n : ℕ) (b : Block) → n ≤ length s → block i n (drop n s) ≡ accepted b → Begins s i n b
 block-begins s i n b h e =
-    let starts = accepted-holds (Starts n (drop n s)) (block i n (drop n s)) b (block-starts i n (drop n s)) e in
-    record { read = e; at = starts .at; inside = omega (arith, starts .inside, length-drop n s); used = starts .used }
+    let known = accepted-block e in
+    record { read = e; at = known .at; inside = omega (arith, known .inside, length-drop n s); used = known .used }
 
 -- the first mark from offset n on is at m
 module _ (i n m : ℕ) (s : Bytes) (at : m ≡ n + freeSpace (drop n s)) where
