@@ -11,11 +11,11 @@ use borrow.Author.Tests.{le-leb, lt-leb, eq-eqb, ne-eqb}
 use Rattle.format.specs.declared.block.Block.{Block}
 use Rattle.format.specs.Bytes.{Bytes}
 use Rattle.format.specs.Outcome.{accepted}
-use Rattle.format.specs.Block.{headerSize, flags, compression, allocatedSize, usedSize, dataSize, checksumHigh, checksumLow, leastHeader, leastBlock, isStreamed, isCompressed, hasChecksum, contentStart, bytesLeft, blockWith, block}
+use Rattle.format.specs.Block.{headerSize, flags, compression, allocatedSize, usedSize, dataSize, checksumHigh, checksumLow, leastHeader, leastBlock, isStreamed, isCompressed, hasChecksum, contentStart, bytesLeft, blockWith, block, soundBlock, Sound}
 use Rattle.file.specs.declared.again.Summary.{Summary}
 use Rattle.file.specs.declared.again.Content.{Content}
 use Rattle.file.specs.declared.block.BlockStep.the-variants.{Read}
-use Rattle.file.specs.Block.{FieldRead, Sound, Fault, BlockRead, soundBlock}
+use Rattle.file.specs.Block.{FieldRead, Fault, BlockRead}
 use Rattle.file.proofs.BlockLaws.{block-read}
 use Rattle.file.specs.Again.{reported, blankBlock, blockAgain, blankSummary, summaryAgain, hasContent, noContent, contentAgain}
 

@@ -3,7 +3,7 @@ use Prim.Native.Nat.{ℕ, _+_, _-_, _%_, _^_, _≤_, _<_}
 use native.Mathlib.Nat.{lt-of-lt-of-le, mod-eq-of-lt, pow-le-pow-right}
 use native.Mathlib.Omega.{arith}
 use mathlib.Core.Path.{_≡_, refl, sym, ap, _∙_}
-use mathlib.Core.Bool.{Bool, true, false, not, _||_}
+use mathlib.Core.Bool.{Bool, true, false, not, _||_, true≢false}
 use mathlib.Core.List.{_++_}
 use lib.ListN.{length, take, drop, getD, length-append, length-drop}
 use lib.Seq.{length-take-le, drop-append-add, drop-drop}
@@ -15,18 +15,16 @@ use Rattle.format.specs.declared.block.Block.{Block}
 use Rattle.format.specs.declared.refusal.Refusal.{Refusal}
 use Rattle.format.specs.Bytes.{Bytes}
 use Rattle.format.specs.Outcome.{Outcome, accepted, refused, refusal, need, _>>_}
-use Rattle.format.specs.Block.{headerSize, flags, compression, allocatedSize, dataSize, leastHeader, isStreamed, isCompressed, contentStart, blockWith, block}
+use Rattle.format.specs.Block.{headerSize, flags, compression, dataSize, leastHeader, isStreamed, isCompressed, contentStart, blockWith, block, soundBlock, Sound}
 use Rattle.format.specs.Tree.{mark}
-use Rattle.format.specs.Chain.{extent}
-use Rattle.format.proofs.OutcomeLaws.{accepted-holds}
 use Rattle.format.proofs.PackLaws.{is-bytes-take, is-bytes-drop, big-endian-lt}
-use Rattle.format.proofs.BlockLaws.{Starts, block-starts}
+use Rattle.format.proofs.BlockLaws.{sound-accepted}
 use Rattle.scan.specs.Number.{BigEndian}
 use Rattle.file.specs.declared.block.BlockStep.{BlockStep}
 use Rattle.file.specs.declared.block.BlockStep.the-variants.{Read, Refused}
 use Rattle.file.specs.declared.step.LinkStep.the-variants as LinkStep·is
 use Rattle.file.specs.Step.{blockOf}
-use Rattle.file.specs.Block.{IsField, FieldRead, HeaderRead, soundBlock, soundLink, Sound, Fault, BlockRead}
+use Rattle.file.specs.Block.{IsField, FieldRead, HeaderRead, soundLink, Fault, BlockRead}
 
 -- the number in at most eight bytes fits in 64 bits
 pub field-read : (t : Bytes) (from to r : ℕ) → ((i : ℕ) → Fits w8 (getD t i 0)) → IsField t from to → BigEndian (take (to - from) (drop from t)) r → FieldRead t from to r
@@ -115,11 +113,14 @@ module _ (t : Bytes) (left : ℕ) (header : HeaderRead t left) (a u : ℕ) (ra :
 
     -- all sizes are good
     pub sizes-good : not ok ≡ false → a ≤ left → Fault t 0
-    unfolding soundBlock
     sizes-good k q = sound t (record {
       least = header .least;
       whole = header .whole;
-      is = λ i n. data-sized i n ∙ rw (le-leb u a h, not-false ok k, le-leb a left q, soundBlock, header .plain, ra .is, ru .is);
+      sizes = λ _. record {
+        used = omega (arith, ra .is, ru .is);
+        data-size = rw (← rc .is, ← rd .is, ← ru .is, ← is) (not-false ok k);
+        allocated = omega (arith, ra .is, header .behind);
+      };
     })
 
 -- the header's size does not stand in the file
@@ -141,20 +142,10 @@ module _ (t : Bytes) (h : ℕ) (read : FieldRead t 4 6 h) (p : 6 ≤ length t) w
 module _ (t : Bytes) (h f : ℕ) (read : FieldRead t 4 6 h) (least : leastHeader ≤ h) (whole : 6 + h ≤ length t) (bits : FieldRead t 6 10 f) where
   -- a streamed block has all that is left
   pub block-streamed : f % 2 ≡ 1 → Fault t 0
-  unfolding block soundBlock
   block-streamed s = sound t (record {
     least = omega (arith, read .is);
     whole = omega (arith, read .is);
-    is = λ i n.
-        rw (
-          le-leb 6 (length t) (omega arith),
-          ← read .is,
-          le-leb leastHeader h least,
-          le-leb (6 + h) (length t) whole,
-          soundBlock,
-          ← bits .is,
-          eq-eqb (f % 2) 1 s,
-        );
+    sizes = λ k. absurd (true≢false (sym (eq-eqb (f % 2) 1 s) ∙ rw (← bits .is) at k));
   })
 
   -- of another the sizes are to be read
@@ -203,7 +194,7 @@ module _ (t : Bytes) (x : ℕ) (fault : Fault t x) where
   -- and is read
   pub block-read : (i n : ℕ) (b : Block) → b ≡ soundBlock i n t → x ≡ 0 → BlockRead i n t (Read b)
   unfolding blockOf
-  block-read i n b e h = read-any i n t (Read b) (rw (e, fault .passes h .is i n))
+  block-read i n b e h = read-any i n t (Read b) (rw (e, sound-accepted i n t (fault .passes h)))
 
 module _ (t : Bytes) (f : ℕ) (bits : FieldRead t 6 10 f) where
   -- a streamed block has all that is left
@@ -228,28 +219,9 @@ module _ (t : Bytes) (f : ℕ) (bits : FieldRead t 6 10 f) where
   unfolding soundLink
   link-plain h a rh ra s = rw (soundLink, ← bits .is, ne-eqb (f % 2) 1 s, rh .is, ra .is)
 
-module _ (i n : ℕ) (t : Bytes) where
-  -- a sound block has the flags of its header
-  pub sound-flags : soundBlock i n t .flags ≡ flags t
-  unfolding soundBlock blockWith
-  sound-flags = go (isStreamed (flags t)) refl
-    where
-      go : (y : Bool) → isStreamed (flags t) ≡ y → soundBlock i n t .flags ≡ flags t
-      go true k = rw (soundBlock, k)
-      go false k = rw (soundBlock, k)
-
-  -- one that is not streamed has the allocated size of its header
-  pub sound-extent : isStreamed (flags t) ≡ false → extent (soundBlock i n t) ≡ contentStart t + allocatedSize t
-  unfolding soundBlock blockWith
-  sound-extent k = rw (soundBlock, k)
-
-  -- it starts there
-  pub sound-starts : block i n t ≡ accepted (soundBlock i n t) → Starts n t (soundBlock i n t)
-  sound-starts = accepted-holds (Starts n t) (block i n t) (soundBlock i n t) (block-starts i n t)
-
 -- its allocated space lies in t, so the end of it fits
 pub link-fits : (t : Bytes) (f h a : ℕ) → Sound t → FieldRead t 6 10 f → FieldRead t 4 6 h → FieldRead t 14 22 a → (f % 2 ≡ 1 → ⊥) → length t < 2 ^ 64
     → Fits w64 (6 + h + a)
 link-fits t f h a s bits rh ra k l =
     let plain : isStreamed (flags t) ≡ false = rw (← bits .is) (ne-eqb (f % 2) 1 k) in
-    omega (arith, rh .is, ra .is, sound-extent 0 0 t plain, sound-starts 0 0 t (s .is 0 0) .inside)
+    omega (arith, rh .is, ra .is, s .whole, s .sizes plain .allocated)

@@ -5,7 +5,7 @@ use native.Mathlib.Omega.{arith}
 use mathlib.Core.Path.{_≡_, refl, sym, ap, subst, _∙_}
 use mathlib.Core.Bool.{Bool, true, false}
 use mathlib.Core.List.{List, [], _∷_, _++_, append-nil, map-append}
-use lib.ListN.{length, take, drop, getD, set, length-set, length-append, length-drop, length-map, drop-of-length-le}
+use lib.ListN.{length, take, drop, getD, set, length-set, length-append, length-drop, length-map}
 use lib.Seq.{set-at, append-snoc, drop-drop, drop-cons}
 use mir.Syntax.{w64}
 use mir.Val.{Fits}
@@ -15,54 +15,45 @@ use Rattle.format.specs.Bytes.{Bytes, begins, allZero}
 use Rattle.format.specs.Outcome.{Outcome, accepted, refused, refusal, _>>=_}
 use Rattle.format.specs.Comments.{indexLine}
 use Rattle.format.specs.Tree.{mark, freeSpace}
-use Rattle.format.specs.Block.{flags, allocatedSize, isStreamed, contentStart, block}
-use Rattle.format.specs.Chain.{Chain, mostBlocks, ended, linked, follows, tail, linkedAt, chain}
+use Rattle.format.specs.Block.{flags, allocatedSize, isStreamed, contentStart, block, soundBlock}
+use Rattle.format.specs.Chain.{Chain, mostBlocks, ended, linked, tail, linkedAt, chain}
 use Rattle.format.specs.File.{offsets, tableOf}
 use Rattle.format.proofs.ByteLaws.{begins-true}
-use Rattle.format.proofs.LocalLaws.{free-space-mark, free-space-stops}
-use Rattle.format.proofs.BlockLaws.{Starts}
-use Rattle.format.proofs.ChainLaws.{chain-follows}
+use Rattle.format.proofs.NextLaws.{next-index, next-none, next-mark, next-here}
+use Rattle.format.proofs.BlockLaws.{BlockIs, accepted-block, sound-accepted}
+use Rattle.format.proofs.ChainLaws.{chain-next}
 use Rattle.mark.specs.Mark.{MarkFound}
 use Rattle.file.specs.declared.step.LinkStep.{LinkStep}
 use Rattle.file.specs.declared.step.LinkStep.the-variants as LinkStep·is
 use Rattle.file.proofs.PartLaws.{part-all}
-use Rattle.file.specs.Block.{Fault, soundBlock, soundLink}
+use Rattle.file.specs.Block.{Fault, soundLink}
 use Rattle.file.specs.Chain.{onward, TailBegins, Follows, NextMark, BlockBegins, LinkIs, Chained, WalkedAlone, WalkedTo}
-use Rattle.file.proofs.BlockLaws.{sound-flags, sound-extent, sound-starts}
-
--- what begins with a mark begins no index
-mark-unindexed : (t : Bytes) → begins mark t ≡ true → begins indexLine t ≡ false
-mark-unindexed t h = ap (begins indexLine) (begins-true mark t h)
 
 module _ (s : Bytes) (n : ℕ) where
   -- a mark stands there
   pub next-at-once : (y : Bool) → y ≡ begins mark (drop n s) → y ≡ true → NextMark s n n
-  unfolding freeSpace
-  next-at-once y mark-is h =
-      let marked = sym mark-is ∙ h in
-      let free = free-space-mark (drop n s) marked in
-      record {
-        some-block = λ l. record { follows = rw (mark-unindexed (drop n s) marked, free, marked); at = omega (arith, free); inside = omega arith };
-        no-block = λ l. rw (drop-of-length-le s l);
-      }
+  next-at-once y mark-is h = record {
+    some-block = λ l.
+        record { gap = 0; next = next-here (drop n s) (sym mark-is ∙ h) (simp length-drop (omega arith)); at = omega arith; inside = omega arith };
+    no-block = λ l. next-none (drop n s) (simp length-drop (omega arith));
+  }
 
   module _ (x : Bool) (index-is : x ≡ begins indexLine (drop n s)) where
     -- what begins like an index stands there
-    pub next-index : x ≡ true → NextMark s n (length s)
-    next-index h = record { some-block = λ l. absurd (omega arith); no-block = λ l. rw (sym index-is ∙ h) }
+    pub next-at-index : x ≡ true → NextMark s n (length s)
+    next-at-index h = record { some-block = λ l. absurd (omega arith); no-block = λ l. next-index (drop n s) (sym index-is ∙ h) }
 
     -- neither does, so the first mark is searched
     pub next-found : x ≡ false → (m : ℕ) → MarkFound s n m → n ≤ length s → NextMark s n m
-    next-found h m found l =
-        let unindexed = sym index-is ∙ h in
-        record {
-          some-block = λ p.
-              let stops = free-space-stops (drop n s) (simp length-drop (omega (arith, found .is))) in
-              record { follows = rw (unindexed, stops); at = found .is; inside = omega arith };
-          no-block = λ p.
-              let all : length (drop n s) ≤ freeSpace (drop n s) = simp length-drop (omega (arith, found .is)) in
-              rw (unindexed, drop-of-length-le (drop n s) all);
-        }
+    next-found h m found l = record {
+      some-block = λ p. record {
+        gap = freeSpace (drop n s);
+        next = next-mark (drop n s) (sym index-is ∙ h) (simp length-drop (omega (arith, found .is)));
+        at = found .is;
+        inside = omega arith;
+      };
+      no-block = λ p. next-none (drop n s) (simp length-drop (omega (arith, found .is)));
+    }
 
 -- what begins like an index is not zeros only
 index-other : (t : Bytes) → begins indexLine t ≡ true → allZero t ≡ false
@@ -110,7 +101,7 @@ module _ (s : Bytes) (i n m : ℕ) (here : Follows s n m) where
   -- no block more is allowed
   pub mark-many : (r : Refusal) → r ≡ refusal 16 m → mostBlocks ≤ i → onward s i n ≡ refused r
   unfolding chain
-  mark-many r e h = let none : mostBlocks - i ≡ 0 = omega arith in rw (none, chain, here .follows, e, here .at)
+  mark-many r e h = let none : mostBlocks - i ≡ 0 = omega arith in rw (none, here .next, chain, e, here .at)
 
   module _ (few : i < mostBlocks) where
     -- a block is still allowed
@@ -118,8 +109,8 @@ module _ (s : Bytes) (i n m : ℕ) (here : Follows s n m) where
     onward-linked =
         let one-more : mostBlocks - i ≡ suc (mostBlocks - (i + 1)) = omega arith in
         ap (λ (k : ℕ). chain k i n (drop n s)) one-more
-        ∙ chain-follows (mostBlocks - (i + 1)) i n (drop n s) (here .follows)
-        ∙ ap (λ (t : Bytes). linkedAt i (n + freeSpace (drop n s)) t (chain (mostBlocks - (i + 1)) (i + 1))) (drop-drop (freeSpace (drop n s)) n s)
+        ∙ chain-next (mostBlocks - (i + 1)) i n (here .gap) (drop n s) (here .next)
+        ∙ ap (λ (t : Bytes). linkedAt i (n + here .gap) t (chain (mostBlocks - (i + 1)) (i + 1))) (drop-drop (here .gap) n s)
         ∙ ap (λ (j : ℕ). linkedAt i j (drop j s) (chain (mostBlocks - (i + 1)) (i + 1))) (sym (here .at))
 
     -- the block has a fault
@@ -136,24 +127,24 @@ module _ (s : Bytes) (i n m : ℕ) (here : Follows s n m) where
     mark-block x r fault h z = subst (LinkIs s i n m) (sym (h ∙ ap soundLink (part-all s m))) (go (isStreamed (flags (drop m s))) refl)
       where
         read : block i m (drop m s) ≡ accepted (soundBlock i m (drop m s))
-        read = rw (part-all s m) at (fault .passes z .is i m)
+        read = sound-accepted i m (drop m s) (rw (part-all s m) at (fault .passes z))
 
-        starts : Starts m (drop m s) (soundBlock i m (drop m s))
-        starts = sound-starts i m (drop m s) read
+        known : BlockIs i m (drop m s) (soundBlock i m (drop m s))
+        known = accepted-block read
 
         go : (y : Bool) → isStreamed (flags (drop m s)) ≡ y
             → LinkIs s i n m (elim y [ true ↦ LinkStep·is.Streamed | false ↦ LinkStep·is.Block (contentStart (drop m s) + allocatedSize (drop m s)) ])
         go true k =
-            record { first = soundBlock i m (drop m s); is = onward-linked ∙ rw (read, linkedAt, sound-flags i m (drop m s), k); at = starts .at; few = few }
+            record { first = soundBlock i m (drop m s); is = onward-linked ∙ rw (read, linkedAt, known .same-flags, k); at = known .at; few = few }
         go false k =
-            let size = sound-extent i m (drop m s) k in (
+            let size = known .plain k in (
               record {
                 first = soundBlock i m (drop m s);
-                is = onward-linked ∙ rw (read, linkedAt, sound-flags i m (drop m s), k, size, drop-drop (contentStart (drop m s) + allocatedSize (drop m s)) m s);
-                at = starts .at;
+                is = onward-linked ∙ rw (read, linkedAt, known .same-flags, k, size, drop-drop (contentStart (drop m s) + allocatedSize (drop m s)) m s);
+                at = known .at;
                 few = few;
               },
-              omega (arith, starts .inside, size, length-drop m s, here .inside),
+              omega (arith, known .inside, size, length-drop m s, here .inside),
             )
 
 -- a chain with these blocks in front

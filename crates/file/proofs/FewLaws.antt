@@ -9,15 +9,14 @@ use Rattle.format.specs.declared.block.Record.{Record}
 use Rattle.format.specs.declared.row.Row.{Row}
 use Rattle.format.specs.Bytes.{Bytes}
 use Rattle.format.specs.Outcome.{Outcome, accepted, refused, _>>=_}
-use Rattle.format.specs.Tree.{freeSpace}
 use Rattle.format.specs.Block.{isStreamed, block}
-use Rattle.format.specs.Chain.{Chain, mostBlocks, extent, ended, linked, isTail, follows, tail, linkedAt, chain}
+use Rattle.format.specs.Chain.{Chain, mostBlocks, extent, ended, linked, isTail, nextBlock, tail, linkedAt, chain}
 use Rattle.format.specs.File.{file}
 use Rattle.format.specs.Nest.{deepest, contentAt, contentOf, isFile, Inside, inside, opened, walked, walk, walkFile, recordsFrom, records}
 use Rattle.format.specs.Outline.{rowOf, rows}
 use Rattle.format.proofs.FileLaws.{blocksStart, file-parts}
-use Rattle.format.proofs.OutcomeLaws.{Accepts, accepted-holds, accepts-bind, accepts-need, choice}
-use Rattle.format.proofs.BlockLaws.{Starts, block-starts}
+use Rattle.format.proofs.OutcomeLaws.{Accepts, accepted-holds, accepts-bind, accepts-need, choice, found-choice}
+use Rattle.format.proofs.BlockLaws.{BlockIs, accepted-block}
 
 -- how many bytes blocks take at least: their headers and contents
 abbrev taken : List Block → ℕ
@@ -34,11 +33,11 @@ unfolding tail
 tail-lies n t = accepts-need (LieIn t) (isTail t) 17 n (accepted (ended t)) λ h. omega arith
 
 -- a block in front of others, or of none where it is streamed
-linked-lies : (n : ℕ) (t : Bytes) (b : Block) (streamed : Bool) (o : Outcome Chain) → Starts n t b → Accepts (LieIn (drop (extent b) t)) o
+linked-lies : (i n : ℕ) (t : Bytes) (b : Block) (streamed : Bool) (o : Outcome Chain) → BlockIs i n t b → Accepts (LieIn (drop (extent b) t)) o
     → Accepts (LieIn t) (_>>=_ (elim streamed [ true ↦ accepted (ended []) | false ↦ o ]) (λ c. accepted (linked b c)))
-linked-lies n t b true o h hs = omega (arith, h .header-least, h .inside, h .used)
-linked-lies n t b false (accepted c) h hs = omega (arith, h .header-least, h .inside, h .used, length-drop (extent b) t)
-linked-lies n t b false (refused r) h hs = tt
+linked-lies i n t b true o h hs = omega (arith, h .header-least, h .inside, h .used)
+linked-lies i n t b false (accepted c) h hs = omega (arith, h .header-least, h .inside, h .used, length-drop (extent b) t)
+linked-lies i n t b false (refused r) h hs = tt
 
 -- what lies in a part of t lies in t
 lies-after : (t : Bytes) (g : ℕ) (o : Outcome Chain) → Accepts (LieIn (drop g t)) o → Accepts (LieIn t) o
@@ -51,19 +50,17 @@ linked-at-lies : (i n : ℕ) (t : Bytes) (others : ℕ → Bytes → Outcome Cha
 unfolding linkedAt
 linked-at-lies i n t others h =
     accepts-bind (LieIn t) (block i n t) _ λ b e.
-    linked-lies n t b (isStreamed (b .flags)) (others (n + extent b) (drop (extent b) t))
-    (accepted-holds (Starts n t) (block i n t) b (block-starts i n t) e)
+    linked-lies i n t b (isStreamed (b .flags)) (others (n + extent b) (drop (extent b) t))
+    (accepted-block e)
     (h (n + extent b) (drop (extent b) t))
 
 -- the blocks of every chain
 chain-lies : (k i n : ℕ) (t : Bytes) → Accepts (LieIn t) (chain k i n t)
 unfolding chain
-chain-lies zero i n t = choice (Accepts (LieIn t)) (follows t) _ _ tt (tail-lies n t)
+chain-lies zero i n t = found-choice (Accepts (LieIn t)) (nextBlock t) _ _ (λ e. tail-lies n t) (λ g e. tt)
 chain-lies (suc k) i n t =
-    choice (Accepts (LieIn t)) (follows t) _ _
-    (lies-after t (freeSpace t) (linkedAt i (n + freeSpace t) (drop (freeSpace t) t) (chain k (i + 1)))
-    (linked-at-lies i (n + freeSpace t) (drop (freeSpace t) t) (chain k (i + 1)) (chain-lies k (i + 1))))
-    (tail-lies n t)
+    found-choice (Accepts (LieIn t)) (nextBlock t) _ _ (λ e. tail-lies n t)
+    λ g e. lies-after t g (linkedAt i (n + g) (drop g t) (chain k (i + 1))) (linked-at-lies i (n + g) (drop g t) (chain k (i + 1)) (chain-lies k (i + 1)))
 
 -- for each record there are 54 bytes
 abbrev pub Few : Bytes → List Record → Type 0

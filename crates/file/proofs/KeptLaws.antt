@@ -12,13 +12,12 @@ use Rattle.format.specs.declared.block.Block.{Block}
 use Rattle.format.specs.declared.refusal.Refusal.{Refusal}
 use Rattle.format.specs.Bytes.{Bytes}
 use Rattle.format.specs.Outcome.{Outcome, accepted, refused, _>>=_}
-use Rattle.format.specs.Tree.{freeSpace}
 use Rattle.format.specs.Block.{isStreamed, block}
-use Rattle.format.specs.Chain.{Chain, mostBlocks, extent, ended, linked, follows, tail, linkedAt, chain}
-use Rattle.format.specs.File.{offsets, tableOf, file, blockAt}
+use Rattle.format.specs.Chain.{Chain, mostBlocks, extent, ended, linked, nextBlock, tail, linkedAt, chain}
+use Rattle.format.specs.File.{offsets, tableOf, body, file, blockAt}
 use Rattle.format.specs.Answer.{blockAnswer}
-use Rattle.format.proofs.OutcomeLaws.{Accepts, accepted-holds, accepts-bind, accepts-need, choice}
-use Rattle.format.proofs.BlockLaws.{Starts, block-starts}
+use Rattle.format.proofs.OutcomeLaws.{Accepts, accepted-holds, accepts-bind, accepts-need, found-choice}
+use Rattle.format.proofs.BlockLaws.{accepted-block}
 use Rattle.file.specs.declared.block.BlockStep.{BlockStep}
 use Rattle.file.specs.declared.block.BlockStep.the-variants as BlockStep·is
 use Rattle.file.specs.Step.{blockOf}
@@ -27,9 +26,9 @@ use Rattle.file.specs.Layout.{Kept}
 use Rattle.file.proofs.PartLaws.{part-all}
 
 -- b is read as block i where it begins
-record IsBlock (s : Bytes) (i : ℕ) (b : Block) : Type 0 where
-  read : block i (b .at .0) (drop (b .at .0) s) ≡ accepted b
-  inside : b .at .0 ≤ length s
+pub record IsBlock (s : Bytes) (i : ℕ) (b : Block) : Type 0 where
+  pub read : block i (b .at .0) (drop (b .at .0) s) ≡ accepted b
+  pub inside : b .at .0 ≤ length s
 
 -- and a list of such blocks, the first of which is number i
 abbrev AreBlocks : Bytes → ℕ → List Block → Type 0
@@ -43,8 +42,8 @@ ChainBlocks s i c = AreBlocks s i (c .blocks)
 -- a block that is read at an offset begins there
 block-is : (s : Bytes) (i n : ℕ) (b : Block) → block i n (drop n s) ≡ accepted b → IsBlock s i b
 block-is s i n b h =
-    let starts = accepted-holds (Starts n (drop n s)) (block i n (drop n s)) b (block-starts i n (drop n s)) h in
-    record { read = ap (λ (m : ℕ). block i m (drop m s)) (starts .at) ∙ h; inside = omega (arith, starts .at, starts .inside, length-drop n s) }
+    let known = accepted-block h in
+    record { read = ap (λ (m : ℕ). block i m (drop m s)) (known .at) ∙ h; inside = omega (arith, known .at, known .inside, length-drop n s) }
 
 -- a block in front of others, or of none where it is streamed
 linked-blocks : (s : Bytes) (i : ℕ) (b : Block) (streamed : Bool) (o : Outcome Chain) → IsBlock s i b → Accepts (ChainBlocks s (i + 1)) o
@@ -70,27 +69,25 @@ linked-at-blocks s i m others h =
 -- every block of a chain is read where it begins
 chain-blocks : (s : Bytes) (k i n : ℕ) → Accepts (ChainBlocks s i) (chain k i n (drop n s))
 unfolding chain
-chain-blocks s zero i n = choice (Accepts (ChainBlocks s i)) (follows (drop n s)) _ _ tt (tail-blocks s i n (drop n s))
+chain-blocks s zero i n = found-choice (Accepts (ChainBlocks s i)) (nextBlock (drop n s)) _ _ (λ e. tail-blocks s i n (drop n s)) (λ g e. tt)
 chain-blocks s (suc k) i n =
-    let g = freeSpace (drop n s) in
-    choice (Accepts (ChainBlocks s i)) (follows (drop n s)) _ _
-    (rw (drop-drop g n s) (linked-at-blocks s i (n + g) (chain k (i + 1)) (chain-blocks s k (i + 1))))
-    (tail-blocks s i n (drop n s))
+    found-choice (Accepts (ChainBlocks s i)) (nextBlock (drop n s)) _ _ (λ e. tail-blocks s i n (drop n s))
+    λ g e. rw (drop-drop g n s) (linked-at-blocks s i (n + g) (chain k (i + 1)) (chain-blocks s k (i + 1)))
 
 -- and so is every block of a file
 file-blocks : (s : Bytes) → Accepts (λ f. AreBlocks s 0 (f .blocks)) (file s)
-unfolding file
+unfolding file body
 file-blocks s = search (accepts-need, accepts-bind, blocks) depth 12
   where
     blocks : (m : ℕ) (c : Chain) → chain mostBlocks 0 m (drop m s) ≡ accepted c → AreBlocks s 0 (c .blocks)
     blocks m c = accepted-holds (ChainBlocks s 0) (chain mostBlocks 0 m (drop m s)) c (chain-blocks s mostBlocks 0 m)
 
 -- element j of these blocks is block k of s
-record BlockAt (s : Bytes) (bs : List Block) (j k : ℕ) : Type 0 where
-  b : Block
-  found : getElem? bs j ≡ some b
-  at : getD (offsets bs) j 0 ≡ b .at .0
-  is : IsBlock s k b
+pub record BlockAt (s : Bytes) (bs : List Block) (j k : ℕ) : Type 0 where
+  pub b : Block
+  pub found : getElem? bs j ≡ some b
+  pub at : getD (offsets bs) j 0 ≡ b .at .0
+  pub is : IsBlock s k b
 
 -- each has its element
 element : (s : Bytes) (i : ℕ) (bs : List Block) → AreBlocks s i bs → (j : ℕ) → j < length bs → (k : ℕ) → k ≡ i + j → BlockAt s bs j k
@@ -122,12 +119,12 @@ module _ (s out : Bytes) (count : ℕ) (kept : Kept s out count) (j : ℕ) where
 
   module _ (h : j < count) where
     -- it has one
-    kept-block : BlockAt s (kept .f .blocks) j j
+    pub kept-block : BlockAt s (kept .f .blocks) j j
     kept-block =
         element s 0 (kept .f .blocks) (accepted-holds _ (file s) (kept .f) (file-blocks s) (kept .is)) j (omega (arith, kept .count)) j (omega arith)
 
     -- where it begins is kept
-    kept-at : getD out j 0 ≡ kept-block .b .at .0
+    pub kept-at : getD out j 0 ≡ kept-block .b .at .0
     kept-at = sym (getD-take count out j 0 h) ∙ ap (λ (l : List ℕ). getD l j 0) (kept .begin) ∙ kept-block .at
 
     -- among n of them

@@ -4,7 +4,7 @@ use native.Mathlib.Omega.{arith}
 use mathlib.Core.Path.{_≡_, refl, sym, ap, _∙_}
 use mathlib.Core.List.{List}
 use mathlib.Core.Bool.{Bool, true, false, not}
-use lib.ListN.{length, take, drop, replicate, drop-of-length-le, length-drop}
+use lib.ListN.{length, take, drop, replicate, drop-of-length-le, length-drop, length-replicate, length-append, length-map}
 use lib.Seq.{drop-cons}
 use borrow.Author.Tests.{le-leb, lt-leb, not-true, not-false}
 use Rattle.format.specs.declared.answer.LayoutAnswer.{LayoutAnswer}
@@ -26,8 +26,10 @@ use Rattle.format.specs.Comments.{comments}
 use Rattle.format.specs.Tree.{tree, mark}
 use Rattle.format.specs.Chain.{Chain, mostBlocks, chain}
 use Rattle.format.specs.Index.{indexed, judged, verdict}
-use Rattle.format.specs.File.{File, mostBytes, firstBlock, goesOn, offsets, tableOf, file, offsetTable, layoutOf, layout, blockAt}
+use Rattle.format.specs.File.{File, mostBytes, firstBlock, goesOn, offsets, tableOf, body, file, offsetTable, layoutOf, layout, blockAt}
 use Rattle.format.specs.Answer.{layoutAnswer, blockAnswer}
+use Rattle.format.proofs.ChainLaws.{blocks-few}
+use Rattle.format.proofs.FileLaws.{blocksStart, file-parts}
 use Rattle.format.proofs.ReadLaws.{header-bounds, comments-bounds, first-block-bounds}
 use Rattle.front.specs.declared.step.HeaderStep.{HeaderStep}
 use Rattle.front.specs.declared.step.HeaderStep.the-variants as HeaderStep·is
@@ -65,7 +67,7 @@ module _ {A : Type 0} (o : Outcome File) (p : Outcome A) (then : A → Outcome F
 
 -- a file that is short enough is read from its header on
 file-begins : (s : Bytes) → length s ≤ mostBytes → file s ≡ _>>=_ (header s) (behindHeader s)
-unfolding file behindHeader behindComments behindTree withBlocks
+unfolding file body behindHeader behindComments behindTree withBlocks
 file-begins s h = rw (le-leb (length s) mostBytes h, file)
 
 -- a file that is too long is refused
@@ -278,6 +280,18 @@ module _ (s : Bytes) (before out : List ℕ) (a : LayoutAnswer) (judged : Judged
           absurd (omega arith)
 
   -- that of a refused one has only zeros
-  pub table-refused : (r : Refusal) → a ≡ LayoutAnswer·is.Refused r → replicate mostBlocks 0 ≡ offsetTable before (file s)
+  pub table-refused : (r : Refusal) → a ≡ LayoutAnswer·is.Refused r → (x after : List ℕ) → after ≡ replicate (length x) 0 → length x ≡ mostBlocks
+      → after ≡ offsetTable before (file s)
   unfolding offsetTable
-  table-refused r e = rw (file-refused s a (layout-judged s before out a judged) r e)
+  table-refused r e x after cleared size = rw (file-refused s a (layout-judged s before out a judged) r e, cleared, size)
+
+-- a table keeps its length
+pub table-size : (s : Bytes) (before out : List ℕ) → out ≡ offsetTable before (file s) → length before ≡ mostBlocks → length out ≡ mostBlocks
+unfolding offsetTable
+table-size s before out is room = ap length is ∙ go (file s) refl
+  where
+    go : (o : Outcome File) → file s ≡ o → length (offsetTable before o) ≡ mostBlocks
+    go (refused r) e = length-replicate {A = ℕ} mostBlocks 0
+    go (accepted f) e =
+        let few = blocks-few mostBlocks 0 (blocksStart f) _ (drop (blocksStart f) s) (file-parts s f e .chain-read) in
+        rw (length-append, length-map, length-drop) (omega arith)

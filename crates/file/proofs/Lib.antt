@@ -5,4 +5,5 @@ pub mod AgainLaws
 pub mod ChainLaws
 pub mod FewLaws
 pub mod KeptLaws
+pub mod EachLaws
 pub mod LayoutLaws

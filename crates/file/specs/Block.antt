@@ -6,9 +6,9 @@ use mathlib.Core.List.{_++_}
 use lib.ListN.{length, drop}
 use Rattle.format.specs.declared.block.Block.{Block}
 use Rattle.format.specs.Bytes.{Bytes, number}
-use Rattle.format.specs.Outcome.{accepted, refused, refusal}
+use Rattle.format.specs.Outcome.{refused, refusal}
 use Rattle.format.specs.Tree.{mark}
-use Rattle.format.specs.Block.{headerSize, flags, allocatedSize, usedSize, dataSize, leastHeader, isStreamed, contentStart, bytesLeft, blockWith, block}
+use Rattle.format.specs.Block.{headerSize, flags, allocatedSize, leastHeader, isStreamed, contentStart, bytesLeft, block, Sound}
 use Rattle.file.specs.declared.block.BlockStep.{BlockStep}
 use Rattle.file.specs.Step.{blockOf}
 use Rattle.file.specs.declared.step.LinkStep.{LinkStep}
@@ -32,23 +32,9 @@ pub record HeaderRead (t : Bytes) (left : ℕ) : Type 0 where
   pub plain : isStreamed (flags t) ≡ false
   pub behind : left ≡ bytesLeft t
 
--- block i at offset n, where nothing is wrong with it
-unfoldable pub soundBlock : ℕ → ℕ → Bytes → Block
-soundBlock i n t =
-    elim (isStreamed (flags t)) [
-      | true ↦ blockWith i n t (bytesLeft t) (bytesLeft t) (bytesLeft t)
-      | false ↦ blockWith i n t (allocatedSize t) (usedSize t) (dataSize t)
-    ]
-
--- how it leads on
+-- how a block that nothing is wrong with leads on
 unfoldable pub soundLink : Bytes → LinkStep
 soundLink t = elim (isStreamed (flags t)) [ true ↦ LinkStep·is.Streamed | false ↦ LinkStep·is.Block (contentStart t + allocatedSize t) ]
-
--- t begins with a block that nothing is wrong with
-pub record Sound (t : Bytes) : Type 0 where
-  pub least : leastHeader ≤ headerSize t
-  pub whole : contentStart t ≤ length t
-  pub is : (i n : ℕ) → block i n t ≡ accepted (soundBlock i n t)
 
 -- r is the number that refuses the block that t begins with, or 0
 pub record Fault (t : Bytes) (r : ℕ) : Type 0 where

@@ -3,12 +3,12 @@ use Prim.Native.Nat.{ℕ, _+_, _-_, _≤_, _<_}
 use mathlib.Core.Path.{_≡_}
 use mathlib.Core.Bool.{Bool, true, false}
 use mathlib.Core.List.{List, []}
+use mathlib.Core.Option.{none, some}
 use lib.ListN.{length, drop}
 use Rattle.format.specs.declared.block.Block.{Block}
 use Rattle.format.specs.Bytes.{Bytes, allZero}
 use Rattle.format.specs.Outcome.{Outcome, accepted, refused, _>>=_}
-use Rattle.format.specs.Tree.{freeSpace}
-use Rattle.format.specs.Chain.{Chain, mostBlocks, ended, linked, chain, follows as Chain·follows}
+use Rattle.format.specs.Chain.{Chain, mostBlocks, ended, linked, nextBlock, chain}
 use Rattle.format.specs.File.{tableOf}
 use Rattle.file.specs.declared.step.LinkStep.{LinkStep}
 use Rattle.file.specs.declared.step.LinkStep.the-variants as LinkStep·is
@@ -26,14 +26,15 @@ pub record TailBegins (s : Bytes) (i n : ℕ) (zeros : Bool) : Type 0 where
 
 -- a block follows there, at the mark m
 pub record Follows (s : Bytes) (n m : ℕ) : Type 0 where
-  pub follows : Chain·follows (drop n s) ≡ true
-  pub at : m ≡ n + freeSpace (drop n s)
+  pub gap : ℕ
+  pub next : nextBlock (drop n s) ≡ some gap
+  pub at : m ≡ n + gap
   pub inside : m ≤ length s
 
 -- m is the mark of the block that follows there, or the end where none follows
 pub record NextMark (s : Bytes) (n m : ℕ) : Type 0 where
   pub some-block : m < length s → Follows s n m
-  pub no-block : length s ≤ m → Chain·follows (drop n s) ≡ false
+  pub no-block : length s ≤ m → nextBlock (drop n s) ≡ none
 
 -- a block follows there, at the mark m, and after it the chain o
 pub record BlockBegins (s : Bytes) (i n m : ℕ) (o : Outcome Chain) : Type 0 where

@@ -1,25 +1,27 @@
 -- The blocks of a chain, with the space between them, are a front part of the bytes, and the same with another tail after the last of them.
 use Prim.Native.Nat.{ℕ, zero, suc, _+_, _≤_}
 use mathlib.Core.Path.{_≡_, refl, sym, ap, subst, _∙_}
-use mathlib.Core.Bool.{Bool, true, false, not, _&&_, _||_, or-false, true≢false}
+use mathlib.Core.Bool.{Bool, true, false, not, _&&_, true≢false}
 use mathlib.Core.List.{List, [], _∷_, _++_, append-nil, append-assoc}
+use mathlib.Core.Option.{some}
 use native.Mathlib.Omega.{arith}
 use lib.ListN.{length, take, drop, length-append, length-drop, take-append-drop}
-use lib.Seq.{length-take-le, take-append-seam, drop-append-seam, take-append-le, drop-append-le, drop-length, take-at, drop-at, drop-drop}
+use lib.Seq.{length-take-le, take-append-seam, drop-append-seam, take-append-le, drop-append-le, take-at, drop-at, drop-drop}
 use lib.Dec.{eqb, leb}
-use borrow.Author.Tests.{leb-true, le-leb, not-true}
+use borrow.Author.Tests.{leb-true}
 use Rattle.format.specs.declared.block.Block.{Block}
-use Rattle.format.specs.Bytes.{Bytes, begins, allZero}
+use Rattle.format.specs.Bytes.{Bytes, begins}
 use Rattle.format.specs.Outcome.{Outcome, accepted, refused, _>>=_}
-use Rattle.format.specs.Block.{headerSize, flags, compression, allocatedSize, usedSize, dataSize, leastHeader, isStreamed, contentStart, bytesLeft, blockWith, block}
+use Rattle.format.specs.Block.{flags, isStreamed, blockWith, block, soundBlock, Sound}
 use Rattle.format.specs.Comments.{indexLine}
 use Rattle.format.specs.Tree.{mark, freeSpace}
-use Rattle.format.specs.Chain.{Chain, extent, isTail, ended, linked, follows, tail, linkedAt, chain, blocksEnd}
+use Rattle.format.specs.Chain.{Chain, extent, isTail, ended, linked, nextBlock, tail, linkedAt, chain, blocksEnd}
 use Rattle.format.specs.IndexWriter.{mayHaveIndex}
-use Rattle.format.proofs.OutcomeLaws.{Accepts, accepted-holds, accepts-bind, accepts-need}
-use Rattle.format.proofs.ByteLaws.{and-left, and-right, all-zero-true, lacks-replicate}
-use Rattle.format.proofs.ReadLaws.{accepts-choice, Between, free-space-bounds}
-use Rattle.format.proofs.LocalLaws.{free-space-all, free-space-again}
+use Rattle.format.proofs.OutcomeLaws.{Accepts, accepted-holds, accepts-bind, accepts-need, found-choice}
+use Rattle.format.proofs.ReadLaws.{Between}
+use Rattle.format.proofs.LocalLaws.{free-space-again}
+use Rattle.format.proofs.BlockLaws.{BlockIs, accepted-block, sound-accepted}
+use Rattle.format.proofs.NextLaws.{Next, next-is, next-tail, next-mark}
 
 -- a field in the first 54 bytes is the same with anything behind them
 header-field : (p y z : Bytes) → 54 ≤ length p → (n w : ℕ) → leb (n + w) 54 ≡ true → take w (drop n (p ++ y)) ≡ take w (drop n (p ++ z))
@@ -29,87 +31,27 @@ header-field p y z h n w q =
     let room : w ≤ length (drop n p) = simp length-drop (omega arith) in
     rw (drop-append-le n p y, drop-append-le n p z, take-append-le w (drop n p) y, take-append-le w (drop n p) z)
 
--- t begins with the block b, and it is not streamed
-record Plain (i n : ℕ) (t : Bytes) (b : Block) : Type 0 where
-  header-least : leb leastHeader (headerSize t) ≡ true
-  streamed : isStreamed (flags t) ≡ false
-  used : leb (usedSize t) (allocatedSize t) ≡ true
-  data-size : (not (eqb (compression t) 0) || eqb (dataSize t) (usedSize t)) ≡ true
-  inside : contentStart t + allocatedSize t ≤ length t
-  numbers : blockWith i n t (allocatedSize t) (usedSize t) (dataSize t) ≡ b
-
-module _ {i n : ℕ} {t : Bytes} {b : Block} (h : Plain i n t b) where
-  -- a block that is not streamed ends behind its allocated space
-  plain-extent : extent b ≡ contentStart t + allocatedSize t
-  unfolding blockWith
-  plain-extent = ap extent (sym (h .numbers))
-
-  -- and is at least as long as its header
-  plain-least : 54 ≤ extent b
-  plain-least = omega (arith, leb-true leastHeader (headerSize t) (h .header-least), plain-extent)
-
--- bytes that are as long as the block that they begin with do so with anything behind
-plain-again : (i n : ℕ) (p y z : Bytes) (b : Block) → length p ≡ extent b → Plain i n (p ++ z) b → Plain i n (p ++ y) b
-unfolding blockWith
-plain-again i n p y z b size h =
-    let same-fields = header-field p y z (omega (arith, plain-least h)) in
-    record {
-      header-least = simp same-fields (h .header-least);
-      streamed = simp same-fields (h .streamed);
-      used = simp same-fields (h .used);
-      data-size = simp same-fields (h .data-size);
-      inside = simp (same-fields, length-append) (omega (arith, plain-extent h));
-      numbers = simp same-fields (h .numbers);
-    }
-
--- such a block is accepted: its tests hold
-plain-block : (i n : ℕ) (t : Bytes) (b : Block) → Plain i n t b → block i n t ≡ accepted b
-unfolding block
-plain-block i n t b h =
-    rw (
-      le-leb 6 (length t) (omega (arith, h .inside)),
-      h .header-least,
-      le-leb (contentStart t) (length t) (omega (arith, h .inside)),
-      h .streamed,
-      h .used,
-      h .data-size,
-      le-leb (allocatedSize t) (bytesLeft t) (omega (arith, h .inside)),
-    ) (ap accepted (h .numbers))
-
--- t begins with the block b: all of t belongs to it if it is streamed
-record Begun (i n : ℕ) (t : Bytes) (b : Block) : Type 0 where
-  at : b .at .0 ≡ n
-  streamed : isStreamed (b .flags) ≡ true → extent b ≡ length t
-  plain : isStreamed (b .flags) ≡ false → Plain i n t b
-
-module _ (i n : ℕ) (t : Bytes) (least : leb leastHeader (headerSize t) ≡ true) (content : leb (contentStart t) (length t) ≡ true) where
-  -- a streamed block, where its tests hold
-  streamed-begun : isStreamed (flags t) ≡ true → Begun i n t (blockWith i n t (bytesLeft t) (bytesLeft t) (bytesLeft t))
-  unfolding blockWith
-  streamed-begun h = record {
-    at = refl;
-    streamed = λ q. omega (arith, leb-true (contentStart t) (length t) content);
-    plain = λ q. absurd (true≢false (sym h ∙ q));
-  }
-
-  -- a block that is not streamed, where its tests hold
-  plain-begun : isStreamed (flags t) ≡ false → leb (usedSize t) (allocatedSize t) ≡ true
-      → (not (eqb (compression t) 0) || eqb (dataSize t) (usedSize t)) ≡ true → leb (allocatedSize t) (bytesLeft t) ≡ true
-      → Begun i n t (blockWith i n t (allocatedSize t) (usedSize t) (dataSize t))
-  unfolding blockWith
-  plain-begun h used size allocated =
-      let before : contentStart t ≤ length t = leb-true _ _ content in
-      let room : allocatedSize t ≤ bytesLeft t = leb-true _ _ allocated in
-      record {
-        at = refl;
-        streamed = λ q. absurd (true≢false (sym q ∙ h));
-        plain = λ q. record { header-least = least; streamed = h; used = used; data-size = size; inside = omega arith; numbers = refl };
-      }
-
--- where a block is accepted, t begins with it
-block-begun : (i n : ℕ) (t : Bytes) → Accepts (Begun i n t) (block i n t)
-unfolding block
-block-begun i n t = search (accepts-need, accepts-choice (Begun i n t) (isStreamed (flags t)), streamed-begun, plain-begun) depth 12
+-- a block that is not streamed is the same with anything after its allocated space
+block-again : (i n : ℕ) (p y z : Bytes) (b : Block) → length p ≡ extent b → isStreamed (b .flags) ≡ false
+    → block i n (p ++ z) ≡ accepted b → block i n (p ++ y) ≡ accepted b
+unfolding soundBlock blockWith
+block-again i n p y z b size plain read =
+    let known = accepted-block read in
+    let streamed : isStreamed (flags (p ++ z)) ≡ false = rw (← known .same-flags) plain in
+    let sizes = known .sound .sizes streamed in
+    let extent-is = known .plain streamed in
+    let same-fields = header-field p y z (omega (arith, known .header-least)) in
+    let sound : Sound (p ++ y) = record {
+      least = simp same-fields (known .sound .least);
+      whole = simp (same-fields, length-append) (omega arith);
+      sizes = λ k. record {
+        used = simp same-fields (sizes .used);
+        data-size = simp same-fields (sizes .data-size);
+        allocated = simp (same-fields, length-append) (omega arith);
+      };
+    } in
+    let same-block : soundBlock i n (p ++ y) ≡ soundBlock i n (p ++ z) = simp (soundBlock, same-fields, streamed) in
+    sound-accepted i n (p ++ y) sound ∙ ap accepted (same-block ∙ sym (known .is))
 
 -- the blocks of c, at most k, with the space between them are a front part of t and its tail is the rest; they are the same with
 -- another tail if, of a block b and them, the last is not streamed
@@ -122,22 +64,11 @@ record ChainFront (k i n : ℕ) (t : Bytes) (c : Chain) : Type 0 where
   local : (b : Block) → mayHaveIndex (b ∷ c .blocks) ≡ true → (y : Bytes) → isTail y ≡ true
       → chain k i n (front ++ y) ≡ accepted (record { blocks = c .blocks; tail = y })
 
--- no block follows in a tail
-tail-unfollowed : (y : Bytes) → isTail y ≡ true → follows y ≡ false
-tail-unfollowed y h = go (begins indexLine y) refl
-  where
-    go : (x : Bool) → begins indexLine y ≡ x → follows y ≡ false
-    go true e = rw e
-    go false e =
-        let zeros : allZero y ≡ true = sym (or-false (allZero y)) ∙ rw e at h in
-        let free = free-space-all y (rw (all-zero-true y zeros) (lacks-replicate 0xD3 0 (length y) refl)) in
-        rw (e, free, drop-length)
-
 -- a tail is a chain of no blocks
 no-blocks : (k i n : ℕ) (y : Bytes) → isTail y ≡ true → chain k i n y ≡ accepted (ended y)
 unfolding chain tail
-no-blocks zero i n y h = rw (tail-unfollowed y h, chain, h)
-no-blocks (suc k) i n y h = rw (tail-unfollowed y h, chain, h)
+no-blocks zero i n y h = rw (next-tail y h, chain, tail, h)
+no-blocks (suc k) i n y h = rw (next-tail y h, chain, tail, h)
 
 -- a tail is the rest of no blocks
 tail-front : (k i n : ℕ) (t : Bytes) → Accepts (ChainFront k i n t) (tail n t)
@@ -147,18 +78,20 @@ tail-front k i n t = search (accepts-need, nothing)
     nothing : ChainFront k i n t (ended t)
     nothing = record { front = []; whole = refl; end = omega arith; few = omega arith; marked = λ h. absurd (true≢false (sym h)); local = λ b h. no-blocks k i n }
 
--- a streamed block is all that is left
-streamed-front : (k i n : ℕ) (t : Bytes) (b : Block) → freeSpace t ≤ length t → Begun i (n + freeSpace t) (drop (freeSpace t) t) b
-    → isStreamed (b .flags) ≡ true → ChainFront (suc k) i n t (linked b (ended []))
+-- a streamed block, after g bytes, is all that is left
+streamed-front : (k i n g : ℕ) (t : Bytes) (b : Block) → g ≤ length t → block i (n + g) (drop g t) ≡ accepted b → isStreamed (b .flags) ≡ true
+    → ChainFront (suc k) i n t (linked b (ended []))
 unfolding blocksEnd mayHaveIndex
-streamed-front k i n t b g h s = record {
-  front = t;
-  whole = sym (append-nil t);
-  end = omega (arith, h .at, h .streamed s, length-drop (freeSpace t) t);
-  few = omega arith;
-  marked = λ q. absurd (true≢false (sym q ∙ ap not s));
-  local = λ a q. absurd (true≢false (sym q ∙ ap not s));
-}
+streamed-front k i n g t b l read s =
+    let known = accepted-block read in
+    record {
+      front = t;
+      whole = sym (append-nil t);
+      end = omega (arith, known .at, known .streamed (rw (← known .same-flags) s), length-drop g t);
+      few = omega arith;
+      marked = λ q. absurd (true≢false (sym q ∙ ap not s));
+      local = λ a q. absurd (true≢false (sym q ∙ ap not s));
+    }
 
 -- what begins with p does so with anything behind the first bytes
 begins-front : (p s y z : Bytes) → length p ≤ length s → begins p (s ++ y) ≡ begins p (s ++ z)
@@ -167,32 +100,36 @@ begins-front (a ∷ p) [] y z h = absurd (omega arith)
 begins-front (a ∷ p) (b ∷ s) y z h = ap (λ (x : Bool). eqb a b && x) (begins-front p s y z (omega arith))
 
 -- where a block follows, the chain goes on at its mark
-pub chain-follows : (k i n : ℕ) (t : Bytes) → follows t ≡ true → chain (suc k) i n t ≡ linkedAt i (n + freeSpace t) (drop (freeSpace t) t) (chain k (i + 1))
+pub chain-next : (k i n g : ℕ) (t : Bytes) → nextBlock t ≡ some g → chain (suc k) i n t ≡ linkedAt i (n + g) (drop g t) (chain k (i + 1))
 unfolding chain
-chain-follows k i n t h = rw (h, chain)
+chain-next k i n g t h = rw (h, chain)
 
 -- after q, in which no mark begins, stands the block b, which is p
 module _ (k i n : ℕ) (q p z : Bytes) (b : Block) (size : length p ≡ extent b) (unindexed : begins indexLine (q ++ (p ++ z)) ≡ false)
     (free : freeSpace (q ++ (p ++ z)) ≡ length q) (marked : begins mark (p ++ z) ≡ true)
-    (at : b .at .0 ≡ n + length q) (plain : Plain i (n + length q) (p ++ z) b) (unstreamed : isStreamed (b .flags) ≡ false) where
+    (read : block i (n + length q) (p ++ z) ≡ accepted b) (unstreamed : isStreamed (b .flags) ≡ false) where
+  -- all that is known of it
+  known : BlockIs i (n + length q) (p ++ z) b
+  known = accepted-block read
+
   -- its mark is the same with anything after it
   marked-again : (u : Bytes) → begins mark (p ++ u) ≡ true
-  marked-again u = begins-front mark p u z (omega (arith, plain-least plain)) ∙ marked
+  marked-again u = begins-front mark p u z (omega (arith, known .header-least)) ∙ marked
 
   -- a block is the first of a chain with any chain behind it
   linked-again : (u : Bytes) (d : Chain) → chain k (i + 1) (n + length q + extent b) u ≡ accepted d → chain (suc k) i n (q ++ (p ++ u)) ≡ accepted (linked b d)
   unfolding linkedAt
   linked-again u d h =
       let gap = free-space-again q (p ++ z) (p ++ u) free (marked-again u) in
-      let enough : length indexLine ≤ length (q ++ p) = simp length-append (omega (arith, plain-least plain)) in
+      let enough : length indexLine ≤ length (q ++ p) = simp length-append (omega (arith, known .header-least)) in
       let index : begins indexLine (q ++ (p ++ u)) ≡ false
       = ap (begins indexLine) (sym (append-assoc q p u)) ∙ begins-front indexLine (q ++ p) u z enough ∙ ap (begins indexLine) (append-assoc q p z) ∙ unindexed in
-      let same-block = plain-block i (n + length q) (p ++ u) b (plain-again i (n + length q) p u z b size plain) in
+      let same-block = block-again i (n + length q) p u z b size unstreamed read in
       let here : linkedAt i (n + length q) (p ++ u) (chain k (i + 1)) ≡ accepted (linked b d)
       = rw (same-block, linkedAt, unstreamed, drop-at p u (extent b) size, h) in
-      let block-follows : follows (q ++ (p ++ u)) ≡ true = rw (index, gap, drop-append-seam q (p ++ u), marked-again u) in
-      chain-follows k i n (q ++ (p ++ u)) block-follows
-      ∙ ap (λ (g : ℕ). linkedAt i (n + g) (drop g (q ++ (p ++ u))) (chain k (i + 1))) gap
+      let after : nextBlock (q ++ (p ++ u)) ≡ some (length q)
+      = next-mark (q ++ (p ++ u)) index (simp length-append (omega (arith, gap, known .header-least))) ∙ ap some gap in
+      chain-next k i n (length q) (q ++ (p ++ u)) after
       ∙ ap (λ (v : Bytes). linkedAt i (n + length q) v (chain k (i + 1))) (drop-append-seam q (p ++ u))
       ∙ here
 
@@ -202,7 +139,7 @@ module _ (k i n : ℕ) (q p z : Bytes) (b : Block) (size : length p ≡ extent b
   linked-front c f = record {
     front = q ++ (p ++ f .front);
     whole = ap (λ (x : Bytes). q ++ (p ++ x)) (f .whole) ∙ sym (grouped (c .tail));
-    end = ap (λ (x : ℕ). blocksEnd (x + extent b) (c .blocks)) at ∙ f .end ∙ simp length-append (omega arith);
+    end = ap (λ (x : ℕ). blocksEnd (x + extent b) (c .blocks)) (known .at) ∙ f .end ∙ simp length-append (omega arith);
     few = omega (arith, f .few);
     marked = λ m e y. no-gap q (sym free ∙ e) y;
     local = λ a m y t. rw (grouped y) (linked-again (f .front ++ y) _ (f .local b m y t));
@@ -216,36 +153,33 @@ module _ (k i n : ℕ) (q p z : Bytes) (b : Block) (size : length p ≡ extent b
       no-gap (a ∷ q) e y = absurd (omega arith)
 
 -- a block is a front part: alone where it is streamed, and else with those behind it
-block-front : (k i n : ℕ) (t : Bytes) (b : Block) → follows t ≡ true → Begun i (n + freeSpace t) (drop (freeSpace t) t) b
-    → (streamed : Bool) → isStreamed (b .flags) ≡ streamed
-    → (o : Outcome Chain) → Accepts (ChainFront k (i + 1) (n + freeSpace t + extent b) (drop (extent b) (drop (freeSpace t) t))) o
+block-front : (k i n g : ℕ) (t : Bytes) (b : Block) → Next t g → block i (n + g) (drop g t) ≡ accepted b → (streamed : Bool) → isStreamed (b .flags) ≡ streamed
+    → (o : Outcome Chain) → Accepts (ChainFront k (i + 1) (n + g + extent b) (drop (extent b) (drop g t))) o
     → Accepts (ChainFront (suc k) i n t) (_>>=_ (elim streamed [ true ↦ accepted (ended []) | false ↦ o ]) (λ c. accepted (linked b c)))
-block-front k i n t b m h true e o f = streamed-front k i n t b (free-space-bounds t) h e
-block-front k i n t b m h false e (refused r) f = tt
-block-front k i n t b m h false e (accepted c) f =
-    let g = freeSpace t in
+block-front k i n g t b m h true e o f = streamed-front k i n g t b (omega (arith, m .inside)) h e
+block-front k i n g t b m h false e (refused r) f = tt
+block-front k i n g t b m h false e (accepted c) f =
     let u = drop g t in
     let outer : take g t ++ u ≡ t = take-append-drop g t in
     let inner : take (extent b) u ++ drop (extent b) u ≡ u = take-append-drop (extent b) u in
-    let gap : length (take g t) ≡ g = length-take-le g t (free-space-bounds t) in
-    let size = length-take-le (extent b) u (omega (arith, plain-extent (h .plain e), h .plain e .inside)) in
-    let unindexed = not-true (begins indexLine t) (and-left _ _ m) in
+    let gap : length (take g t) ≡ g = length-take-le g t (omega (arith, m .inside)) in
+    let size = length-take-le (extent b) u (accepted-block h .inside) in
     subst (λ (s : Bytes). ChainFront (suc k) i n s (linked b c)) (ap (λ (v : Bytes). take g t ++ v) inner ∙ outer)
     (linked-front k i n (take g t) (take (extent b) u) (drop (extent b) u) b size
-    (rw (inner, outer) unindexed) (rw (inner, outer, gap)) (rw inner (and-right (not (begins indexLine t)) _ m))
-    (rw gap (h .at)) (rw (inner, gap) (h .plain e)) e c (rw gap f))
+    (rw (inner, outer) (m .unindexed)) (rw (inner, outer, gap) (m .free)) (rw inner (m .marked))
+    (rw (inner, gap) h) e c (rw gap f))
 
 -- the blocks of a chain are a front part
 chain-front : (k i n : ℕ) (t : Bytes) → Accepts (ChainFront k i n t) (chain k i n t)
 unfolding chain linkedAt
-chain-front zero i n t = accepts-choice _ (follows t) _ _ (λ m. tt) (λ m. tail-front zero i n t)
+chain-front zero i n t = found-choice (Accepts (ChainFront zero i n t)) (nextBlock t) _ _ (λ e. tail-front zero i n t) (λ g e. tt)
 chain-front (suc k) i n t =
-    let j = n + freeSpace t in
-    let u = drop (freeSpace t) t in
-    accepts-choice _ (follows t) _ _
-    (λ m. accepts-bind _ (block i j u) _ λ b e. block-front k i n t b m (accepted-holds _ _ b (block-begun i j u) e) (isStreamed (b .flags)) refl
-    (chain k (i + 1) (j + extent b) (drop (extent b) u)) (chain-front k (i + 1) (j + extent b) (drop (extent b) u)))
-    (λ m. tail-front (suc k) i n t)
+    found-choice (Accepts (ChainFront (suc k) i n t)) (nextBlock t) _ _ (λ e. tail-front (suc k) i n t)
+    λ g e.
+    let j = n + g in
+    let u = drop g t in
+    accepts-bind _ (block i j u) _ λ b q. block-front k i n g t b (next-is t g e) q (isStreamed (b .flags)) refl
+    (chain k (i + 1) (j + extent b) (drop (extent b) u)) (chain-front k (i + 1) (j + extent b) (drop (extent b) u))
 
 -- where the last block is not streamed, a block may stand in front
 with-first : (bs : List Block) → mayHaveIndex bs ≡ true → (b : Block) × (mayHaveIndex (b ∷ bs) ≡ true)

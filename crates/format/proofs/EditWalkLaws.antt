@@ -11,23 +11,18 @@ use Rattle.format.specs.declared.block.Block.{Block}
 use Rattle.format.specs.declared.block.Inner.the-variants.{Plain}
 use Rattle.format.specs.Bytes.{Bytes}
 use Rattle.format.specs.Outcome.{accepted}
-use Rattle.format.specs.Block.{flags, isStreamed, blockWith, block}
+use Rattle.format.specs.Block.{block}
 use Rattle.format.specs.Chain.{mostBlocks, extent}
 use Rattle.format.specs.File.{File, file}
 use Rattle.format.specs.Nest.{contentAt, contentOf, isFile, Inside, closed, inside, walk, walkFile, recordsFrom, records}
 use Rattle.format.specs.Outline.{rows, outline}
-use Rattle.format.proofs.OutcomeLaws.{Accepts, accepted-holds, accepts-need, choice}
-use Rattle.format.proofs.BlockLaws.{AllBlocks, AllOfChain, chain-all}
+use Rattle.format.proofs.OutcomeLaws.{accepted-holds}
+use Rattle.format.proofs.BlockLaws.{accepted-block, AllBlocks, AllOfChain, chain-all}
 use Rattle.format.proofs.FileLaws.{Parts, blocksStart}
 
 -- a block begins at offset m or behind
 abbrev From : ℕ → Block → Type 0
 From m b = m ≤ b .at .0
-
--- a block begins at its offset
-block-at : (i n : ℕ) (t : Bytes) → Accepts (λ b. b .at .0 ≡ n) (block i n t)
-unfolding block blockWith
-block-at i n t = search (accepts-need, choice (Accepts (λ (b : Block). b .at .0 ≡ n)) (isStreamed (flags t))) depth 12
 
 -- the blocks of a file begin where its first block does or behind
 pub file-from : (s : Bytes) (f : File) → Parts s f → AllBlocks (From (blocksStart f)) (f .blocks)
@@ -37,7 +32,7 @@ file-from s f h =
   where
     step : (k i n : ℕ) (t : Bytes) (b : Block) → blocksStart f ≤ n → block i n t ≡ accepted b
         → (blocksStart f ≤ b .at .0) × (blocksStart f ≤ n + extent b)
-    step k i n t b le q = (omega (arith, accepted-holds _ _ b (block-at i n t) q), omega arith)
+    step k i n t b le q = (omega (arith, accepted-block q .at), omega arith)
 
 module _ (m : ℕ) (u s : Bytes) (rest : drop m u ≡ drop m s) where
   -- what stands at m or behind is the same

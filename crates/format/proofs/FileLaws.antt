@@ -13,7 +13,7 @@ use Rattle.format.specs.Comments.{comments}
 use Rattle.format.specs.Tree.{tree}
 use Rattle.format.specs.Chain.{mostBlocks, chain}
 use Rattle.format.specs.Index.{verdict}
-use Rattle.format.specs.File.{mostBytes, File, firstBlock, goesOn, offsets, file}
+use Rattle.format.specs.File.{mostBytes, File, firstBlock, goesOn, offsets, body, file}
 use Rattle.format.specs.IndexWriter.{tailStart}
 use Rattle.format.proofs.OutcomeLaws.{accepted-holds, accepts-bind, accepts-need}
 use Rattle.format.proofs.ReadLaws.{header-bounds, comments-bounds, first-block-bounds}
@@ -36,7 +36,7 @@ pub record Parts (s : Bytes) (f : File) : Type 0 where
 
 -- the parts of an accepted file are read
 pub file-parts : (s : Bytes) (f : File) → file s ≡ accepted f → Parts s f
-unfolding file
+unfolding file body
 file-parts s f =
     accepted-holds (Parts s) (file s) f
     (accepts-need _ (leb (length s) mostBytes) 1 0 _
@@ -58,7 +58,7 @@ file-parts s f =
 
 -- a file whose parts are read is accepted
 pub parts-file : (s : Bytes) (f : File) → Parts s f → file s ≡ accepted f
-unfolding file
+unfolding file body
 parts-file s f h = rw (h .short, h .header-read, h .comments-read, h .tree-read, h .goes-on, h .chain-read, h .judged)
 
 -- the parts of a file end one behind another, and inside it

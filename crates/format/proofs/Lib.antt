@@ -18,6 +18,7 @@ pub mod DashLaws
 pub mod IndexLaws
 pub mod ReadLaws
 pub mod LocalLaws
+pub mod NextLaws
 pub mod ChainLaws
 pub mod FileLaws
 pub mod WriterLaws

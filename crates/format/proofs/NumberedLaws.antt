@@ -22,21 +22,22 @@ use Rattle.format.specs.Outcome.{Outcome, accepted, refused, need, _>>=_
 use Rattle.format.specs.Line.{Lines, unended, line, behind, lines}
 use Rattle.format.specs.Header.{token, headerOf, versionLine, header}
 use Rattle.format.specs.Comments.{comments, indexLine}
-use Rattle.format.specs.Tree.{endLine, yamlLine, isStart, isDirective, content, directives, treeEnd, tree, freeSpace}
+use Rattle.format.specs.Tree.{endLine, yamlLine, isStart, isDirective, content, directives, treeEnd, tree}
 use Rattle.format.specs.Block.{block, isStreamed, flags}
-use Rattle.format.specs.Chain.{Chain, mostBlocks, extent, ended, linked, follows, tail, linkedAt, chain}
-use Rattle.format.specs.File.{mostBytes, firstBlock, goesOn, file, layout, blockAt}
+use Rattle.format.specs.Chain.{Chain, mostBlocks, extent, ended, linked, nextBlock, tail, linkedAt, chain}
+use Rattle.format.specs.File.{mostBytes, firstBlock, goesOn, body, file, layout, blockAt}
 use Rattle.format.specs.Nest.{walkFile, recordsFrom, records, recordCount, recordAt}
 use Rattle.format.specs.Outline.{rowBytes, decodeRow, rows, outline, storedFrom, stored, storedCount, storedAt, rewritten}
 use Rattle.format.specs.Fields.{layoutBytes, recordTable, foundBytes}
 use Rattle.format.specs.Lent.{writes}
 use Rattle.format.specs.IndexWriter.{indexFor}
 use Rattle.format.specs.Edit.{editTree, edit}
-use Rattle.format.proofs.OutcomeLaws.{accepted-holds, choice}
+use Rattle.format.proofs.OutcomeLaws.{choice, found-choice}
 use Rattle.format.proofs.ByteLaws.{begins-true}
 use Rattle.format.proofs.LineLaws.{joinLines, join-lines}
-use Rattle.format.proofs.ReadLaws.{header-bounds, comments-bounds, free-space-bounds, first-block-bounds}
-use Rattle.format.proofs.BlockLaws.{Starts, block-starts}
+use Rattle.format.proofs.ReadLaws.{header-bounds, comments-bounds, first-block-bounds}
+use Rattle.format.proofs.NextLaws.{next-is}
+use Rattle.format.proofs.BlockLaws.{accepted-block}
 
 -- the refusal's number is not 0, and its place is at most so far
 pub record Proper (most : ℕ) (r : Refusal) : Type 0 where
@@ -149,18 +150,18 @@ module _ (most : ℕ) where
   numbered-chain : (k i n : ℕ) (t : Bytes) → n + length t ≤ most → Numbered most (chain k i n t)
   unfolding chain linkedAt
   numbered-chain zero i n t h =
-      choice (Numbered most) (follows t) _ _ (omega (arith, free-space-bounds t)) (numbered-tail n t (omega arith))
+      found-choice (Numbered most) (nextBlock t) _ _ (λ e. numbered-tail n t (omega arith)) (λ g e. omega (arith, next-is t g e .inside))
   numbered-chain (suc k) i n t h =
-      let m = n + freeSpace t in
-      let u = drop (freeSpace t) t in
-      let there : m + length u ≤ most = simp length-drop (omega (arith, free-space-bounds t)) in
-      choice (Numbered most) (follows t) _ _
-      (numbered-bind (block i m u) _ (numbered-block i m u (omega arith))
-      λ b e.
-      let inside = accepted-holds (Starts m u) (block i m u) b (block-starts i m u) e .inside in
+      found-choice (Numbered most) (nextBlock t) _ _ (λ e. numbered-tail n t (omega arith))
+      λ g e.
+      let m = n + g in
+      let u = drop g t in
+      let there : m + length u ≤ most = simp length-drop (omega (arith, next-is t g e .inside)) in
+      numbered-bind (block i m u) _ (numbered-block i m u (omega arith))
+      λ b q.
+      let inside = accepted-block q .inside in
       numbered-linked b (isStreamed (b .flags)) (chain k (i + 1) (m + extent b) (drop (extent b) u))
-      (numbered-chain k (i + 1) (m + extent b) (drop (extent b) u) (simp length-drop (omega arith))))
-      (numbered-tail n t (omega arith))
+      (numbered-chain k (i + 1) (m + extent b) (drop (extent b) u) (simp length-drop (omega arith)))
 
   numbered-stored-from : (k n deep : ℕ) (b : Bytes) → n + k * rowBytes ≤ most → Numbered most (storedFrom k n deep b)
   unfolding storedFrom
@@ -186,7 +187,7 @@ numbered-tree n s h =
     numbered-value (length s) (treeEnd n (lines (drop n s))) _ (numbered-tree-end (length s) n (lines (drop n s)) (lines-inside n s h))
 
 numbered-file : (s : Bytes) → Numbered (length s) (file s)
-unfolding file
+unfolding file body
 numbered-file s =
     let most = length s in
     numbered-need most (leb most mostBytes) 1 0 _ refl (omega arith)

@@ -2,6 +2,7 @@
 use Prim.Native.Nat.{ℕ}
 use mathlib.Core.Path.{_≡_, refl}
 use mathlib.Core.Bool.{Bool, true, false}
+use mathlib.Core.Option.{Option, none, some}
 use Rattle.format.specs.Outcome.{Outcome, accepted, refused, need, _>>=_, _>>_}
 
 -- P holds of what is accepted, if anything is
@@ -25,7 +26,24 @@ pub accepts-need : {A : Type 0} (P : A → Type 0) (t : Bool) (n p : ℕ) (o : O
 accepts-need P true n p o h = h refl
 accepts-need P false n p o h = tt
 
+-- what follows a choice may count on its test
+pub accepts-choice : {A : Type 0} (P : A → Type 0) (t : Bool) (x y : Outcome A) → (t ≡ true → Accepts P x) → (t ≡ false → Accepts P y)
+    → Accepts P (elim t [ true ↦ x | false ↦ y ])
+accepts-choice P true x y h k = h refl
+accepts-choice P false x y h k = k refl
+
+-- what holds of each accepted value holds of all that can be accepted
+pub accepts-each : {A : Type 0} (P : A → Type 0) (o : Outcome A) → ((a : A) → o ≡ accepted a → P a) → Accepts P o
+accepts-each P (accepted a) h = h a refl
+accepts-each P (refused r) h = tt
+
 -- what holds of both ways of a choice holds of the choice
 pub choice : {A : Type 0} (P : A → Type 0) (t : Bool) (x y : A) → P x → P y → P (elim t [ true ↦ x | false ↦ y ])
 choice P true x y h k = h
 choice P false x y h k = k
+
+-- what holds where nothing is found, and of whatever is found, holds of both
+pub found-choice : {A B : Type 0} (P : B → Type 0) (o : Option A) (x : B) (f : A → B) → (o ≡ none → P x) → ((a : A) → o ≡ some a → P (f a))
+    → P (elim o [ none ↦ x | some a ↦ f a ])
+found-choice P none x f h k = h refl
+found-choice P (some a) x f h k = k a refl

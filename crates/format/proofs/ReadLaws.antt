@@ -1,7 +1,7 @@
 -- What is read of bytes is a front part of them: it ends inside them, and reads the same elsewhere and with other bytes behind.
 use Prim.Native.Nat.{ℕ, suc, _+_, _≤_}
 use mathlib.Core.Path.{_≡_, refl, sym, ap, subst, _∙_}
-use mathlib.Core.Bool.{Bool, true, false}
+use mathlib.Core.Bool.{true, false}
 use mathlib.Core.List.{[], _∷_, _++_, append-assoc}
 use mathlib.Core.Option.{Option, none, some}
 use native.Mathlib.Nat.{add-zero, add-assoc}
@@ -19,20 +19,9 @@ use Rattle.format.specs.Header.{token, version, headerOf, versionLine, h
 use Rattle.format.specs.Comments.{indexLine, comments}
 use Rattle.format.specs.Tree.{yamlLine, endLine, isStart, isDirective, content, directives, treeEnd, mark, freeSpace, withRoom, tree}
 use Rattle.format.specs.File.{firstBlock}
-use Rattle.format.proofs.OutcomeLaws.{Accepts, accepted-holds, accepts-bind, accepts-need, choice}
+use Rattle.format.proofs.OutcomeLaws.{Accepts, accepted-holds, accepts-bind, accepts-need, accepts-choice, accepts-each, choice}
 use Rattle.format.proofs.ByteLaws.{begins-true}
 use Rattle.format.proofs.LineLaws.{joinLines, join-lines, AreLines, lines-line, are-lines}
-
--- what follows a choice may count on its test
-pub accepts-choice : {A : Type 0} (P : A → Type 0) (t : Bool) (x y : Outcome A) → (t ≡ true → Accepts P x) → (t ≡ false → Accepts P y)
-    → Accepts P (elim t [ true ↦ x | false ↦ y ])
-accepts-choice P true x y h k = h refl
-accepts-choice P false x y h k = k refl
-
--- what holds of each accepted value holds of all that can be accepted
-accepts-each : {A : Type 0} (P : A → Type 0) (o : Outcome A) → ((a : A) → o ≡ accepted a → P a) → Accepts P o
-accepts-each P (accepted a) h = h a refl
-accepts-each P (refused r) h = tt
 
 -- a way to read the bytes that stand from an offset on, up to another offset
 abbrev pub Reading : Type 1

@@ -22,7 +22,7 @@ use Rattle.format.specs.Outline.{innerNumber, rowOf, isRow}
 use Rattle.format.proofs.OutcomeLaws.{Accepts, accepted-holds, accepts-bind, choice}
 use Rattle.format.proofs.PackLaws.{is-bytes-take, is-bytes-drop}
 use Rattle.format.proofs.RowLaws.{RowFits}
-use Rattle.format.proofs.BlockLaws.{Sound, AllSound, SoundFile, file-sound}
+use Rattle.format.proofs.BlockLaws.{FileBlock, AllSound, SoundFile, file-sound}
 
 -- a row that fits its bytes and keeps the rules of a stored row, at most so deep
 pub record RowKept (most : ℕ) (r : Row) : Type 0 where
@@ -60,13 +60,13 @@ is-row most r o h u d = simp le-leb
 module _ (reads : ℕ → Bytes → Inside) (depth start : ℕ) (s : Bytes) (bytes : IsBytes s) (room : start + length s ≤ mostBytes) (deep : depth ≤ deepest)
     (inner : (n : ℕ) (t : Bytes) → IsBytes t → n + length t ≤ mostBytes → Leads (depth + 1) (reads n t .records)) where
   -- a sound block's row is kept
-  row-kept : (b : Block) (i : Inner) (m : ℕ) → Sound (length s) b → depth ≤ m
+  row-kept : (b : Block) (i : Inner) (m : ℕ) → FileBlock (length s) b → depth ≤ m
       → RowKept m (rowOf (record { depth = depth; at = record { 0 = start + b .at .0 }; block = b; inner = i }))
   unfolding rowOf
   row-kept b i m h le = record { fits = omega (arith, inner-lt i); rule = is-row m _ (h .ordinal) (h .header-least) (h .used) le }
 
   -- what is found inside a sound block leads
-  inside-leads : (b : Block) → Sound (length s) b → Leads (depth + 1) (inside reads start s b .records)
+  inside-leads : (b : Block) → FileBlock (length s) b → Leads (depth + 1) (inside reads start s b .records)
   unfolding inside
   inside-leads b h =
       choice (λ (i : Inside). Leads (depth + 1) (i .records)) (isFile b (contentOf b s)) _ _

@@ -1,5 +1,6 @@
 -- A block: its header and its content. All numbers are big-endian, and offsets count from the block's first byte.
-use Prim.Native.Nat.{ℕ, _+_, _-_, _%_}
+use Prim.Native.Nat.{ℕ, _+_, _-_, _%_, _≤_}
+use mathlib.Core.Path.{_≡_}
 use mathlib.Core.Bool.{Bool, true, false, not, _||_}
 use lib.ListN.{length}
 use lib.Dec.{leb, eqb}
@@ -90,3 +91,23 @@ block i n t = do
       need (leb (allocatedSize t) (bytesLeft t)) 15 n
       accepted (blockWith i n t (allocatedSize t) (usedSize t) (dataSize t))
   ]
+
+-- block i at offset n, where t stands, if nothing is wrong with it
+unfoldable pub soundBlock : ℕ → ℕ → Bytes → Block
+soundBlock i n t =
+    elim (isStreamed (flags t)) [
+      | true ↦ blockWith i n t (bytesLeft t) (bytesLeft t) (bytesLeft t)
+      | false ↦ blockWith i n t (allocatedSize t) (usedSize t) (dataSize t)
+    ]
+
+-- nothing is wrong with the three sizes in the header with which t begins
+pub record SoundSizes (t : Bytes) : Type 0 where
+  pub used : usedSize t ≤ allocatedSize t
+  pub data-size : (isCompressed (compression t) || eqb (dataSize t) (usedSize t)) ≡ true
+  pub allocated : allocatedSize t ≤ bytesLeft t
+
+-- t begins with a block that nothing is wrong with; the sizes of a streamed one are not looked at
+pub record Sound (t : Bytes) : Type 0 where
+  pub least : leastHeader ≤ headerSize t
+  pub whole : contentStart t ≤ length t
+  pub sizes : isStreamed (flags t) ≡ false → SoundSizes t

@@ -1,13 +1,15 @@
 -- The chain of blocks, with unallocated space between them, and the tail after the last of them.
 use Prim.Native.Nat.{ℕ, zero, suc, _+_}
-use mathlib.Core.Bool.{Bool, true, false, not, _&&_, _||_}
+use mathlib.Core.Bool.{Bool, true, false, _||_}
 use mathlib.Core.List.{List, [], _∷_}
-use lib.ListN.{drop}
+use mathlib.Core.Option.{Option, none, some}
+use lib.ListN.{length, drop}
+use lib.Dec.{ltb}
 use Rattle.format.specs.declared.block.Block.{Block}
 use Rattle.format.specs.Bytes.{Bytes, begins, allZero}
 use Rattle.format.specs.Outcome.{Outcome, accepted, refused, refusal, need, _>>=_, _>>_}
 use Rattle.format.specs.Comments.{indexLine}
-use Rattle.format.specs.Tree.{mark, freeSpace}
+use Rattle.format.specs.Tree.{freeSpace}
 use Rattle.format.specs.Block.{block, isStreamed}
 
 abbrev pub mostBlocks : ℕ
@@ -39,9 +41,13 @@ ended t = record { blocks = []; tail = t }
 abbrev pub linked : Block → Chain → Chain
 linked b c = record { blocks = b ∷ c .blocks; tail = c .tail }
 
--- whether a block follows in t: no index begins at once, and somewhere there is a mark
-abbrev pub follows : Bytes → Bool
-follows t = not (begins indexLine t) && begins mark (drop (freeSpace t) t)
+-- how many bytes stand before the first mark in t, if there is one
+unfoldable pub markAhead : Bytes → Option ℕ
+markAhead t = elim (ltb (freeSpace t) (length t)) [ true ↦ some (freeSpace t) | false ↦ none ]
+
+-- how many bytes stand before the next block in t, if there is one: where an index begins at once, no block follows
+unfoldable pub nextBlock : Bytes → Option ℕ
+nextBlock t = elim (begins indexLine t) [ true ↦ none | false ↦ markAhead t ]
 
 -- what stands at offset n, where no block follows
 unfoldable pub tail : ℕ → Bytes → Outcome Chain
@@ -58,6 +64,5 @@ linkedAt i n t others = do
 
 -- the blocks from offset n on, where t stands, each at the first mark: the first is number i, and k of them are allowed
 unfoldable pub chain : ℕ → ℕ → ℕ → Bytes → Outcome Chain
-chain zero i n t = elim (follows t) [ true ↦ refused (refusal 16 (n + freeSpace t)) | false ↦ tail n t ]
-chain (suc k) i n t =
-    elim (follows t) [ true ↦ linkedAt i (n + freeSpace t) (drop (freeSpace t) t) (chain k (i + 1)) | false ↦ tail n t ]
+chain zero i n t = elim (nextBlock t) [ none ↦ tail n t | some g ↦ refused (refusal 16 (n + g)) ]
+chain (suc k) i n t = elim (nextBlock t) [ none ↦ tail n t | some g ↦ linkedAt i (n + g) (drop g t) (chain k (i + 1)) ]

@@ -46,15 +46,20 @@ goesOn NoTree (b ∷ t) = begins mark (b ∷ t)
 abbrev pub offsets : List Block → List ℕ
 offsets bs = map (λ (b : Block). b .at .0) bs
 
-unfoldable pub file : Bytes → Outcome File
-file s = do
-  need (leb (length s) mostBytes) 1 0
+-- a file of any length
+unfoldable pub body : Bytes → Outcome File
+body s = do
   h ← header s
   n ← comments (h .end .0) (lines (drop (h .end .0) s))
   t ← tree n s
   need (goesOn t (drop n s)) 7 n
   c ← chain mostBlocks 0 (firstBlock n t) (drop (firstBlock n t) s)
   accepted (record { header = h; commentsEnd = n; tree = t; blocks = c .blocks; verdict = verdict (offsets (c .blocks)) (c .tail) })
+
+unfoldable pub file : Bytes → Outcome File
+file s = do
+  need (leb (length s) mostBytes) 1 0
+  body s
 
 -- a table of offsets that begins with those of these blocks; what stood after them stays
 abbrev pub tableOf : List ℕ → List Block → List ℕ

@@ -1,7 +1,7 @@
 -- The blocks of an accepted file are read one after another.
 use Prim.Native.Nat.{ℕ, zero, suc, _+_, _-_, _^_, _≤_, _<_}
 use native.Mathlib.Omega.{arith}
-use mathlib.Core.Path.{_≡_, refl, sym, ap, _∙_}
+use mathlib.Core.Path.{_≡_, refl, sym, ap, subst, _∙_}
 use mathlib.Core.Bool.{Bool, true, false}
 use mathlib.Core.List.{List, [], _∷_}
 use lib.ListN.{length, take, drop, length-drop}
@@ -14,12 +14,13 @@ use Rattle.format.specs.Bytes.{Bytes}
 use Rattle.format.specs.Outcome.{Outcome, accepted, refused, _>>=_}
 use Rattle.format.specs.Tree.{freeSpace}
 use Rattle.format.specs.Block.{isStreamed, block}
-use Rattle.format.specs.Chain.{Chain, mostBlocks, extent, ended, linked, isTail, follows, tail, linkedAt, chain}
+use Rattle.format.specs.Chain.{Chain, mostBlocks, extent, ended, linked, isTail, nextBlock, tail, linkedAt, chain}
 use Rattle.format.specs.Nest.{inside}
 use Rattle.format.specs.File.{File, file}
 use Rattle.format.proofs.FileLaws.{blocksStart, file-parts, in-order}
-use Rattle.format.proofs.OutcomeLaws.{Accepts, accepted-holds, accepts-bind, accepts-need, choice}
-use Rattle.format.proofs.BlockLaws.{Starts, block-starts}
+use Rattle.format.proofs.OutcomeLaws.{Accepts, accepted-holds, accepts-bind, accepts-need, found-choice}
+use Rattle.format.proofs.NextLaws.{next-is}
+use Rattle.format.proofs.BlockLaws.{accepted-block}
 use Rattle.mark.specs.Mark.{MarkFound}
 use Rattle.file.specs.declared.block.BlockStep.{BlockStep}
 use Rattle.file.specs.declared.block.BlockStep.the-variants as BlockStep·is
@@ -52,15 +53,15 @@ linked-listed k i n t b false (refused r) h hs = tt
 -- the blocks of an accepted chain are listed
 pub chain-listed : (k i n : ℕ) (t : Bytes) → Accepts (Listed k i n t) (chain k i n t)
 unfolding chain linkedAt
-chain-listed zero i n t = choice (Accepts (Listed zero i n t)) (follows t) _ _ tt (tail-listed zero i n t)
+chain-listed zero i n t = found-choice (Accepts (Listed zero i n t)) (nextBlock t) _ _ (λ e. tail-listed zero i n t) (λ g e. tt)
 chain-listed (suc k) i n t =
-    let m = n + freeSpace t in
+    found-choice (Accepts (Listed (suc k) i n t)) (nextBlock t) _ _ (λ e. tail-listed (suc k) i n t)
+    λ g e. subst (λ (h : ℕ). Accepts (Listed (suc k) i n t) (linkedAt i (n + h) (drop h t) (chain k (i + 1)))) (next-is t g e .free)
+    (let m = n + freeSpace t in
     let u = drop (freeSpace t) t in
-    choice (Accepts (Listed (suc k) i n t)) (follows t) _ _
-    (accepts-bind (Listed (suc k) i n t) (block i m u) _ λ b h.
+    accepts-bind (Listed (suc k) i n t) (block i m u) _ λ b h.
     linked-listed k i n t b (isStreamed (b .flags)) (chain k (i + 1) (m + extent b) (drop (extent b) u)) h
     (chain-listed k (i + 1) (m + extent b) (drop (extent b) u)))
-    (tail-listed (suc k) i n t)
 
 -- the blocks of the accepted file s
 pub record Own (s : Bytes) (f : File) : Type 0 where
@@ -85,8 +86,8 @@ pub record Begins (s : Bytes) (i n : ℕ) (b : Block) : Type 0 where
 
 pub block-begins : (s : Bytes) (i n : ℕ) (b : Block) → n ≤ length s → block i n (drop n s) ≡ accepted b → Begins s i n b
 block-begins s i n b h e =
-    let starts = accepted-holds (Starts n (drop n s)) (block i n (drop n s)) b (block-starts i n (drop n s)) e in
-    record { read = e; at = starts .at; inside = omega (arith, starts .inside, length-drop n s); used = starts .used }
+    let known = accepted-block e in
+    record { read = e; at = known .at; inside = omega (arith, known .inside, length-drop n s); used = known .used }
 
 -- the first mark from offset n on is at m
 module _ (i n m : ℕ) (s : Bytes) (at : m ≡ n + freeSpace (drop n s)) where

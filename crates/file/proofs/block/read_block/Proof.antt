@@ -1,6 +1,7 @@
 -- `file::block::read_block` meets its contract: a block is refused or sound.
 use borrow.Author.Needs.{needs}
-use Rattle.file.proofs.BlockLaws.{block-refused, block-sound, block-read}
+use Rattle.file.proofs.BlockLaws.{block-refused}
+use Rattle.file.proofs.AgainLaws.{read-again}
 use Rattle.file.proofs.block.read_block.Statement.{statement}
 use Rattle.file.proofs.block.read_block.Tie as tie
 
@@ -11,5 +12,5 @@ read-block-spec =
     (λ c κs. search needs)
     (λ c κs. search needs)
     (λ c. search (block-refused, needs))
-    (λ c κs. search (block-sound, needs))
-    (λ c. search (block-read, needs)))
+    (λ c κs. search needs)
+    (λ c. search (read-again, needs)))

@@ -1,6 +1,6 @@
 -- `file::chain::next_mark` meets its contract: a mark at once, none where an index begins, or the first.
 use borrow.Author.Needs.{needs}
-use Rattle.file.proofs.ChainLaws.{next-at-once, next-index, next-found}
+use Rattle.file.proofs.ChainLaws.{next-at-once, next-at-index, next-found}
 use Rattle.file.proofs.chain.next_mark.Statement.{statement}
 use Rattle.file.proofs.chain.next_mark.Tie as tie
 
@@ -11,6 +11,6 @@ next-mark-spec =
     (λ c κs. search needs)
     (λ c. search (next-at-once, needs))
     (λ c κs. search needs)
-    (λ c. search (next-index, needs))
+    (λ c. search (next-at-index, needs))
     (λ c κs. search needs)
     (λ c. search (next-found, needs)))

@@ -1,6 +1,7 @@
 -- The block of a kept offset is the one that is read there.
 use borrow.Author.Needs.{needs}
-use Rattle.file.proofs.KeptLaws.{kept-none, kept-room, kept-inside, kept-found, kept-refused}
+use Rattle.file.proofs.KeptLaws.{kept-none, kept-room, kept-inside}
+use Rattle.file.proofs.EachLaws.{kept-again}
 use Rattle.file.proofs.layout.kept_block.Statement.{statement}
 use Rattle.file.proofs.layout.kept_block.Tie as tie
 
@@ -16,7 +17,4 @@ kept-block-spec =
     (λ c. search needs)
     (λ c. search needs)
     (λ c κs. search needs)
-    (λ c. search needs)
-    (λ c. search needs)
-    (λ c. search (kept-found, needs))
-    (λ c. search (kept-refused, needs)))
+    (λ c. search (kept-again, needs)))
