@@ -19,6 +19,17 @@ use Rattle.file.specs.Block.{FieldRead, Fault, BlockRead}
 use Rattle.file.proofs.BlockLaws.{block-read}
 use Rattle.file.specs.Again.{reported, blankBlock, blockAgain, blankSummary, summaryAgain, hasContent, noContent, contentAgain}
 
+module _ (t : Bytes) (size : ℕ) where
+  -- a size of a streamed block is what is left
+  pub reported-left : isStreamed (flags t) ≡ true → reported t size ≡ bytesLeft t
+  unfolding reported
+  reported-left h = rw (reported, h)
+
+  -- a size of another is the stored one
+  pub reported-stored : isStreamed (flags t) ≡ false → reported t size ≡ size
+  unfolding reported
+  reported-stored h = rw (reported, h)
+
 module _ (t : Bytes) where
   -- bytes too short for a header give zeros
   pub block-blank : (i n : ℕ) → length t < leastBlock → blankBlock i n ≡ blockAgain i n t
@@ -33,15 +44,12 @@ module _ (t : Bytes) where
   unfolding contentAgain
   content-blank h c e = rw (e, contentAgain, lt-leb leastBlock (length t) h)
 
-  -- a size of a streamed block is what is left
+  -- a size is reported by whether the block is streamed
   pub size-streamed : (f stored : ℕ) → FieldRead t 6 10 f → f % 2 ≡ 1 → (r : ℕ) → r ≡ bytesLeft t → r ≡ reported t stored
-  unfolding reported
-  size-streamed f stored bits s r e = rw (reported, ← bits .is, eq-eqb (f % 2) 1 s) e
+  size-streamed f stored bits s r e = e ∙ sym (reported-left t stored (rw (← bits .is) (eq-eqb (f % 2) 1 s)))
 
-  -- a size of another is the stored one
   pub size-stored : (f stored : ℕ) → FieldRead t 6 10 f → (f % 2 ≡ 1 → ⊥) → stored ≡ reported t stored
-  unfolding reported
-  size-stored f stored bits s = rw (reported, ← bits .is, ne-eqb (f % 2) 1 s)
+  size-stored f stored bits s = sym (reported-stored t stored (rw (← bits .is) (ne-eqb (f % 2) 1 s)))
 
   module _ (long : leastBlock ≤ length t) where
     -- the block is made of the numbers in its header
@@ -118,12 +126,17 @@ module _ (t : Bytes) where
 
 -- a sound block that is read again is the block
 pub block-again : (t : Bytes) → Sound t → (i n : ℕ) → blockAgain i n t ≡ soundBlock i n t
-unfolding blockAgain soundBlock reported
+unfolding blockAgain soundBlock
 block-again t sound i n = go (isStreamed (flags t)) refl
   where
+    long : leb leastBlock (length t) ≡ true
+    long = le-leb leastBlock (length t) (omega (arith, sound .least, sound .whole))
+
     go : (y : Bool) → isStreamed (flags t) ≡ y → blockAgain i n t ≡ soundBlock i n t
-    go true e = rw (blockAgain, le-leb leastBlock (length t) (omega (arith, sound .least, sound .whole)), reported, e, soundBlock)
-    go false e = rw (blockAgain, le-leb leastBlock (length t) (omega (arith, sound .least, sound .whole)), reported, e, soundBlock)
+    go true e =
+        rw (blockAgain, long, reported-left t (allocatedSize t) e, reported-left t (usedSize t) e, reported-left t (dataSize t) e, soundBlock, e)
+    go false e =
+        rw (blockAgain, long, reported-stored t (allocatedSize t) e, reported-stored t (usedSize t) e, reported-stored t (dataSize t) e, soundBlock, e)
 
 -- a block in which no fault was found is read
 pub read-again : (t : Bytes) (x : ℕ) → Fault t x → (i n : ℕ) (b : Block) → b ≡ blockAgain i n t → x ≡ 0 → BlockRead i n t (Read b)

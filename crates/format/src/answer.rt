@@ -38,6 +38,12 @@ impl CountAnswer {
     }
 }
 
+// The outline of a file, and its layout beside it.
+pub struct OutlinedAnswer {
+    pub layout: LayoutAnswer,
+    pub written: CountAnswer,
+}
+
 pub enum EditAnswer {
     Edited,
     Refused(Refusal),

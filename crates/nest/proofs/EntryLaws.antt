@@ -1,4 +1,4 @@
--- What a whole walk leaves: a count, a record, entries in a buffer.
+-- What a whole walk leaves: a count, a record, what is put for each record.
 use Prim.Native.Nat.{ℕ, zero, suc, _+_, _*_, _-_, _/_, _^_, _≤_, _<_}
 use native.Mathlib.Omega.{arith}
 use native.Mathlib.Nat.{zero-add, sub-zero, mul-zero, add-mul, suc-mul, one-mul, zero-mul, mul-comm, div-lt-iff-lt-mul, le-div-iff-mul-le}
@@ -6,9 +6,10 @@ use mathlib.Core.Path.{_≡_, refl, sym, ap, _∙_}
 use mathlib.Core.Bool.{Bool, true, false}
 use mathlib.Core.List.{List, [], _∷_, _++_, map, flatMap}
 use mathlib.Core.Option.{Option, none}
-use lib.ListN.{length, take, getD, getElem?, length-append}
+use lib.ListN.{length, take, drop, getD, getElem?, length-append}
+use lib.Seq.{length-take-le}
 use lib.Dec.{eqb}
-use borrow.Author.Tests.{eqb-true, eqb-false, ne-eqb}
+use borrow.Author.Tests.{leb-true, eqb-true, eqb-false, ne-eqb}
 use mir.Syntax.{w8, w64}
 use mir.Val.{Fits}
 use Rattle.format.specs.declared.answer.CountAnswer.{CountAnswer}
@@ -21,82 +22,72 @@ use Rattle.format.specs.declared.offset.OutermostOffset.{OutermostOffset}
 use Rattle.format.specs.declared.refusal.Refusal.{Refusal}
 use Rattle.format.specs.Answer.{countAnswer, layoutAnswer}
 use Rattle.format.specs.Bytes.{Bytes, wrapped}
-use Rattle.format.specs.Outcome.{accepted, refused, refusal}
-use Rattle.format.specs.File.{mostBytes, layout, firstBlock}
+use Rattle.format.specs.Block.{leastBlock}
+use Rattle.format.specs.Outcome.{Outcome, accepted, refused, refusal}
+use Rattle.format.specs.File.{mostBytes, file, offsetTable, layout}
 use Rattle.format.specs.Nest.{deepest, records, recordCount, recordAt}
-use Rattle.format.specs.Fields.{recordFields, encodeRecord, recordTable, foundNumbers, foundBytes}
+use Rattle.format.specs.Fields.{recordFields, recordBytes, encodeRecord, recordTable, foundNumbers, foundBytes}
 use Rattle.format.specs.Lent.{placed}
 use Rattle.format.specs.Outline.{rowOf, encodeRow, outlineOf, rows, outline}
+use Rattle.format.specs.Written.{Written, OutlineWritten}
+use Rattle.format.proofs.FileLaws.{file-parts}
 use Rattle.format.proofs.OutcomeLaws.{accepted-holds}
 use Rattle.format.proofs.OutlineLaws.{read-back}
 use Rattle.format.proofs.RowLaws.{encoded-length}
-use Rattle.file.proofs.FewLaws.{Few, records-few}
-use Rattle.file.proofs.LayoutLaws.{accepted-as}
-use Rattle.format.specs.Written.{Written, OutlineWritten}
 use Rattle.put.proofs.PutLaws.{placed-nothing, placed-none, placed-length, placed-append}
 use Rattle.put.proofs.WrittenLaws.{written-refused, written-short, written-placed, written-taken}
+use Rattle.file.specs.Layout.{Kept}
+use Rattle.file.proofs.FewLaws.{Few, records-few}
+use Rattle.file.proofs.LayoutLaws.{file-refused, blocks-kept}
 use Rattle.nest.specs.declared.sink.Form.{Form}
-use Rattle.nest.specs.declared.sink.Form.the-variants.{Count, Rows, Table, One}
-use Rattle.nest.specs.Sink.{encoded, width, entries, entry, numberBehind, putAll, Delivered}
-use Rattle.nest.specs.Walk.{recordsOf, allRecords}
-use Rattle.nest.proofs.SinkLaws.{record-length}
-use Rattle.nest.proofs.ContentLaws.{OfFile, of-file, accepted-records, layout-refused}
+use Rattle.nest.specs.declared.sink.Form.the-variants.{Rows, Table, One}
+use Rattle.nest.specs.Sink.{encoded, width, allEncoded, delivery, numberAfter, putAll, Delivered}
+use Rattle.nest.specs.Walk.{fileRecords, allRecords}
+use Rattle.nest.proofs.SinkLaws.{record-length, delivered-length}
+use Rattle.nest.proofs.ContentLaws.{refused-records, accepted-records}
 
--- a refused file has no records
-records-refused : (s : Bytes) (r : Refusal) → layout s ≡ refused r → records s ≡ refused r
-unfolding records
-records-refused s r h = layout-refused deepest 0 0 s r h
-
-module _ (s : Bytes) (l : Layout) (read : layout s ≡ accepted l) where
-  of : OfFile s l
-  of = of-file s l read
-
+module _ {s : Bytes} {offsets : List ℕ} {blocks : ℕ} (kept : Kept s offsets blocks) where
   -- the records of an accepted file
-  all-are : records s ≡ accepted (recordsOf 0 0 s (firstBlock (l .«comments_end» .0) (l .tree)) 0 (l .blocks))
+  all-are : records s ≡ accepted (fileRecords 0 0 s)
   unfolding records
-  all-are = accepted-records 0 0 s l of
+  all-are = accepted-records kept 0 0
 
   pub accepted-all : records s ≡ accepted (allRecords s)
   unfolding allRecords
   accepted-all = rw (allRecords, all-are)
 
-  -- are no more than it has bytes
-  all-few : length (allRecords s) ≤ mostBytes
+  short : length s ≤ mostBytes
+  short = leb-true (length s) mostBytes (file-parts s (kept .f) (kept .is) .short)
+
+  -- are few for its bytes
+  all-few : Few s (allRecords s)
   unfolding records
-  all-few =
-      omega (arith, of .short, accepted-holds (Few s) (records s) (allRecords s) (records-few deepest 0 0 s) accepted-all)
+  all-few = accepted-holds (Few s) (records s) (allRecords s) (records-few deepest 0 0 s) accepted-all
 
   -- the walk of a whole file may begin
   pub walk-room : (o : OutermostOffset) → o .0 ≡ 0 → o .0 + length s ≤ mostBytes
-  walk-room o e = omega (arith, of .short)
-
-  pub walk-first : (first : ℕ) → first ≡ firstBlock (l .«comments_end» .0) (l .tree) → first ≤ length s
-  walk-first first e = omega (arith, of .first, of .own .inside)
-
-  pub walk-blocks-few : 0 + l .blocks ≤ 64
-  walk-blocks-few = omega (arith, of .count, of .own .few)
+  walk-room o e = omega (arith, short)
 
   -- and takes all its records
-  pub walk-whole : (form : Form) (x : ℕ) (out after : Bytes) (o : OutermostOffset) (first : ℕ) → o .0 ≡ 0
-      → first ≡ firstBlock (l .«comments_end» .0) (l .tree) → Delivered form 0 out (recordsOf 0 (o .0) s first 0 (l .blocks)) after x
-      → Delivered form 0 out (allRecords s) after x
+  pub walk-whole : (form : Form) (x : ℕ) (out after : Bytes) (o : OutermostOffset) → o .0 ≡ 0
+      → Delivered form 0 out (fileRecords 0 (o .0) s) after x → Delivered form 0 out (allRecords s) after x
   unfolding allRecords
-  walk-whole form x out after o first z f h = rw (allRecords, all-are) (rw (z, f) at h)
+  walk-whole form x out after o z h = rw (allRecords, all-are) (rw z at h)
 
--- the number behind records
-behind-number : (n : ℕ) (rs : List Record) → n + length rs < 2 ^ 64 → numberBehind n rs ≡ n + length rs
-unfolding numberBehind
-behind-number n [] h = omega arith
-behind-number n (r ∷ rs) h = behind-number (wrapped n 1) rs (omega arith) ∙ omega arith
+-- the number after records
+number-after : (n : ℕ) (rs : List Record) → n + length rs < 2 ^ 64 → numberAfter n rs ≡ n + length rs
+unfolding numberAfter
+number-after n [] h = omega arith
+number-after n (r ∷ rs) h = number-after (wrapped n 1) rs (omega arith) ∙ omega arith
 
 -- once the wanted record has come, nothing is put
-put-behind : (w n : ℕ) (out : Bytes) (rs : List Record) → n + length rs < 2 ^ 64 → w < n → putAll (One w) n out rs ≡ out
+put-after : (w n : ℕ) (out : Bytes) (rs : List Record) → n + length rs < 2 ^ 64 → w < n → putAll (One w) n out rs ≡ out
 unfolding putAll
-put-behind w n out [] few h = refl
-put-behind w n out (r ∷ rs) few h =
-    let none : placed out (n * 0) (entry (One w) n r) ≡ out =
-    rw (mul-zero n, entry, ne-eqb w n (λ e. omega arith)) (sym (placed-nothing out 0 (omega arith))) in
-    rw none (put-behind w (wrapped n 1) out rs (omega arith) (omega arith))
+put-after w n out [] few h = refl
+put-after w n out (r ∷ rs) few h =
+    let none : placed out (n * 0) (delivery (One w) n r) ≡ out =
+    rw (mul-zero n, delivery, ne-eqb w n (λ e. omega arith)) (sym (placed-nothing out 0 (omega arith))) in
+    rw none (put-after w (wrapped n 1) out rs (omega arith) (omega arith))
 
 -- what is put where one record is wanted
 put-one : (w n : ℕ) (out : Bytes) (rs : List Record) → n + length rs < 2 ^ 64 → n ≤ w
@@ -112,31 +103,31 @@ put-one w n out (r ∷ rs) few h = by-test (eqb w n) refl (λ out. put-one w (wr
     by-test true e rest =
         let same = eqb-true w n e in
         let first : w - n ≡ 0 = omega arith in
-        rw (mul-zero n, entry, e, first) (put-behind w (wrapped n 1) (placed out 0 (encodeRecord r)) rs (omega arith) (omega arith))
+        rw (mul-zero n, delivery, e, first) (put-after w (wrapped n 1) (placed out 0 (encodeRecord r)) rs (omega arith) (omega arith))
     by-test false e rest =
         let differ = eqb-false w n e in
         let next : w - n ≡ suc (w - wrapped n 1) = omega arith in
-        rw (mul-zero n, entry, e, ← placed-nothing out 0 (omega arith), next) (rest out (omega arith) (omega arith))
+        rw (mul-zero n, delivery, e, ← placed-nothing out 0 (omega arith), next) (rest out (omega arith) (omega arith))
 
--- behind the last record there is none
+-- after the last record there is none
 no-record : (rs : List Record) (k : ℕ) → length rs ≤ k → getElem? rs k ≡ none
 no-record [] k h = refl
 no-record (r ∷ rs) zero h = absurd (omega arith)
 no-record (r ∷ rs) (suc k) h = no-record rs k (omega arith)
 
 -- before it there is one
-record-there : (rs : List Record) (k : ℕ) → k < length rs → length (foundNumbers recordFields (getElem? rs k)) ≡ 120
+record-there : (rs : List Record) (k : ℕ) → k < length rs → length (foundNumbers recordFields (getElem? rs k)) ≡ recordBytes
 unfolding foundNumbers encodeRecord
 record-there [] k h = absurd (omega arith)
 record-there (r ∷ rs) zero h = record-length r
 record-there (r ∷ rs) (suc k) h = record-there rs k (omega arith)
 
-module _ (s : Bytes) (l : Layout) (read : layout s ≡ accepted l) (out after : Bytes) (x : ℕ) where
+module _ {s : Bytes} {offsets : List ℕ} {blocks : ℕ} (kept : Kept s offsets blocks) (out after : Bytes) (x : ℕ) where
   -- the records of an accepted file are counted
   pub counted : (form : Form) → Delivered form 0 out (allRecords s) after x → x ≡ length (allRecords s)
   counted form h =
-      let few = all-few s l read in
-      h .next ∙ behind-number 0 (allRecords s) (omega arith) ∙ omega arith
+      let few = all-few kept in
+      h .next ∙ number-after 0 (allRecords s) (omega (arith, short kept)) ∙ omega arith
 
   -- one record is wanted
   module _ (w : ℕ) (d : Delivered (One w) 0 out (allRecords s) after x) where
@@ -145,12 +136,12 @@ module _ (s : Bytes) (l : Layout) (read : layout s ≡ accepted l) (out after : 
 
     one-is : foundBytes recordFields (recordAt s w) ≡ accepted (foundNumbers recordFields found)
     unfolding foundBytes recordAt
-    one-is = rw (foundBytes, recordAt, accepted-all s l read)
+    one-is = rw (foundBytes, recordAt, accepted-all kept)
 
     one-put : after ≡ placed out 0 (foundNumbers recordFields found)
     one-put =
-        let few = all-few s l read in
-        d .buffer ∙ put-one w 0 out (allRecords s) (omega arith) (omega arith) ∙ rw (sub-zero w)
+        let few = all-few kept in
+        d .buffer ∙ put-one w 0 out (allRecords s) (omega (arith, short kept)) (omega arith) ∙ rw (sub-zero w)
 
     -- there is none
     pub one-none : x ≤ w → Written (foundBytes recordFields (recordAt s w)) out after (CountAnswer·is.Counted 0)
@@ -161,101 +152,150 @@ module _ (s : Bytes) (l : Layout) (read : layout s ≡ accepted l) (out after : 
         written-placed _ out [] (one-is ∙ ap accepted nothing) (omega arith) after (one-put ∙ rw nothing) 0 refl
 
     module _ (h : w < x) where
-      one-length : length (foundNumbers recordFields found) ≡ 120
+      one-length : length (foundNumbers recordFields found) ≡ recordBytes
       one-length = record-there (allRecords s) w (omega (arith, counted (One w) d))
 
       one-room : length after ≡ length out
       one-room = ap length one-put ∙ placed-length out 0 (foundNumbers recordFields found)
 
       -- it does not fit
-      pub one-short : length after < 120 → (a : CountAnswer) → a ≡ CountAnswer·is.Refused (refusal 21 0) → Written (foundBytes recordFields (recordAt s w)) out after a
+      pub one-short : length after < recordBytes → (a : CountAnswer) → a ≡ CountAnswer·is.Refused (refusal 21 0) → Written (foundBytes recordFields (recordAt s w)) out after a
       one-short g a e =
           let same : after ≡ out = one-put ∙ sym (placed-none out 0 (foundNumbers recordFields found) (omega (arith, one-length, one-room))) in
           rw same (written-short _ out (foundNumbers recordFields found) one-is (omega (arith, one-length, one-room)) a e)
 
       -- it is put
-      pub one-written : 120 ≤ length after → Written (foundBytes recordFields (recordAt s w)) out after (CountAnswer·is.Counted 120)
-      one-written g = written-placed _ out (foundNumbers recordFields found) one-is (omega (arith, one-length, one-room)) after one-put 120 (sym one-length)
+      pub one-written : recordBytes ≤ length after → Written (foundBytes recordFields (recordAt s w)) out after (CountAnswer·is.Counted recordBytes)
+      one-written g = written-placed _ out (foundNumbers recordFields found) one-is (omega (arith, one-length, one-room)) after one-put recordBytes (sym one-length)
 
--- an entry has its width
-entry-length : (form : Form) (r : Record) → 1 ≤ width form → length (encoded form r) ≡ width form
-entry-length Count r h = absurd (omega arith)
-entry-length Rows r h = encoded-length (rowOf r)
-entry-length Table r h = record-length r
-entry-length (One w) r h = absurd (omega arith)
+-- what is put for a record has its width
+encoded-width : (form : Form) (r : Record) → 1 ≤ width form → length (encoded form r) ≡ width form
+encoded-width Rows r h = encoded-length (rowOf r)
+encoded-width Table r h = record-length r
+encoded-width (One w) r h = absurd (omega arith)
 
--- an entry for each record
-entries-length : (form : Form) (rs : List Record) → 1 ≤ width form → length (entries form rs) ≡ width form * length rs
-unfolding entries flatMap
-entries-length form [] h = omega arith
-entries-length form (r ∷ rs) h = rw (length-append) (omega (arith, entry-length form r h, entries-length form rs h))
+-- and so has what is put for each
+all-length : (form : Form) (rs : List Record) → 1 ≤ width form → length (allEncoded form rs) ≡ width form * length rs
+unfolding allEncoded flatMap
+all-length form [] h = omega arith
+all-length form (r ∷ rs) h = rw (length-append) (omega (arith, encoded-width form r h, all-length form rs h))
 
--- what is put for a record is its entry, whatever its number
-entry-is : (form : Form) (n : ℕ) (r : Record) → 1 ≤ width form → entry form n r ≡ encoded form r
-entry-is Count n r h = absurd (omega arith)
-entry-is Rows n r h = refl
-entry-is Table n r h = refl
-entry-is (One w) n r h = absurd (omega arith)
+-- the record's number does not matter
+delivery-is : (form : Form) (n : ℕ) (r : Record) → 1 ≤ width form → delivery form n r ≡ encoded form r
+delivery-is Rows n r h = refl
+delivery-is Table n r h = refl
+delivery-is (One w) n r h = absurd (omega arith)
 
--- entries that fit are put one after another
-put-entries : (form : Form) (n : ℕ) (out : Bytes) (rs : List Record) → 1 ≤ width form → n + length rs < 2 ^ 64
-    → (n + length rs) * width form ≤ length out → putAll form n out rs ≡ placed out (n * width form) (entries form rs)
-unfolding putAll entries flatMap
-put-entries form n out [] wide few fit = placed-nothing out (n * width form) (omega arith)
-put-entries form n out (r ∷ rs) wide few fit =
+-- what fits is put one after another
+put-encoded : (form : Form) (n : ℕ) (out : Bytes) (rs : List Record) → 1 ≤ width form → n + length rs < 2 ^ 64
+    → (n + length rs) * width form ≤ length out → putAll form n out rs ≡ placed out (n * width form) (allEncoded form rs)
+unfolding putAll allEncoded flatMap
+put-encoded form n out [] wide few fit = placed-nothing out (n * width form) (omega arith)
+put-encoded form n out (r ∷ rs) wide few fit =
     let w = width form in
     let one : wrapped n 1 ≡ n + 1 = omega arith in
-    let size = entry-length form r wide in
-    let all = entries-length form rs wide in
+    let size = encoded-width form r wide in
+    let all = all-length form rs wide in
     let spread : (n + suc (length rs)) * w ≡ n * w + w + w * length rs =
     rw (add-mul n (suc (length rs)) w, suc-mul (length rs) w, mul-comm (length rs) w) (omega arith) in
     let same : n + 1 + length rs ≡ n + length (r ∷ rs) = omega arith in
     let next : (n + 1) * w ≡ n * w + length (encoded form r) = rw (size, add-mul n 1 w) (omega (arith, one-mul w)) in
-    rw (one, entry-is form n r wide)
-    (put-entries form (n + 1) (placed out (n * w) (encoded form r)) rs wide (omega arith) (rw (same, placed-length) fit)
-    ∙ rw next (placed-append out (n * w) (encoded form r) (entries form rs) (omega arith)))
+    rw (one, delivery-is form n r wide)
+    (put-encoded form (n + 1) (placed out (n * w) (encoded form r)) rs wide (omega arith) (rw (same, placed-length) fit)
+    ∙ rw next (placed-append out (n * w) (encoded form r) (allEncoded form rs) (omega arith)))
 
-module _ (s : Bytes) (l : Layout) (read : layout s ≡ accepted l) (form : Form) (each : ℕ) (width-is : each ≡ width form) (wide : 1 ≤ width form)
-    (out : Bytes) (n : ℕ) (count : n ≡ length (allRecords s)) where
-  -- how many bytes the entries have
-  entries-bytes : length (entries form (allRecords s)) ≡ n * each
-  entries-bytes = rw (entries-length form (allRecords s) wide, width-is, count) (mul-comm (width form) (length (allRecords s)))
+-- so many places of this width take no more bytes than there are
+pub room-for : (each n size : ℕ) → 0 < each → n ≤ size / each → each * n ≤ size
+room-for each n size h g = rw (mul-comm each n) (le-div-iff-mul-le h .0 g)
 
+-- the bytes of so many records can be told
+fits-width : (form : Form) (n : ℕ) → n ≤ mostBytes → Fits w64 (width form * n)
+fits-width Rows n h = omega arith
+fits-width Table n h = omega arith
+fits-width (One w) n h = rw (zero-mul n) (omega arith)
+
+pub told-fits : {s : Bytes} {offsets : List ℕ} {blocks : ℕ} → Kept s offsets blocks → {form : Form} {each n : ℕ} {out after : Bytes}
+    → Delivered form 0 out (allRecords s) after n → each ≡ width form → Fits w64 (each * n)
+told-fits kept {form} {each} {n} {out} {after} d e =
+    rw e (fits-width form n (omega (arith, counted kept out after n form d, all-few kept, short kept)))
+
+module _ {s : Bytes} {offsets : List ℕ} {blocks : ℕ} (kept : Kept s offsets blocks) (form : Form) (wide : 1 ≤ width form) {each : ℕ} (width-is : each ≡ width form) where
   pub each-some : 0 < each
   each-some = omega arith
 
-  -- the buffer is too short for all entries
-  pub entries-short : length out / each < n → (a : CountAnswer) → a ≡ CountAnswer·is.Refused (refusal 21 0)
-      → Written (accepted (entries form (allRecords s))) out out a
-  entries-short h = written-short _ out (entries form (allRecords s)) refl (rw entries-bytes (div-lt-iff-lt-mul each-some .0 h))
+  -- how many bytes are put for all
+  all-bytes : length (allEncoded form (allRecords s)) ≡ length (allRecords s) * each
+  all-bytes = rw (all-length form (allRecords s) wide, width-is) (mul-comm (width form) (length (allRecords s)))
 
-  -- it is long enough
-  module _ (h : n ≤ length out / each) where
-    room : n * each ≤ length out
-    room = le-div-iff-mul-le each-some .0 h
+  -- what a walk leaves in a buffer that is long enough
+  module _ {out after : Bytes} {n : ℕ} (d : Delivered form 0 out (allRecords s) after n) (h : length (allRecords s) ≤ length out / each) where
+    all-room : length (allRecords s) * each ≤ length out
+    all-room = le-div-iff-mul-le each-some .0 h
 
-    pub entries-fit : length out < 2 ^ 64 → Fits w64 (each * n)
-    entries-fit g = rw (mul-comm each n) (omega (arith, room))
-
-    -- they are put
-    pub entries-put : (after : Bytes) (x : ℕ) → Delivered form 0 out (allRecords s) after x
-        → Written (accepted (entries form (allRecords s))) out after (CountAnswer·is.Counted (each * n))
-    entries-put after x d =
-        let few = all-few s l read in
+    all-put : Written (accepted (allEncoded form (allRecords s))) out after (CountAnswer·is.Counted (each * n))
+    all-put =
         let rs = allRecords s in
-        let all : (0 + length rs) * width form ≤ length out = rw (zero-add (length rs), ← count, ← width-is) room in
-        let put = put-entries form 0 out rs wide (omega arith) all in
-        written-placed _ out (entries form rs) refl (rw entries-bytes room) after (d .buffer ∙ put ∙ rw (zero-mul (width form))) (each * n)
-        (mul-comm each n ∙ sym entries-bytes)
+        let few = all-few kept in
+        let fit : (0 + length rs) * width form ≤ length out = rw (zero-add (length rs), ← width-is) all-room in
+        let put = put-encoded form 0 out rs wide (omega (arith, short kept)) fit in
+        written-placed _ out (allEncoded form rs) refl (rw all-bytes all-room) after (d .buffer ∙ put ∙ rw (zero-mul (width form))) (each * n)
+        (mul-comm each n ∙ ap (λ (m : ℕ). m * each) (counted kept out after n form d) ∙ sym all-bytes)
 
--- the outline has an entry for each record
-rows-entries : (rs : List Record) → outlineOf (map rowOf rs) ≡ entries Rows rs
-unfolding outlineOf entries map flatMap
-rows-entries [] = refl
-rows-entries (r ∷ rs) = ap (λ (b : Bytes). encodeRow (rowOf r) ++ b) (rows-entries rs)
+  -- a buffer with a place for as many blocks as the file can have does
+  module _ {out after : Bytes} {n : ℕ} (d : Delivered form 0 out (allRecords s) after n) (h : length s / leastBlock ≤ length out / each) where
+    sure : length (allRecords s) ≤ length out / each
+    sure = let few = all-few kept in omega arith
+
+    pub sure-put : Written (accepted (allEncoded form (allRecords s))) out after (CountAnswer·is.Counted (each * n))
+    sure-put = all-put d sure
+
+  -- a buffer of its own has a place for all that have come
+  pub own-room : (size : ℕ) {own made : Bytes} {n : ℕ} → Delivered form 0 own (allRecords s) made n → length own ≡ size → n ≤ size / each → each * n ≤ length made
+  own-room size {n = n} d e h = rw (delivered-length d, e) (room-for each n size (omega arith) h)
+
+  -- the walk into a buffer of its own has counted
+  module _ (out : Bytes) {own made : Bytes} {n : ℕ} (d : Delivered form 0 own (allRecords s) made n) where
+    -- there are more than the buffer has places for
+    pub measured-short : length out / each < n → (a : CountAnswer) → a ≡ CountAnswer·is.Refused (refusal 21 0)
+        → Written (accepted (allEncoded form (allRecords s))) out out a
+    measured-short h =
+        let many : length out < length (allRecords s) * each = div-lt-iff-lt-mul each-some .0 (rw (counted kept own made n form d) at h) in
+        written-short _ out (allEncoded form (allRecords s)) refl (rw all-bytes many)
+
+    module _ (h : n ≤ length out / each) where
+      enough : length (allRecords s) ≤ length out / each
+      enough = rw (counted kept own made n form d) at h
+
+      -- a second walk puts them
+      pub measured-put : {after : Bytes} {x : ℕ} → Delivered form 0 out (allRecords s) after x
+          → Written (accepted (allEncoded form (allRecords s))) out after (CountAnswer·is.Counted (each * n))
+      measured-put {after} {x} g =
+          let same : x ≡ n = counted kept out after x form g ∙ sym (counted kept own made n form d) in
+          rw (← same) (all-put g enough)
+
+      -- or all are in the buffer of its own
+      module _ (size : ℕ) (own-size : length own ≡ size) (all-there : n ≤ size / each) where
+        g : n ≤ length own / each
+        g = rw own-size all-there
+
+        pub own-put : {after : Bytes} {r : CountAnswer} → Written (accepted (take (each * n) made)) out after r
+            → Written (accepted (allEncoded form (allRecords s))) out after r
+        own-put w =
+            let mine = all-put d (rw (counted kept own made n form d) at g) in
+            rw (written-taken _ own made (each * n) mine .is) w
+
+-- the outline has a row for each record
+rows-encoded : (rs : List Record) → outlineOf (map rowOf rs) ≡ allEncoded Rows rs
+unfolding outlineOf allEncoded map flatMap
+rows-encoded [] = refl
+rows-encoded (r ∷ rs) = ap (λ (b : Bytes). encodeRow (rowOf r) ++ b) (rows-encoded rs)
 
 -- the answers of the public functions
 module _ (s : Bytes) (a : LayoutAnswer) (read : layoutAnswer a ≡ layout s) where
+  -- the answer that was read is told again
+  pub told-again : (x : LayoutAnswer) → a ≡ x → layoutAnswer x ≡ layout s
+  told-again x e = sym (ap layoutAnswer e) ∙ read
+
   -- what is written of an outline reads back
   back : ((i : ℕ) → Fits w8 (getD s i 0)) → (out after : Bytes) (x : CountAnswer) → Written (outline s) out after x → OutlineWritten s out after x
   back known out after x w =
@@ -264,39 +304,49 @@ module _ (s : Bytes) (a : LayoutAnswer) (read : layoutAnswer a ≡ layout s) whe
         reads-back = λ n e. let t = written-taken (outline s) out after n (rw e at w) in read-back s (take n after) (λ i. known i .fits) (t .is);
       }
 
-  refused-as : (r : Refusal) → a ≡ LayoutAnswer·is.Refused r → records s ≡ refused r
-  unfolding layoutAnswer
-  refused-as r e = records-refused s r (sym read ∙ ap layoutAnswer e)
-
   module _ (r : Refusal) (e : a ≡ LayoutAnswer·is.Refused r) where
+    -- a refused file has no records
+    no-records : records s ≡ refused r
+    unfolding records
+    no-records = refused-records deepest 0 0 s r (file-refused s a read r e)
+
     pub count-refused : countAnswer (CountAnswer·is.Refused r) ≡ recordCount s
     unfolding countAnswer recordCount
-    count-refused = rw (recordCount, refused-as r e)
+    count-refused = rw (recordCount, no-records)
 
     pub record-refused : (w : ℕ) (out : Bytes) → Written (foundBytes recordFields (recordAt s w)) out out (CountAnswer·is.Refused r)
     unfolding foundBytes recordAt
-    record-refused w out = written-refused (foundBytes recordFields (recordAt s w)) out r (rw (foundBytes, recordAt, refused-as r e)) _ refl
+    record-refused w out = written-refused (foundBytes recordFields (recordAt s w)) out r (rw (foundBytes, recordAt, no-records)) _ refl
 
     pub outline-refused : ((i : ℕ) → Fits w8 (getD s i 0)) → (out : Bytes) → OutlineWritten s out out (CountAnswer·is.Refused r)
     unfolding outline rows
-    outline-refused known out = back known out out _ (written-refused (outline s) out r (rw (outline, rows, refused-as r e)) _ refl)
+    outline-refused known out = back known out out _ (written-refused (outline s) out r (rw (outline, rows, no-records)) _ refl)
 
     pub table-refused : (out : Bytes) → Written (recordTable s) out out (CountAnswer·is.Refused r)
     unfolding recordTable
-    table-refused out = written-refused (recordTable s) out r (rw (recordTable, refused-as r e)) _ refl
+    table-refused out = written-refused (recordTable s) out r (rw (recordTable, no-records)) _ refl
 
-  module _ (l : Layout) (e : a ≡ LayoutAnswer·is.Accepted l) where
+  module _ (before table : List ℕ) (is : table ≡ offsetTable before (file s)) (l : Layout) (e : a ≡ LayoutAnswer·is.Accepted l) where
+    kept : Kept s table (l .blocks)
+    kept = blocks-kept s a read before table is l e
+
     pub count-accepted : (n : ℕ) → n ≡ length (allRecords s) → countAnswer (CountAnswer·is.Counted n) ≡ recordCount s
     unfolding countAnswer recordCount
-    count-accepted n c = rw (recordCount, accepted-all s l (accepted-as s a read l e), c)
+    count-accepted n c = rw (recordCount, accepted-all kept, c)
 
     pub outline-written : ((i : ℕ) → Fits w8 (getD s i 0)) → (out after : Bytes) (x : CountAnswer)
-        → Written (accepted (entries Rows (allRecords s))) out after x → OutlineWritten s out after x
-    unfolding outline rows entries
-    outline-written known out after x w =
-        back known out after x (rw (outline, rows, accepted-all s l (accepted-as s a read l e), rows-entries (allRecords s)) w)
+        → Written (accepted (allEncoded Rows (allRecords s))) out after x → OutlineWritten s out after x
+    unfolding outline rows allEncoded
+    outline-written known out after x w = back known out after x (rw (outline, rows, accepted-all kept, rows-encoded (allRecords s)) w)
 
-    pub table-written : (out after : Bytes) (x : CountAnswer) → Written (accepted (entries Table (allRecords s))) out after x
+    pub table-written : (out after : Bytes) (x : CountAnswer) → Written (accepted (allEncoded Table (allRecords s))) out after x
         → Written (recordTable s) out after x
-    unfolding recordTable entries
-    table-written out after x w = rw (recordTable, accepted-all s l (accepted-as s a read l e)) w
+    unfolding recordTable allEncoded
+    table-written out after x w = rw (recordTable, accepted-all kept) w
+
+-- the first bytes of a buffer are handed over
+pub handed-over : (own out : Bytes) (size : ℕ) → size ≤ length own → size ≤ length out → (after : Bytes) → after ≡ placed out 0 (take size (drop 0 own))
+    → Written (accepted (take size own)) out after (CountAnswer·is.Counted size)
+handed-over own out size h g after e =
+    let long : length (take size own) ≡ size = length-take-le size own h in
+    written-placed _ out (take size own) refl (omega arith) after e size (sym long)

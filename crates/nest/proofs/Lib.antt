@@ -1,6 +1,5 @@
 -- Laws that the proofs of the walk cite.
 pub mod SinkLaws
-pub mod BlocksLaws
 pub mod ContentLaws
 pub mod WalkLaws
 pub mod EntryLaws

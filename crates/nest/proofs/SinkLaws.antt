@@ -1,102 +1,167 @@
 -- What is put for a record, what is found, and what several records leave.
-use Prim.Native.Nat.{ℕ, suc, _*_, _/_, _≤_}
-use native.Mathlib.Omega.{arith}
+use Prim.Native.Nat.{ℕ, suc, _+_, _*_, _/_, _≤_}
 use native.Mathlib.Nat.{mul-zero}
-use mathlib.Core.Path.{_≡_, refl, _∙_}
+use native.Mathlib.Omega.{arith}
+use mathlib.Core.Path.{_≡_, refl, sym, ap, _∙_}
+use mathlib.Core.Bool.{Bool, true, false}
 use mathlib.Core.List.{List, [], _∷_, _++_}
 use lib.ListN.{length}
-use borrow.Author.Tests.{eq-eqb, ne-eqb}
-use Rattle.format.specs.declared.block.Record.{Record}
-use Rattle.format.specs.declared.row.Row.{Row}
-use Rattle.format.specs.Bytes.{Bytes, wrapped}
+use lib.Dec.{eqb, leb}
+use borrow.Author.Tests.{eq-eqb, ne-eqb, le-leb}
+use Rattle.format.specs.declared.block.Block.{Block}
 use Rattle.format.specs.declared.block.Inner.{Inner}
 use Rattle.format.specs.declared.block.Inner.the-variants.{Plain, Opened, Refused, TooDeep}
-use Rattle.format.specs.Fields.{blockFields, recordFields, refusalFields, numberBytes, encodeRecord}
+use Rattle.format.specs.declared.block.Record.{Record}
+use Rattle.format.specs.declared.offset.OutermostOffset.{OutermostOffset}
+use Rattle.format.specs.declared.row.Row.{Row}
+use Rattle.format.specs.Bytes.{Bytes, wrapped}
+use Rattle.format.specs.Block.{flags, allocatedSize, usedSize, leastBlock, isStreamed, blockWith, soundBlock, Sound}
+use Rattle.format.specs.Fields.{numberBytes, refusalFields, blockFields, recordFields, recordBytes, encodeRecord}
 use Rattle.format.specs.Lent.{placed}
-use Rattle.format.specs.Outline.{rowOf, encodeRow}
+use Rattle.format.specs.Outline.{innerNumber, rowOf, rowBytes, encodeRow}
 use Rattle.format.proofs.RowLaws.{encoded-length}
 use Rattle.put.proofs.NumberLaws.{numbers-length}
-use Rattle.put.proofs.PutLaws.{placed-nothing, placed-none}
+use Rattle.put.proofs.PutLaws.{placed-none, placed-nothing, placed-length}
+use Rattle.file.specs.declared.again.Summary.{Summary}
+use Rattle.file.specs.Again.{blockAgain, summaryAgain}
+use Rattle.file.proofs.AgainLaws.{reported-left, reported-stored, block-again}
 use Rattle.nest.specs.declared.sink.Form.{Form}
-use Rattle.nest.specs.declared.sink.Form.the-variants.{Count, Rows, Table, One}
-use Rattle.nest.specs.Sink.{width, entry, numberBehind, putAll, Delivered}
+use Rattle.nest.specs.declared.sink.Form.the-variants.{Rows, Table, One}
+use Rattle.nest.specs.declared.sink.Place.{Place}
+use Rattle.nest.specs.declared.sink.Place.the-variants as Place·is
+use Rattle.nest.specs.Sink.{recordAt, width, delivery, numberAfter, putAll, Delivered, PlaceIs}
 
 -- fifteen numbers for each record
-pub record-length : (r : Record) → length (encodeRecord r) ≡ 120
+pub record-length : (r : Record) → length (encodeRecord r) ≡ recordBytes
 unfolding encodeRecord recordFields
 record-length r = rw (numbers-length (recordFields r)) (fields (r .inner))
   where
-    fields : (i : Inner) → 8 * suc (suc (suc (length (refusalFields i ++ blockFields (r .block))))) ≡ 120
+    fields : (i : Inner) → 8 * suc (suc (suc (length (refusalFields i ++ blockFields (r .block))))) ≡ recordBytes
     fields Plain = refl
     fields Opened = refl
     fields (Refused x) = refl
     fields TooDeep = refl
 
--- records and then others
-behind-append : (n : ℕ) (rs qs : List Record) → numberBehind (numberBehind n rs) qs ≡ numberBehind n (rs ++ qs)
-unfolding numberBehind
-behind-append n [] qs = refl
-behind-append n (r ∷ rs) qs = behind-append (wrapped n 1) rs qs
+module _ (form : Form) (n room : ℕ) where
+  -- there is no place for the row, or there is one
+  pub no-row : form ≡ Rows → room / rowBytes ≤ n → PlaceIs form n room Place·is.Nowhere
+  no-row h g out r size = rw h (placed-none out (n * rowBytes) (encodeRow (rowOf r)) (omega (arith, encoded-length (rowOf r))))
 
-put-append : (form : Form) (n : ℕ) (out : Bytes) (rs qs : List Record)
-    → putAll form (numberBehind n rs) (putAll form n out rs) qs ≡ putAll form n out (rs ++ qs)
-unfolding numberBehind putAll
-put-append form n out [] qs = refl
-put-append form n out (r ∷ rs) qs = put-append form (wrapped n 1) (placed out (n * width form) (entry form n r)) rs qs
+  pub row-place : form ≡ Rows → PlaceIs form n room (Place·is.Row (n * rowBytes))
+  row-place h out r = rw h
 
-module _ (form : Form) (n : ℕ) (r : Record) (out : Bytes) where
-  -- nothing is put of a record that is only counted
-  pub put-count : form ≡ Count → out ≡ placed out (n * width form) (entry form n r)
-  put-count h = rw (h, mul-zero n) (placed-nothing out 0 (omega arith))
+  -- there is no place for the numbers, or there is one
+  pub no-numbers : form ≡ Table → room / recordBytes ≤ n → PlaceIs form n room Place·is.Nowhere
+  no-numbers h g out r size = rw h (placed-none out (n * recordBytes) (encodeRecord r) (omega (arith, record-length r)))
 
-  -- there is no place for the row
-  pub put-no-row : form ≡ Rows → length out / 16 ≤ n → out ≡ placed out (n * width form) (entry form n r)
-  put-no-row h g = rw h (placed-none out (n * 16) (encodeRow (rowOf r)) (omega (arith, encoded-length (rowOf r))))
-
-  -- the row is put
-  pub put-row : form ≡ Rows → (row : Row) → row ≡ rowOf r → (after : Bytes) → after ≡ placed out (n * 16) (encodeRow row)
-      → after ≡ placed out (n * width form) (entry form n r)
-  put-row h row e after p = rw (h, ← e) p
-
-  -- there is no place for the record
-  pub put-no-record : form ≡ Table → length out / 120 ≤ n → out ≡ placed out (n * width form) (entry form n r)
-  put-no-record h g = rw h (placed-none out (n * 120) (encodeRecord r) (omega (arith, record-length r)))
-
-  -- the record is put
-  pub put-table : form ≡ Table → (after : Bytes) → after ≡ placed out (n * 120) (encodeRecord r) → after ≡ placed out (n * width form) (entry form n r)
-  put-table h after p = rw h p
+  pub numbers-place : form ≡ Table → PlaceIs form n room (Place·is.Numbers (n * recordBytes))
+  numbers-place h out r = rw h
 
   module _ (w : ℕ) (one : form ≡ One w) where
-    -- another record is wanted
-    pub put-other : (w ≡ n → ⊥) → out ≡ placed out (n * width form) (entry form n r)
-    put-other h = rw (one, mul-zero n, entry, ne-eqb w n h) (placed-nothing out 0 (omega arith))
+    -- another record is wanted, or this one
+    pub other-wanted : (w ≡ n → ⊥) → PlaceIs form n room Place·is.Nowhere
+    other-wanted h out r size = rw (one, mul-zero n, delivery, ne-eqb w n h) (placed-nothing out 0 (omega arith))
 
-    -- the wanted record is put
-    pub put-wanted : w ≡ n → (after : Bytes) → after ≡ placed out 0 (encodeRecord r) → after ≡ placed out (n * width form) (entry form n r)
-    put-wanted h after p = rw (one, mul-zero n, entry, eq-eqb w n h) p
+    pub this-wanted : w ≡ n → PlaceIs form n room (Place·is.Numbers 0)
+    this-wanted h out r = rw (one, mul-zero n, delivery, eq-eqb w n h)
 
--- a record is put as its numbers
-pub record-put : (r : Record) (out : Bytes) (at : ℕ) (numbers : List ℕ) → numbers ≡ recordFields r → (after : Bytes)
-    → after ≡ placed out at (numberBytes numbers) → after ≡ placed out at (encodeRecord r)
-unfolding encodeRecord
-record-put r out at numbers e after p = rw (encodeRecord, ← e) p
+module _ (form : Form) (n room : ℕ) (place : Place) (is : PlaceIs form n room place) where
+  -- nothing is put
+  pub put-nowhere : place ≡ Place·is.Nowhere → (out : Bytes) (r : Record) → length out ≡ room → out ≡ placed out (n * width form) (delivery form n r)
+  put-nowhere h = rw h at is
+
+  module _ (p : ℕ) (out after : Bytes) (r : Record) where
+    -- the row is put
+    pub put-row : place ≡ Place·is.Row p → (row : Row) → row ≡ rowOf r → after ≡ placed out p (encodeRow row)
+        → after ≡ placed out (n * width form) (delivery form n r)
+    put-row h row e f = f ∙ ap (λ (x : Row). placed out p (encodeRow x)) e ∙ (rw h at is) out r
+
+    -- the numbers are put
+    pub put-numbers : place ≡ Place·is.Numbers p → after ≡ placed out p (encodeRecord r) → after ≡ placed out (n * width form) (delivery form n r)
+    put-numbers h f = f ∙ (rw h at is) out r
+
+module _ (t : Bytes) (sound : Sound t) (depth : ℕ) (here : OutermostOffset) (i : ℕ) (inner : Inner) where
+  -- the row of a sound block is made of its summary
+  pub row-made : (s : Summary) → s ≡ summaryAgain t → (state : ℕ) → state ≡ innerNumber inner
+      → (n : ℕ)
+      → _≡_ {A = Row} (record {
+        depth = depth;
+        streamed = s .streamed;
+        compressed = s .compressed;
+        checksum = s .checksum;
+        inner = state;
+        ordinal = i;
+        «header_size» = s .«header_size»;
+        at = here;
+        allocated = s .allocated;
+        used = s .used;
+      }) (rowOf (recordAt depth here i n t inner))
+  unfolding rowOf soundBlock blockWith summaryAgain
+  row-made s e state f n = go (isStreamed (flags t)) refl
+    where
+      long : leb leastBlock (length t) ≡ true
+      long = le-leb leastBlock (length t) (omega (arith, sound .least, sound .whole))
+
+      go : (y : Bool) → isStreamed (flags t) ≡ y
+          → _≡_ {A = Row} (record {
+            depth = depth;
+            streamed = s .streamed;
+            compressed = s .compressed;
+            checksum = s .checksum;
+            inner = state;
+            ordinal = i;
+            «header_size» = s .«header_size»;
+            at = here;
+            allocated = s .allocated;
+            used = s .used;
+          }) (rowOf (recordAt depth here i n t inner))
+      go true k = rw (e, f, summaryAgain, long, reported-left t (allocatedSize t) k, reported-left t (usedSize t) k, soundBlock, k, k)
+      go false k = rw (e, f, summaryAgain, long, reported-stored t (allocatedSize t) k, reported-stored t (usedSize t) k, soundBlock, k, k)
+
+  -- a record is put as its numbers
+  pub record-put : (n : ℕ) (b : Block) → b ≡ blockAgain i n t → (numbers : List ℕ)
+      → numbers ≡ recordFields (record { depth = depth; at = here; block = b; inner = inner }) → (out after : Bytes) (p : ℕ)
+      → after ≡ placed out p (numberBytes numbers) → after ≡ placed out p (encodeRecord (recordAt depth here i n t inner))
+  unfolding encodeRecord
+  record-put n b e numbers f out after p g = rw (encodeRecord, ← block-again t sound i n, ← e, ← f) g
 
 -- one record is taken
-pub delivered-one : (form : Form) (n : ℕ) (r : Record) (out after : Bytes) → after ≡ placed out (n * width form) (entry form n r)
+pub delivered-one : (form : Form) (n : ℕ) (r : Record) (out after : Bytes) → after ≡ placed out (n * width form) (delivery form n r)
     → (x : ℕ) → x ≡ wrapped n 1 → Delivered form n out (r ∷ []) after x
-unfolding numberBehind putAll
+unfolding numberAfter putAll
 delivered-one form n r out after p x e = record { next = e; buffer = p }
 
 -- no record is taken
 pub delivered-none : (form : Form) (n : ℕ) (out : Bytes) → Delivered form n out [] out n
-unfolding numberBehind putAll
+unfolding numberAfter putAll
 delivered-none form n out = record { next = refl; buffer = refl }
 
+-- records and then others
+after-append : (n : ℕ) (rs qs : List Record) → numberAfter (numberAfter n rs) qs ≡ numberAfter n (rs ++ qs)
+unfolding numberAfter
+after-append n [] qs = refl
+after-append n (r ∷ rs) qs = after-append (wrapped n 1) rs qs
+
+put-append : (form : Form) (n : ℕ) (out : Bytes) (rs qs : List Record)
+    → putAll form (numberAfter n rs) (putAll form n out rs) qs ≡ putAll form n out (rs ++ qs)
+unfolding numberAfter putAll
+put-append form n out [] qs = refl
+put-append form n out (r ∷ rs) qs = put-append form (wrapped n 1) (placed out (n * width form) (delivery form n r)) rs qs
+
 -- records are taken, and then others
-pub delivered-append : (form : Form) (n m x : ℕ) (out between after : Bytes) (rs qs : List Record) → Delivered form n out rs between m
+pub delivered-append : {form : Form} {n m x : ℕ} {out between after : Bytes} {rs qs : List Record} → Delivered form n out rs between m
     → Delivered form m between qs after x → Delivered form n out (rs ++ qs) after x
-delivered-append form n m x out between after rs qs h g =
+delivered-append {form} {n} {m} {x} {out} {between} {after} {rs} {qs} h g =
     record {
-      next = g .next ∙ rw (h .next) (behind-append n rs qs);
+      next = g .next ∙ rw (h .next) (after-append n rs qs);
       buffer = g .buffer ∙ rw (h .next, h .buffer) (put-append form n out rs qs);
     }
+
+-- a buffer keeps its length
+put-length : (form : Form) (n : ℕ) (out : Bytes) (rs : List Record) → length (putAll form n out rs) ≡ length out
+unfolding putAll
+put-length form n out [] = refl
+put-length form n out (r ∷ rs) = put-length form (wrapped n 1) _ rs ∙ placed-length out (n * width form) (delivery form n r)
+
+pub delivered-length : {form : Form} {n x : ℕ} {out after : Bytes} {rs : List Record} → Delivered form n out rs after x → length after ≡ length out
+delivered-length {form} {n} {x} {out} {after} {rs} h = ap length (h .buffer) ∙ put-length form n out rs

@@ -1,155 +1,251 @@
--- The walk: one law for each call and each way out.
-use Prim.Native.Nat.{ℕ, zero, suc, _+_, _*_, _-_, _≤_, _<_}
+-- The walk: one law for each call and each way out. What is left to be delivered is what was to be delivered.
+use Prim.Native.Nat.{ℕ, zero, suc, _+_, _*_, _-_, _^_, _≤_, _<_}
+use native.Mathlib.Nat.{le-refl}
+use native.Mathlib.Numerals.{add-one}
 use native.Mathlib.Omega.{arith}
 use mathlib.Core.Path.{_≡_, refl, sym, ap, _∙_}
-use mathlib.Core.List.{List, [], _∷_}
-use lib.ListN.{length, take, drop, length-take, length-drop}
+use mathlib.Core.Bool.{Bool, true, false}
+use mathlib.Core.List.{List, [], _∷_, _++_}
+use lib.ListN.{length, take, drop, getD, length-take, length-drop}
+use lib.Seq.{drop-drop}
 use mir.Syntax.{w8}
 use mir.Val.{Fits}
+use borrow.Author.Tests.{le-leb}
 use Rattle.format.specs.declared.block.Block.{Block}
-use Rattle.format.specs.declared.block.Record.{Record}
 use Rattle.format.specs.declared.block.Inner.{Inner}
-use Rattle.format.specs.declared.block.Inner.the-variants.{Opened}
+use Rattle.format.specs.declared.block.Record.{Record}
 use Rattle.format.specs.declared.offset.OutermostOffset.{OutermostOffset}
 use Rattle.format.specs.Bytes.{Bytes, wrapped}
-use Rattle.format.specs.Outcome.{Outcome, accepted, refused}
-use Rattle.format.specs.Tree.{freeSpace}
-use Rattle.format.specs.Block.{block}
-use Rattle.format.specs.Chain.{mostBlocks}
-use Rattle.format.specs.File.{mostBytes}
-use Rattle.format.specs.Nest.{deepest, inside, walked, walk}
-use Rattle.put.proofs.PutLaws.{placed-length}
+use Rattle.format.specs.Outcome.{accepted}
+use Rattle.format.specs.Block.{headerSize, flags, compression, usedSize, leastBlock, isStreamed, isCompressed, contentStart, bytesLeft, blockWith, soundBlock, Sound}
+use Rattle.format.specs.Chain.{mostBlocks, extent}
+use Rattle.format.specs.File.{mostBytes, File, file}
+use Rattle.format.specs.Nest.{deepest, contentAt, contentOf, Inside, inside, walked, walk}
+use Rattle.format.proofs.BlockLaws.{BlockIs}
+use Rattle.format.proofs.ChainLaws.{blocks-few}
+use Rattle.format.proofs.FileLaws.{blocksStart, file-parts}
+use Rattle.file.specs.declared.again.Content.{Content}
+use Rattle.file.specs.Layout.{Kept}
+use Rattle.file.specs.Again.{reported, hasContent, contentAgain}
+use Rattle.file.proofs.PartLaws.{part-all}
+use Rattle.file.proofs.AgainLaws.{reported-left, reported-stored}
+use Rattle.file.proofs.KeptLaws.{enough-kept}
+use Rattle.file.proofs.EachLaws.{Each, kept-each}
 use Rattle.nest.specs.declared.sink.Form.{Form}
-use Rattle.nest.specs.declared.walk.NextStep.{NextStep}
-use Rattle.nest.specs.declared.walk.NextStep.the-variants as NextStep·is
-use Rattle.nest.specs.declared.walk.ContentStep.{ContentStep}
-use Rattle.nest.specs.declared.walk.ContentStep.the-variants as ContentStep·is
-use Rattle.nest.specs.Sink.{putAll, entry, width, Delivered}
-use Rattle.nest.specs.Walk.{blocksFrom, reads, insideOf, recordsOf, recordsWith, BlockAt, NextIs, IsOpen, ContentIs}
-use Rattle.nest.proofs.SinkLaws.{delivered-none, delivered-append}
-use Rattle.nest.proofs.BlocksLaws.{blocks-next, blocks-refused}
+use Rattle.nest.specs.declared.walk.Found.{Found}
+use Rattle.nest.specs.Sink.{recordAt, Delivered}
+use Rattle.nest.specs.Walk.{reads, insideOf, contentIn, insideAt, recordsAt, recordsLeft, fileRecords, Opens, ContentIs}
+use Rattle.nest.proofs.SinkLaws.{delivered-none, delivered-append, delivered-length}
+use Rattle.nest.proofs.ContentLaws.{nothing-left}
 
--- a buffer keeps its length
-put-length : (form : Form) (n : ℕ) (out : Bytes) (rs : List Record) → length (putAll form n out rs) ≡ length out
-unfolding putAll
-put-length form n out [] = refl
-put-length form n out (r ∷ rs) = put-length form (wrapped n 1) _ rs ∙ placed-length out (n * width form) (entry form n r)
+-- a file has few blocks
+pub kept-few : {s : Bytes} {offsets : List ℕ} {blocks : ℕ} → Kept s offsets blocks → blocks ≤ mostBlocks
+kept-few {s} kept =
+    let f = kept .f in
+    let few = blocks-few mostBlocks 0 (blocksStart f) _ (drop (blocksStart f) s) (file-parts s f (kept .is) .chain-read) in
+    omega (arith, kept .count)
 
-pub delivered-length : (form : Form) (n x : ℕ) (out after : Bytes) (rs : List Record) → Delivered form n out rs after x → length after ≡ length out
-delivered-length form n x out after rs h = ap length (h .buffer) ∙ put-length form n out rs
+-- what is left falls: into a block's content, and from a content to its blocks
+pub less-inside : (depth blocks k t : ℕ) → 66 * (deepest - depth) + blocks ≡ t → k < blocks → 66 * (deepest - depth) < t
+less-inside depth blocks k t e h = omega arith
 
--- what is left falls: into a block's content, behind a block, and from a content to its blocks
-pub less-inside : (depth left t : ℕ) → 66 * (deepest - depth) + left ≡ t → (left ≡ 0 → ⊥) → 66 * (deepest - depth) < t
-less-inside depth left t e h = omega arith
+pub less-opened : {c : Bytes} {offsets : List ℕ} {depth blocks t : ℕ} {compressed : Bool} → 66 * (deepest - depth) ≡ t
+    → Opens depth compressed c offsets blocks → 66 * (deepest - (depth + 1)) + blocks < t
+less-opened e opens = omega (arith, opens .higher, kept-few (opens .kept))
 
-pub less-behind : (depth left t : ℕ) → 66 * (deepest - depth) + left ≡ t → (left ≡ 0 → ⊥) → 66 * (deepest - depth) + (left - 1) < t
-less-behind depth left t e h = omega arith
+-- a sound block has the header size and the compression name of its header
+module _ (i n : ℕ) (t : Bytes) where
+  by-streamed : {A : Type 0} (field : Block → A) (x : A) → ((a u d : ℕ) → field (blockWith i n t a u d) ≡ x) → field (soundBlock i n t) ≡ x
+  unfolding soundBlock
+  by-streamed field x h = go (isStreamed (flags t)) refl
+    where
+      go : (y : Bool) → isStreamed (flags t) ≡ y → field (soundBlock i n t) ≡ x
+      go true k = rw (soundBlock, k) (h _ _ _)
+      go false k = rw (soundBlock, k) (h _ _ _)
 
-pub less-opened : (depth blocks t : ℕ) → 66 * (deepest - depth) ≡ t → blocks ≤ mostBlocks → depth + 1 ≤ deepest
-    → 66 * (deepest - (depth + 1)) + blocks < t
-less-opened depth blocks t e few high = omega arith
+  sound-header : soundBlock i n t .«header_size» ≡ headerSize t
+  unfolding blockWith
+  sound-header = by-streamed (λ (b : Block). b .«header_size») (headerSize t) (λ a u d. refl)
 
--- an ordinal is small
-pub ordinal-fits : (i left : ℕ) → i + left ≤ 64 → (left ≡ 0 → ⊥) → Fits w8 (i + 1)
-ordinal-fits i left h some = omega arith
-
--- and so are those behind it
-pub ordinals-left : (i left : ℕ) → i + left ≤ 64 → (left ≡ 0 → ⊥) → i + 1 + (left - 1) ≤ 64
-ordinals-left i left h some = omega arith
-
--- where no block is read, none is
-none-left : (left i n : ℕ) (s : Bytes) → blocksFrom 1 i n (drop n s) ≡ [] → blocksFrom left i n (drop n s) ≡ []
-unfolding blocksFrom
-none-left zero i n s h = refl
-none-left (suc left) i n s h = let m = n + freeSpace (drop n s) in go (block i m (drop m s)) refl
-  where
-    go : (o : Outcome Block) → block i (n + freeSpace (drop n s)) (drop (n + freeSpace (drop n s)) s) ≡ o → blocksFrom (suc left) i n (drop n s) ≡ []
-    go (refused r) e = blocks-refused i n _ s refl (suc left) r e
-    go (accepted b) e = let clash = sym (blocks-next i n _ s refl 0 b e) ∙ h in cc
+  sound-compression : soundBlock i n t .compression ≡ compression t
+  unfolding blockWith
+  sound-compression = by-streamed (λ (b : Block). b .compression) (compression t) (λ a u d. refl)
 
 same-offset : (x y : OutermostOffset) → x .0 ≡ y .0 → x ≡ y
 same-offset x y h = ap (λ (m : ℕ). record { 0 = m }) h
 
-module _ (s : Bytes) (n i : ℕ) (y : NextStep) (next-is : NextIs s i n y) (b : Block) (from to next : ℕ) (e : y ≡ NextStep·is.Block b from to next) where
-  -- a block is read
-  here-is : BlockAt s i n b from to next
-  here-is = rw e at next-is
+-- a block's record
+abbrev recordOf : ℕ → OutermostOffset → Block → Inner → Record
+recordOf depth here b inner = record { depth = depth; at = here; block = b; inner = inner }
 
-  -- its content lies inside
-  pub content-order : from ≤ to
-  content-order = omega (arith, here-is .size)
+-- k blocks of a file are walked
+pub record Walking (depth start : ℕ) (s : Bytes) (blocks : ℕ) (form : Form) (number : ℕ) (before out : Bytes) (k n : ℕ) : Type 0 where
+  pub few : k ≤ blocks
+  pub size : length out ≡ length before
+  pub onward : (after : Bytes) (x : ℕ) → Delivered form n out (recordsLeft depth start s k) after x
+      → Delivered form number before (fileRecords depth start s) after x
 
-  pub content-inside : to ≤ length s
-  content-inside = omega (arith, here-is .used, here-is .inside)
+pub walking-start : (depth start : ℕ) (s : Bytes) (blocks : ℕ) (form : Form) (number : ℕ) (before : Bytes)
+    → Walking depth start s blocks form number before before 0 number
+walking-start depth start s blocks form number before = record { few = omega arith; size = refl; onward = λ after x h. h }
 
-  -- and the next block begins inside
-  pub next-inside : next ≤ length s
-  next-inside = here-is .inside
+module _ {depth start : ℕ} {s : Bytes} {blocks : ℕ} {form : Form} {number : ℕ} {before out : Bytes} {k n : ℕ} {offsets : List ℕ}
+    (w : Walking depth start s blocks form number before out k n) (kept : Kept s offsets blocks) where
+  -- none is left
+  pub walking-done : blocks ≤ k → Delivered form number before (fileRecords depth start s) out n
+  walking-done h = w .onward out n (rw (nothing-left kept depth start k h) (delivered-none form n out))
 
-  module _ (start : ℕ) (room : start + length s ≤ mostBytes) (content : OutermostOffset) (content-is : content .0 ≡ wrapped start from) where
-    content-start : content .0 ≡ start + from
-    content-start = omega (arith, content-is, here-is .size, here-is .used, here-is .inside)
+  module _ (h : k < blocks) where
+    each : Each s (kept .f .blocks) k (getD offsets k 0)
+    each = kept-each kept h
 
-    -- the content ends inside the outermost file
-    pub content-room : content .0 + length (take (to - from) (drop from s)) ≤ mostBytes
-    content-room = simp (length-take, length-drop) (omega (arith, content-start, here-is .size, here-is .used, here-is .inside))
+    -- the next one begins inside
+    pub walking-inside : getD offsets k 0 ≤ length s
+    walking-inside = each .inside
 
-    -- it is what the walk finds inside the block
-    content-inner : (depth : ℕ) → insideOf depth (content .0) b (take (to - from) (drop from s)) ≡ inside (reads depth) start s b
-    unfolding insideOf inside
-    content-inner depth = let u : to - from ≡ b .used = omega (arith, here-is .size) in rw (content-start, u, here-is .begin)
+    pub walking-kept : k < length offsets
+    walking-kept = omega (arith, enough-kept offsets blocks (kept .f .blocks) (kept .count) (kept .begin))
 
-    -- a block and the records inside it, and then the blocks behind it
-    pub walk-on : (depth left : ℕ) (form : Form) (k : ℕ) (out : Bytes) → (left ≡ 0 → ⊥) → (here : OutermostOffset) → here .0 ≡ wrapped start (b .at .0)
-        → (mid x : ℕ) (between after : Bytes)
-        → Delivered form k out (recordsWith depth here b (insideOf depth (content .0) b (take (to - from) (drop from s)))) between mid
-        → Delivered form mid between (recordsOf depth start s next (i + 1) (left - 1)) after x
-        → Delivered form k out (recordsOf depth start s n i left) after x
-    unfolding walk walked
-    walk-on depth left form k out some here here-at mid x between after h g =
-        let more : left ≡ suc (left - 1) = omega arith in
-        let first : here .0 ≡ start + b .at .0 = omega (arith, here-at, here-is .behind, here-is .inside) in
-        let one = rw (content-inner depth, same-offset here (record { 0 = start + b .at .0 }) first) at h in
-        rw (more, blocks-next i n (b .at .0) s (here-is .at) (left - 1) b (here-is .read), ← here-is .behind) (delivered-append form k mid x out between after _ _ one g)
+    -- and is sound
+    pub walking-sound : Sound (take (length s - getD offsets k 0) (drop (getD offsets k 0) s))
+    walking-sound = rw part-all (each .is .sound)
 
-module _ (depth start : ℕ) (s : Bytes) (n i left : ℕ) (form : Form) (k : ℕ) (out : Bytes) where
-  -- no block is left
-  pub walk-done : left ≡ 0 → Delivered form k out (recordsOf depth start s n i left) out k
-  unfolding walk blocksFrom
-  walk-done h = rw h (delivered-none form k out)
+    pub walking-ordinal : Fits w8 (k + 1)
+    walking-ordinal = omega (arith, kept-few kept)
 
-  -- no block is read
-  pub walk-no-block : (y : NextStep) → NextIs s i n y → y ≡ NextStep·is.NoBlock → Delivered form k out (recordsOf depth start s n i left) out k
-  unfolding walk
-  walk-no-block y next-is e = rw (none-left left i n s (rw e at next-is)) (delivered-none form k out)
+    module _ (room : start + length s ≤ mostBytes) (here : OutermostOffset) (here-is : here .0 ≡ wrapped start (getD offsets k 0)) where
+      here-at : here .0 ≡ start + getD offsets k 0
+      here-at = omega (arith, each .inside)
 
-module _ (depth : ℕ) (b : Block) (t : Bytes) (y : ContentStep) (is : ContentIs depth b t y) where
-  -- the content is not walked
-  pub content-closed : (i : Inner) → y ≡ ContentStep·is.Closed i → (start : ℕ) (here : OutermostOffset) (form : Form) (k x : ℕ) (out after : Bytes)
-      → Delivered form k out (record { depth = depth; at = here; block = b; inner = i } ∷ []) after x
-      → Delivered form k out (recordsWith depth here b (insideOf depth start b t)) after x
-  content-closed i e start here form k x out after h = let c = (rw e at is) start in rw c h
+      -- it lies inside the outermost file
+      pub walking-room : here .0 + length (take (length s - getD offsets k 0) (drop (getD offsets k 0) s)) ≤ mostBytes
+      walking-room = rw (part-all, length-drop) (omega (arith, here-at, each .inside))
 
-  module _ (first blocks : ℕ) (e : y ≡ ContentStep·is.Open first blocks) where
-    open-is : IsOpen depth b t first blocks
-    open-is = rw e at is
+      -- what is inside it is what the walk finds inside
+      inside-same : insideAt depth here (each .b) (drop (getD offsets k 0) s) ≡ inside (reads depth) start s (each .b)
+      unfolding insideOf inside
+      inside-same =
+          let t = drop (getD offsets k 0) s in
+          let b = each .b in
+          let header = ap (λ (x : Block). x .«header_size») (each .is .is) ∙ sound-header k (getD offsets k 0) t in
+          let place : here .0 + contentStart t ≡ start + contentAt b = omega (arith, here-at, each .is .at, header) in
+          let at : getD offsets k 0 + contentStart t ≡ contentAt b = omega (arith, each .is .at, header) in
+          let part : drop (contentStart t) t ≡ drop (contentAt b) s = drop-drop (contentStart t) (getD offsets k 0) s ∙ ap (λ (m : ℕ). drop m s) at in
+          let z = isCompressed (b .compression) in
+          ap (λ (m : ℕ). insideOf depth m z (take (b .used) (drop (contentStart t) t))) place
+          ∙ ap (λ (u : Bytes). insideOf depth (start + contentAt b) z (take (b .used) u)) part
 
-    pub open-inside : first ≤ length t
-    open-inside = open-is .inside
+      -- its own records are the first of those
+      first-records : walked depth start (each .b) (inside (reads depth) start s (each .b))
+          ≡ recordsAt depth here k (getD offsets k 0) (drop (getD offsets k 0) s)
+      unfolding walked
+      first-records =
+          let t = drop (getD offsets k 0) s in
+          let place : start + each .b .at .0 ≡ here .0 = omega (arith, here-at, each .is .at) in
+          let own : (b : Block) → b ≡ soundBlock k (getD offsets k 0) t
+          → (recordOf depth here b (insideAt depth here b t .state) ∷ insideAt depth here b t .records) ≡ recordsAt depth here k (getD offsets k 0) t
+          = λ b e. rw e in
+          rw (← inside-same, same-offset (record { 0 = start + each .b .at .0 }) here place) (own (each .b) (each .is .is))
 
-    pub open-few : blocks ≤ mostBlocks
-    open-few = open-is .few
+      -- its records are the next that are left
+      next-records : recordsLeft depth start s k ≡ recordsAt depth here k (getD offsets k 0) (drop (getD offsets k 0) s) ++ recordsLeft depth start s (suc k)
+      unfolding recordsLeft walk
+      next-records =
+          let others : List Record = walk (reads depth) depth start s (drop (suc k) (kept .f .blocks)) in
+          rw (recordsLeft, kept .is, each .next) (ap (λ (l : List Record). l ++ others) first-records)
 
-    pub open-ordinals : 0 + blocks ≤ 64
-    open-ordinals = omega (arith, open-is .few)
+      pub walking-next : (mid : ℕ) (between : Bytes)
+          → Delivered form n out (recordsAt depth here k (getD offsets k 0) (take (length s - getD offsets k 0) (drop (getD offsets k 0) s))) between mid
+          → Walking depth start s blocks form number before between (k + 1) mid
+      walking-next mid between h' = record {
+        few = omega arith;
+        size = delivered-length h' ∙ w .size;
+        onward = λ after x g. w .onward after x (rw next-records (delivered-append (rw part-all at h') (rw add-one at g)));
+      }
 
-    pub open-higher : depth + 1 ≤ deepest
-    open-higher = open-is .higher
+-- where the content of a sound block lies
+pub record ContentLies (t : Bytes) (c : Content) : Type 0 where
+  pub from : c .from ≡ contentStart t
+  pub order : c .from ≤ c .to
+  pub inside : c .to ≤ length t
+  pub used : (i n : ℕ) → c .to - c .from ≡ soundBlock i n t .used
+  pub compressed : (i n : ℕ) → c .compressed ≡ isCompressed (soundBlock i n t .compression)
 
-    -- it is walked
-    pub content-open : (start : ℕ) (here : OutermostOffset) (form : Form) (k mid x : ℕ) (out between after : Bytes)
-        → Delivered form k out (record { depth = depth; at = here; block = b; inner = Opened } ∷ []) between mid
-        → Delivered form mid between (recordsOf (depth + 1) start t first 0 blocks) after x
-        → Delivered form k out (recordsWith depth here b (insideOf depth start b t)) after x
-    content-open start here form k mid x out between after h g =
-        rw (open-is .opens start) (delivered-append form k mid x out between after _ _ h g)
+pub content-lies : (t : Bytes) → Sound t → (c : Content) → c ≡ contentAgain t → ContentLies t c
+unfolding contentAgain soundBlock blockWith
+content-lies t sound c e = rw is (record {
+  from = refl;
+  order = omega arith;
+  inside = omega (arith, sound .whole, fits (isStreamed (flags t)) refl);
+  used = λ i n. omega (arith, used-is i n (isStreamed (flags t)) refl);
+  compressed = λ i n. ap isCompressed (sym (sound-compression i n t));
+})
+  where
+    fits : (y : Bool) → isStreamed (flags t) ≡ y → reported t (usedSize t) ≤ bytesLeft t
+    fits true k = rw (reported-left t (usedSize t) k) (le-refl (bytesLeft t))
+    fits false k = let sizes = sound .sizes k in rw (reported-stored t (usedSize t) k) (omega (arith, sizes .used, sizes .allocated))
+
+    used-is : (i n : ℕ) (y : Bool) → isStreamed (flags t) ≡ y → reported t (usedSize t) ≡ soundBlock i n t .used
+    used-is i n true k = rw (reported-left t (usedSize t) k, soundBlock, k)
+    used-is i n false k = rw (reported-stored t (usedSize t) k, soundBlock, k)
+
+    is : c ≡ record { from = contentStart t; to = contentStart t + reported t (usedSize t); compressed = isCompressed (compression t) }
+    is =
+        e
+        ∙ rw (
+          contentAgain,
+          le-leb leastBlock (length t) (omega (arith, sound .least, sound .whole)),
+          le-leb (contentStart t) (length t) (sound .whole),
+          le-leb (reported t (usedSize t)) (bytesLeft t) (fits (isStreamed (flags t)) refl),
+        )
+
+module _ {t : Bytes} (sound : Sound t) {c : Content} (is : c ≡ contentAgain t) where
+  -- the content of a sound block is a part of its bytes
+  pub content-order : c .from ≤ c .to
+  content-order = content-lies t sound c is .order
+
+  pub content-inside : c .to ≤ length t
+  content-inside = content-lies t sound c is .inside
+
+  module _ {depth : ℕ} {offsets : List ℕ} {found : Found} (found-is : ContentIs depth (c .compressed) (take (c .to - c .from) (drop (c .from) t)) offsets found) where
+    -- an accepted file with blocks is opened
+    pub found-opens : (found .blocks ≡ 0 → ⊥) → Opens depth (c .compressed) (take (c .to - c .from) (drop (c .from) t)) offsets (found .blocks)
+    found-opens h = found-is .some h
+
+    pub deeper-fits : (found .blocks ≡ 0 → ⊥) → Fits w8 (depth + 1)
+    deeper-fits h = omega (arith, found-opens h .higher)
+
+    module _ (i n : ℕ) (here : OutermostOffset) where
+      -- what was found of it is what is inside the block
+      inside-is : insideOf depth (here .0 + contentStart t) (c .compressed) (take (c .to - c .from) (drop (c .from) t)) ≡ insideAt depth here (soundBlock i n t) t
+      inside-is = let lies = content-lies t sound c is in rw (lies .compressed i n, lies .used i n, lies .from)
+
+      state-is : insideAt depth here (soundBlock i n t) t .state ≡ found .inner
+      state-is = ap (λ (x : Inside). x .state) (sym inside-is) ∙ found-is .state (here .0 + contentStart t)
+
+      -- nothing is to be walked inside
+      pub content-alone : found .blocks ≡ 0 → {form : Form} {k x : ℕ} {out after : Bytes}
+          → Delivered form k out (recordAt depth here i n t (found .inner) ∷ []) after x → Delivered form k out (recordsAt depth here i n t) after x
+      content-alone h d =
+          let none = ap (λ (x : Inside). x .records) (sym inside-is) ∙ found-is .none h (here .0 + contentStart t) in
+          rw (state-is, none) d
+
+      module _ (h : found .blocks ≡ 0 → ⊥) where
+        module _ (room : here .0 + length t ≤ mostBytes) (content : OutermostOffset) (content-is : content .0 ≡ wrapped (here .0) (c .from)) where
+          content-at : content .0 ≡ here .0 + contentStart t
+          content-at = let lies = content-lies t sound c is in omega (arith, lies .from, lies .order, lies .inside)
+
+          -- which lies inside the outermost file
+          pub content-room : content .0 + length (take (c .to - c .from) (drop (c .from) t)) ≤ mostBytes
+          content-room =
+              let lies = content-lies t sound c is in
+              simp (length-take, length-drop) (omega (arith, content-at, lies .from, lies .order, lies .inside))
+
+          -- the block's own record, and those inside
+          pub content-walked : {form : Form} {k mid x : ℕ} {out between after : Bytes}
+              → Delivered form k out (recordAt depth here i n t (found .inner) ∷ []) between mid
+              → Delivered form mid between (fileRecords (depth + 1) (content .0) (take (c .to - c .from) (drop (c .from) t))) after x
+              → Delivered form k out (recordsAt depth here i n t) after x
+          content-walked d e =
+              let all = ap (λ (x : Inside). x .records) (sym inside-is) ∙ found-opens h .records (here .0 + contentStart t) in
+              rw (state-is, all) (delivered-append d (rw content-at at e))

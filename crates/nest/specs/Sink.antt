@@ -1,52 +1,65 @@
--- What becomes of the records of a walk, which come one after another.
+-- What becomes of the blocks of a walk, which come one after another.
 use Prim.Native.Nat.{ℕ, _*_}
 use mathlib.Core.Path.{_≡_}
 use mathlib.Core.Bool.{true, false}
 use mathlib.Core.List.{List, [], _∷_, flatMap}
 use lib.Dec.{eqb}
+use lib.ListN.{length}
+use Rattle.format.specs.declared.block.Inner.{Inner}
 use Rattle.format.specs.declared.block.Record.{Record}
+use Rattle.format.specs.declared.offset.OutermostOffset.{OutermostOffset}
 use Rattle.format.specs.Bytes.{Bytes, wrapped}
+use Rattle.format.specs.Block.{soundBlock}
 use Rattle.format.specs.Fields.{encodeRecord, recordBytes}
 use Rattle.format.specs.Lent.{placed}
 use Rattle.format.specs.Outline.{rowOf, encodeRow, rowBytes}
 use Rattle.nest.specs.declared.sink.Form.{Form}
-use Rattle.nest.specs.declared.sink.Form.the-variants.{Count, Rows, Table, One}
+use Rattle.nest.specs.declared.sink.Form.the-variants.{Rows, Table, One}
+use Rattle.nest.specs.declared.sink.Place.{Place}
+use Rattle.nest.specs.declared.sink.Place.the-variants.{Nowhere, Row, Numbers}
 
--- what is put for a record, and how many bytes that are
+-- the record of the block that t begins with, which is number i and at offset n of its file, with this inner state
+abbrev pub recordAt : ℕ → OutermostOffset → ℕ → ℕ → Bytes → Inner → Record
+recordAt depth here i n t inner = record { depth = depth; at = here; block = soundBlock i n t; inner = inner }
+
+-- what is put for a record, and how many bytes it takes
 abbrev pub encoded : Form → Record → Bytes
-encoded Count r = []
 encoded Rows r = encodeRow (rowOf r)
 encoded Table r = encodeRecord r
 encoded (One w) r = []
 
 abbrev pub width : Form → ℕ
-width Count = 0
 width Rows = rowBytes
 width Table = recordBytes
 width (One w) = 0
 
 -- what is put for several, one after another
-unfoldable pub entries : Form → List Record → Bytes
-entries form rs = flatMap (encoded form) rs
+unfoldable pub allEncoded : Form → List Record → Bytes
+allEncoded form rs = flatMap (encoded form) rs
 
 -- what is put when record number n comes
-abbrev pub entry : Form → ℕ → Record → Bytes
-entry Count n r = []
-entry Rows n r = encoded Rows r
-entry Table n r = encoded Table r
-entry (One w) n r = elim (eqb w n) [ true ↦ encodeRecord r | false ↦ [] ]
+abbrev pub delivery : Form → ℕ → Record → Bytes
+delivery Rows n r = encoded Rows r
+delivery Table n r = encoded Table r
+delivery (One w) n r = elim (eqb w n) [ true ↦ encodeRecord r | false ↦ [] ]
 
--- the number behind those of the records, the first of which is number n
-unfoldable pub numberBehind : ℕ → List Record → ℕ
-numberBehind n [] = n
-numberBehind n (r ∷ rs) = numberBehind (wrapped n 1) rs
+-- the number after those of the records, the first of which is number n
+unfoldable pub numberAfter : ℕ → List Record → ℕ
+numberAfter n [] = n
+numberAfter n (r ∷ rs) = numberAfter (wrapped n 1) rs
 
--- a buffer into which an entry was put for each, in its place
+-- a buffer into which what is wanted of each was put, in its place
 unfoldable pub putAll : Form → ℕ → Bytes → List Record → Bytes
 putAll form n out [] = out
-putAll form n out (r ∷ rs) = putAll form (wrapped n 1) (placed out (n * width form) (entry form n r)) rs
+putAll form n out (r ∷ rs) = putAll form (wrapped n 1) (placed out (n * width form) (delivery form n r)) rs
 
--- the records have come, the first as number n, and their entries were put; the next is number x
+-- the records have come, the first as number n, and what is wanted of each was put; the next is number x
 pub record Delivered (form : Form) (n : ℕ) (before : Bytes) (rs : List Record) (after : Bytes) (x : ℕ) : Type 0 where
-  pub next : x ≡ numberBehind n rs
+  pub next : x ≡ numberAfter n rs
   pub buffer : after ≡ putAll form n before rs
+
+-- what is to be put of record number n in so many bytes, and where
+abbrev pub PlaceIs : Form → ℕ → ℕ → Place → Type 0
+PlaceIs form n room Nowhere = (out : Bytes) (r : Record) → length out ≡ room → out ≡ placed out (n * width form) (delivery form n r)
+PlaceIs form n room (Row p) = (out : Bytes) (r : Record) → placed out p (encodeRow (rowOf r)) ≡ placed out (n * width form) (delivery form n r)
+PlaceIs form n room (Numbers p) = (out : Bytes) (r : Record) → placed out p (encodeRecord r) ≡ placed out (n * width form) (delivery form n r)

@@ -1,32 +1,22 @@
 -- The walk through the blocks of a file and the files inside them.
 use Prim.Native.Nat.{ℕ, zero, suc, _+_, _-_, _≤_}
 use mathlib.Core.Path.{_≡_}
-use mathlib.Core.Bool.{true, false}
+use mathlib.Core.Bool.{Bool, true, false, not, _&&_}
 use mathlib.Core.List.{List, [], _∷_}
-use lib.ListN.{length, drop}
+use lib.ListN.{length, take, drop}
 use Rattle.format.specs.declared.block.Block.{Block}
 use Rattle.format.specs.declared.block.Record.{Record}
-use Rattle.format.specs.declared.block.Inner.the-variants.{TooDeep, Plain, Opened}
+use Rattle.format.specs.declared.block.Inner.the-variants.{TooDeep, Plain}
 use Rattle.format.specs.declared.offset.OutermostOffset.{OutermostOffset}
-use Rattle.format.specs.Bytes.{Bytes}
+use Rattle.format.specs.Bytes.{Bytes, begins}
+use Rattle.format.specs.Header.{token}
 use Rattle.format.specs.Outcome.{accepted, refused}
-use Rattle.format.specs.Tree.{freeSpace}
-use Rattle.format.specs.Block.{block}
-use Rattle.format.specs.Chain.{extent, mostBlocks}
-use Rattle.format.specs.Nest.{deepest, contentAt, Inside, closed, opened, isFile, walk, recordsFrom, records}
-use Rattle.nest.specs.declared.walk.NextStep.{NextStep}
-use Rattle.nest.specs.declared.walk.NextStep.the-variants as NextStep·is
-use Rattle.nest.specs.declared.walk.ContentStep.{ContentStep}
-use Rattle.nest.specs.declared.walk.ContentStep.the-variants.{Closed, Open}
-
--- so many blocks from offset n on, where t stands, each at the first mark: the first is number i
-unfoldable pub blocksFrom : ℕ → ℕ → ℕ → Bytes → List Block
-blocksFrom zero i n t = []
-blocksFrom (suc k) i n t =
-    elim (block i (n + freeSpace t) (drop (freeSpace t) t)) [
-      | accepted b ↦ b ∷ blocksFrom k (i + 1) (n + freeSpace t + extent b) (drop (extent b) (drop (freeSpace t) t))
-      | refused r ↦ []
-    ]
+use Rattle.format.specs.Block.{isCompressed, contentStart, soundBlock}
+use Rattle.format.specs.File.{file}
+use Rattle.format.specs.Nest.{deepest, Inside, closed, opened, walk, recordsFrom, records}
+use Rattle.file.specs.Layout.{Kept}
+use Rattle.nest.specs.declared.walk.Found.{Found}
+use Rattle.nest.specs.Sink.{recordAt}
 
 -- what a content is that begins like a file, in a block at this depth, where files are read for so many levels more
 unfoldable pub readsFor : ℕ → ℕ → ℕ → Bytes → Inside
@@ -38,44 +28,41 @@ abbrev pub reads : ℕ → ℕ → Bytes → Inside
 reads depth = readsFor (deepest - depth) depth
 
 -- what the content t of a block at this depth is, where n is the content's start in the outermost file
-unfoldable pub insideOf : ℕ → ℕ → Block → Bytes → Inside
-insideOf depth n b t = elim (isFile b t) [ true ↦ reads depth n t | false ↦ closed Plain ]
+unfoldable pub insideOf : ℕ → ℕ → Bool → Bytes → Inside
+insideOf depth n compressed t = elim (not compressed && begins token t) [ true ↦ reads depth n t | false ↦ closed Plain ]
 
--- the record of a block, with its inner state, and behind it those of the blocks inside
-abbrev pub recordsWith : ℕ → OutermostOffset → Block → Inside → List Record
-recordsWith depth here b i = record { depth = depth; at = here; block = b; inner = i .state } ∷ i .records
+-- the content of a block with which t begins
+abbrev pub contentIn : Block → Bytes → Bytes
+contentIn b t = take (b .used) (drop (contentStart t) t)
 
--- the records of so many blocks of the file s, the first of which is number i and at offset n
-abbrev pub recordsOf : ℕ → ℕ → Bytes → ℕ → ℕ → ℕ → List Record
-recordsOf depth start s n i left = walk (reads depth) depth start s (blocksFrom left i n (drop n s))
+-- what is inside the block that t begins with, which stands at an offset of the outermost file
+abbrev pub insideAt : ℕ → OutermostOffset → Block → Bytes → Inside
+insideAt depth here b t = insideOf depth (here .0 + contentStart t) (isCompressed (b .compression)) (contentIn b t)
 
--- all records of an accepted file
+-- the records of that block, which is number i and at offset n of its file, and of the blocks inside
+abbrev pub recordsAt : ℕ → OutermostOffset → ℕ → ℕ → Bytes → List Record
+recordsAt depth here i n t = let inside = insideAt depth here (soundBlock i n t) t in recordAt depth here i n t (inside .state) ∷ inside .records
+
+-- the records of an accepted file at this depth, from its block k on
+unfoldable pub recordsLeft : ℕ → ℕ → Bytes → ℕ → List Record
+recordsLeft depth start s k = elim (file s) [ accepted f ↦ walk (reads depth) depth start s (drop k (f .blocks)) | refused r ↦ [] ]
+
+-- all of them
+abbrev pub fileRecords : ℕ → ℕ → Bytes → List Record
+fileRecords depth start s = recordsLeft depth start s 0
+
+-- all records of an accepted outermost file
 unfoldable pub allRecords : Bytes → List Record
 allRecords s = elim (records s) [ accepted rs ↦ rs | refused r ↦ [] ]
 
--- the block b, which is number i, is the first from offset n of the file s on; its content, and where its allocated space ends
-pub record BlockAt (s : Bytes) (i n : ℕ) (b : Block) (from to next : ℕ) : Type 0 where
-  pub read : block i (b .at .0) (drop (b .at .0) s) ≡ accepted b
-  pub at : b .at .0 ≡ n + freeSpace (drop n s)
-  pub begin : from ≡ contentAt b
-  pub size : to ≡ from + b .used
-  pub behind : next ≡ b .at .0 + extent b
-  pub used : to ≤ next
-  pub inside : next ≤ length s
-
--- what an answer says of it
-abbrev pub NextIs : Bytes → ℕ → ℕ → NextStep → Type 0
-NextIs s i n NextStep·is.NoBlock = blocksFrom 1 i n (drop n s) ≡ []
-NextIs s i n (NextStep·is.Block b from to next) = BlockAt s i n b from to next
-
--- the content t of a block at this depth is a file, with so many blocks, the first at this offset
-pub record IsOpen (depth : ℕ) (b : Block) (t : Bytes) (first blocks : ℕ) : Type 0 where
-  pub opens : (start : ℕ) → insideOf depth start b t ≡ record { state = Opened; records = recordsOf (depth + 1) start t first 0 blocks }
-  pub inside : first ≤ length t
-  pub few : blocks ≤ mostBlocks
+-- the content t of a block at this depth is an accepted file of so many blocks, which begin at these offsets
+pub record Opens (depth : ℕ) (compressed : Bool) (t : Bytes) (offsets : List ℕ) (blocks : ℕ) : Type 0 where
   pub higher : depth + 1 ≤ deepest
+  pub kept : Kept t offsets blocks
+  pub records : (start : ℕ) → insideOf depth start compressed t .records ≡ fileRecords (depth + 1) start t
 
--- what an answer says of it
-abbrev pub ContentIs : ℕ → Block → Bytes → ContentStep → Type 0
-ContentIs depth b t (Closed i) = (start : ℕ) → insideOf depth start b t ≡ closed i
-ContentIs depth b t (Open first blocks) = IsOpen depth b t first blocks
+-- what was found of the content t of a block at this depth
+pub record ContentIs (depth : ℕ) (compressed : Bool) (t : Bytes) (offsets : List ℕ) (found : Found) : Type 0 where
+  pub state : (start : ℕ) → insideOf depth start compressed t .state ≡ found .inner
+  pub none : found .blocks ≡ 0 → (start : ℕ) → insideOf depth start compressed t .records ≡ []
+  pub some : (found .blocks ≡ 0 → ⊥) → Opens depth compressed t offsets (found .blocks)

@@ -4,30 +4,37 @@ mod walk;
 
 ghost use Prim.Native.Nat.{_≤_};
 ghost use mathlib.Core.Path.{_≡_};
-ghost use Rattle.format.specs.declared.answer.CountAnswer.the-variants.{Refused};
-ghost use Rattle.format.specs.Answer.{countAnswer};
+ghost use lib.ListN.{length, take};
+ghost use Rattle.format.specs.Answer.{layoutAnswer, countAnswer};
 ghost use Rattle.format.specs.Fields.{recordFields, foundBytes, recordTable};
 ghost use Rattle.format.specs.File.{layout as File·layout};
-ghost use Rattle.format.specs.Nest.{recordCount, recordAt};
-ghost use Rattle.format.specs.Outcome.{accepted, refusal};
+ghost use Rattle.format.specs.Nest.{recordCount, recordAt as Nest·recordAt};
+ghost use Rattle.format.specs.Outcome.{accepted};
 ghost use Rattle.format.specs.Written.{Written, OutlineWritten};
-ghost use lib.ListN.{length};
+ghost use Rattle.file.specs.Layout.{Kept};
 ghost use Rattle.nest.specs.Walk.{allRecords};
-ghost use Rattle.nest.specs.Sink.{entries, width};
+ghost use Rattle.nest.specs.Sink.{allEncoded, width};
 use crate::sink::Form;
+use file::layout::read_into;
 use format::answer::CountAnswer;
 use format::answer::LayoutAnswer;
-use format::layout::Layout;
-use format::offset::Offset;
-use format::refusal::Refusal;
+use format::answer::OutlinedAnswer;
+use format::limits::LEAST_BLOCK;
+use format::limits::MOST_BLOCKS;
+use format::limits::RECORD_BYTES;
+use format::refusal::BUFFER_TOO_SHORT;
+
+// The bytes of a buffer that takes the usual case: a record for each block of a file with no files inside.
+const OWN_BYTES: usize = 7680;
 
 // How many blocks a file and the files inside it have, or the file's refusal.
 pub fn count(s: &[u8]) -> CountAnswer
     ensures { λ r. ⌜ countAnswer r ≡ recordCount (now (s .entry)) ⌝ }
 {
-    match file::layout::read(s) {
+    let mut offsets = [0u64; MOST_BLOCKS];
+    match read_into(s, &mut offsets) {
         LayoutAnswer::Refused(r) => CountAnswer::Refused(r),
-        LayoutAnswer::Accepted(l) => CountAnswer::Counted(count_in(s, l)),
+        LayoutAnswer::Accepted(l) => CountAnswer::Counted(count_in(s, &offsets, l.blocks)),
     }
 }
 
@@ -35,9 +42,27 @@ pub fn count(s: &[u8]) -> CountAnswer
 pub fn outline(s: &[u8], out: &mut [u8]) -> CountAnswer
     ensures { λ r. ⌜ OutlineWritten (now (s .entry)) (now (out .entry)) (now (out .exit)) r ⌝ }
 {
-    match file::layout::read(s) {
-        LayoutAnswer::Refused(r) => CountAnswer::Refused(r),
-        LayoutAnswer::Accepted(l) => write(s, l, Form::Rows, out),
+    outline_with_layout(s, out).written
+}
+
+// The same, with the layout beside it: the file is judged once.
+pub fn outline_with_layout(s: &[u8], out: &mut [u8]) -> OutlinedAnswer
+    ensures { λ r. ⌜ layoutAnswer (r .layout) ≡ File·layout (now (s .entry)) ⌝ }
+    ensures { λ r. ⌜ OutlineWritten (now (s .entry)) (now (out .entry)) (now (out .exit)) (r .written) ⌝ }
+{
+    let mut offsets = [0u64; MOST_BLOCKS];
+    match read_into(s, &mut offsets) {
+        LayoutAnswer::Refused(r) => OutlinedAnswer {
+            layout: LayoutAnswer::Refused(r),
+            written: CountAnswer::Refused(r),
+        },
+        LayoutAnswer::Accepted(l) => {
+            let written = write(s, &offsets, l.blocks, Form::Rows, out);
+            OutlinedAnswer {
+                layout: LayoutAnswer::Accepted(l),
+                written,
+            }
+        }
     }
 }
 
@@ -45,67 +70,90 @@ pub fn outline(s: &[u8], out: &mut [u8]) -> CountAnswer
 pub fn records(s: &[u8], out: &mut [u8]) -> CountAnswer
     ensures { λ r. ⌜ Written (recordTable (now (s .entry))) (now (out .entry)) (now (out .exit)) r ⌝ }
 {
-    match file::layout::read(s) {
+    let mut offsets = [0u64; MOST_BLOCKS];
+    match read_into(s, &mut offsets) {
         LayoutAnswer::Refused(r) => CountAnswer::Refused(r),
-        LayoutAnswer::Accepted(l) => write(s, l, Form::Table, out),
+        LayoutAnswer::Accepted(l) => write(s, &offsets, l.blocks, Form::Table, out),
     }
 }
 
 // Writes the record of this number, in 120 bytes, or nothing where there is none.
 pub fn record(s: &[u8], wanted: u64, out: &mut [u8]) -> CountAnswer
-    ensures { λ r. ⌜ Written (foundBytes recordFields (recordAt (now (s .entry)) wanted)) (now (out .entry)) (now (out .exit)) r ⌝ }
+    ensures { λ r. ⌜ Written (foundBytes recordFields (Nest·recordAt (now (s .entry)) wanted)) (now (out .entry)) (now (out .exit)) r ⌝ }
 {
-    match file::layout::read(s) {
+    let mut offsets = [0u64; MOST_BLOCKS];
+    match read_into(s, &mut offsets) {
         LayoutAnswer::Refused(r) => CountAnswer::Refused(r),
-        LayoutAnswer::Accepted(l) => write_one(s, l, wanted, out),
+        LayoutAnswer::Accepted(l) => write_one(s, &offsets, l.blocks, wanted, out),
     }
 }
 
-// How many records an accepted file has.
-fn count_in(s: &[u8], l: Layout) -> u64
-    requires { ⌜ File·layout (now s) ≡ accepted l ⌝ }
+// How many records an accepted file has: they are put nowhere, since a byte is too short for a row.
+fn count_in(s: &[u8], offsets: &[u64], blocks: u8) -> u64
+    requires { ⌜ Kept (now s) (now offsets) blocks ⌝ }
     ensures { λ r. ⌜ r ≡ length (allRecords (now (s .entry))) ⌝ }
 {
     let mut nothing = [0u8; 1];
-    walk::walk_all(s, l, Form::Count, &mut nothing)
+    walk::walk_all(s, offsets, blocks, Form::Rows, &mut nothing)
 }
 
 // Writes the record of this number of an accepted file. One walk does: where the record does not fit, the walk changes nothing.
-fn write_one(s: &[u8], l: Layout, wanted: u64, out: &mut [u8]) -> CountAnswer
-    requires { ⌜ File·layout (now s) ≡ accepted l ⌝ }
-    ensures { λ r. ⌜ Written (foundBytes recordFields (recordAt (now (s .entry)) wanted)) (now (out .entry)) (now (out .exit)) r ⌝ }
+fn write_one(s: &[u8], offsets: &[u64], blocks: u8, wanted: u64, out: &mut [u8]) -> CountAnswer
+    requires { ⌜ Kept (now s) (now offsets) blocks ⌝ }
+    ensures { λ r. ⌜ Written (foundBytes recordFields (Nest·recordAt (now (s .entry)) wanted)) (now (out .entry)) (now (out .exit)) r ⌝ }
 {
-    let n = walk::walk_all(s, l, Form::One(wanted), out);
+    let n = walk::walk_all(s, offsets, blocks, Form::One(wanted), out);
     if n <= wanted {
         return CountAnswer::Counted(0);
     }
-    if out.len() < 120 {
-        return too_short();
+    if out.len() < RECORD_BYTES {
+        return CountAnswer::refuse(BUFFER_TOO_SHORT, 0);
     }
-    CountAnswer::Counted(120)
+    CountAnswer::Counted(RECORD_BYTES as u64)
 }
 
-// The lent buffer is shorter than the result.
-fn too_short() -> CountAnswer
-    ensures { λ r. ⌜ r ≡ Refused (refusal 21 0) ⌝ }
-{
-    CountAnswer::Refused(Refusal {
-        number: 21,
-        place: Offset(0),
-    })
-}
-
-// Writes an entry for each record of an accepted file. They are counted first, so that a refusal changes nothing.
-fn write(s: &[u8], l: Layout, form: Form, out: &mut [u8]) -> CountAnswer
-    requires { ⌜ File·layout (now s) ≡ accepted l ⌝ }
+// Writes what is wanted of each block of an accepted file. A block takes so many bytes at least that the length of the file tells
+// when the buffer surely does; then one walk serves.
+fn write(s: &[u8], offsets: &[u64], blocks: u8, form: Form, out: &mut [u8]) -> CountAnswer
+    requires { ⌜ Kept (now s) (now offsets) blocks ⌝ }
     requires { ⌜ 1 ≤ width form ⌝ }
-    ensures { λ r. ⌜ Written (accepted (entries form (allRecords (now (s .entry))))) (now (out .entry)) (now (out .exit)) r ⌝ }
+    ensures { λ r. ⌜ Written (accepted (allEncoded form (allRecords (now (s .entry))))) (now (out .entry)) (now (out .exit)) r ⌝ }
 {
     let each = sink::width_of(form);
-    let n = count_in(s, l);
-    if out.len() as u64 / each < n {
-        return too_short();
+    if out.len() as u64 / each < (s.len() / LEAST_BLOCK) as u64 {
+        return write_measured(s, offsets, blocks, form, out);
     }
-    walk::walk_all(s, l, form, out);
+    let n = walk::walk_all(s, offsets, blocks, form, out);
     CountAnswer::Counted(each * n)
+}
+
+// The same where the buffer might be too short. The first walk goes into a buffer of its own, so that a refusal changes nothing, and
+// counts; where that buffer took everything, no second walk is needed.
+fn write_measured(s: &[u8], offsets: &[u64], blocks: u8, form: Form, out: &mut [u8]) -> CountAnswer
+    requires { ⌜ Kept (now s) (now offsets) blocks ⌝ }
+    requires { ⌜ 1 ≤ width form ⌝ }
+    ensures { λ r. ⌜ Written (accepted (allEncoded form (allRecords (now (s .entry))))) (now (out .entry)) (now (out .exit)) r ⌝ }
+{
+    let each = sink::width_of(form);
+    let mut own = [0u8; OWN_BYTES];
+    let n = walk::walk_all(s, offsets, blocks, form, &mut own);
+    if out.len() as u64 / each < n {
+        return CountAnswer::refuse(BUFFER_TOO_SHORT, 0);
+    }
+    if OWN_BYTES as u64 / each < n {
+        walk::walk_all(s, offsets, blocks, form, out);
+        return CountAnswer::Counted(each * n);
+    }
+    hand_over(&own, each * n, out)
+}
+
+// Puts the first bytes of a buffer at the start of another, where there is room for them.
+fn hand_over(own: &[u8], size: u64, out: &mut [u8]) -> CountAnswer
+    requires { ⌜ size ≤ length (now own) ⌝ }
+    requires { ⌜ size ≤ length (now out) ⌝ }
+    ensures { λ r. ⌜ Written (accepted (take size (now (own .entry)))) (now (out .entry)) (now (out .exit)) r ⌝ }
+{
+    let end = size as usize;
+    put::text::put_text(out, 0, &own[..end]);
+    CountAnswer::Counted(size)
 }

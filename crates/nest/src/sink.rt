@@ -1,17 +1,25 @@
-// What becomes of the records of a walk, which come one after another.
+// What becomes of the blocks of a walk, which come one after another. What the form wants of a block is made from its bytes where it
+// is wanted.
 ghost use mathlib.Core.Path.{_≡_};
 ghost use mathlib.Core.List.{[], _∷_};
-ghost use Prim.Native.Nat.{_*_};
+ghost use Prim.Native.Nat.{ℕ, _*_};
+ghost use Rattle.format.specs.Block.{Sound};
 ghost use Rattle.format.specs.Fields.{encodeRecord};
 ghost use Rattle.format.specs.Lent.{placed};
-ghost use Rattle.nest.specs.Sink.{Delivered, entry, width};
+ghost use Rattle.format.specs.Outline.{rowOf};
+ghost use Rattle.nest.specs.Sink.{Delivered, PlaceIs, delivery, recordAt, width};
+use fields::inner_number;
+use file::again;
+use format::block::Inner;
 use format::block::Record;
+use format::limits::RECORD_BYTES;
+use format::limits::ROW_BYTES;
+use format::offset::OutermostOffset;
+use format::row::Row;
 use outline::row;
 
 pub(crate) enum Form {
-    // They are only counted.
-    Count,
-    // A row is put for each.
+    // A row is put for each block. In a buffer that is too short for one, blocks are only counted.
     Rows,
     // Each is put as numbers.
     Table,
@@ -19,57 +27,137 @@ pub(crate) enum Form {
     One(u64),
 }
 
-// How many bytes are put for each record.
+// Where something is put of a block.
+pub(crate) enum Place {
+    Nowhere,
+    // Its row, at this offset.
+    Row(usize),
+    // Its numbers, at this offset.
+    Numbers(usize),
+}
+
+// How many bytes are put for each block.
 pub(crate) fn width_of(form: Form) -> u64
     ensures { λ r. ⌜ r ≡ width form ⌝ }
 {
     match form {
-        Form::Count => 0,
-        Form::Rows => 16,
-        Form::Table => 120,
+        Form::Rows => ROW_BYTES as u64,
+        Form::Table => RECORD_BYTES as u64,
         Form::One(_) => 0,
     }
 }
 
-// Takes record number n, and answers the number of the next.
-pub(crate) fn take_record(form: Form, n: u64, r: Record, out: &mut [u8]) -> u64
-    ensures { λ x. ⌜ Delivered form n (now (out .entry)) (r ∷ []) (now (out .exit)) x ⌝ }
+// Takes the block that t begins with, as number n, and answers the number of the next.
+pub(crate) fn take_block(
+    form: Form,
+    n: u64,
+    t: &[u8],
+    ordinal: u8,
+    at: usize,
+    depth: u8,
+    here: OutermostOffset,
+    inner: Inner,
+    out: &mut [u8],
+) -> u64
+    requires { ⌜ Sound (now t) ⌝ }
+    ensures { λ x. ⌜ Delivered form n (now (out .entry)) (recordAt depth here ordinal at (now (t .entry)) inner ∷ []) (now (out .exit)) x ⌝ }
 {
-    put_entry(form, n, r, out);
+    put_entry(form, n, t, ordinal, at, depth, here, inner, out);
     std::num::wrapping_add_u64(n, 1)
 }
 
-// Puts what the form wants of record number n. Where it does not fit, nothing changes.
-fn put_entry(form: Form, n: u64, r: Record, out: &mut [u8])
-    ensures { λ _. ⌜ now (out .exit) ≡ placed (now (out .entry)) (n * width form) (entry form n r) ⌝ }
+// Puts what the form wants of it. Where it does not fit, nothing changes.
+fn put_entry(
+    form: Form,
+    n: u64,
+    t: &[u8],
+    ordinal: u8,
+    at: usize,
+    depth: u8,
+    here: OutermostOffset,
+    inner: Inner,
+    out: &mut [u8],
+)
+    requires { ⌜ Sound (now t) ⌝ }
+    ensures { λ _. ⌜ now (out .exit) ≡ placed (now (out .entry)) (n * width form) (delivery form n (recordAt depth here ordinal at (now (t .entry)) inner)) ⌝ }
 {
-    match form {
-        Form::Count => {}
-        Form::Rows => {
-            if (out.len() / 16) as u64 <= n {
-                return;
-            }
-            row::put_row(out, n as usize * 16, row::row_of(r));
+    match place_of(form, n, out.len()) {
+        Place::Nowhere => {}
+        Place::Row(place) => {
+            row::put_row(out, place, row_of(t, ordinal, depth, here, inner));
         }
-        Form::Table => {
-            if (out.len() / 120) as u64 <= n {
-                return;
-            }
-            put_record(out, n as usize * 120, r);
-        }
-        Form::One(wanted) => {
-            if wanted != n {
-                return;
-            }
-            put_record(out, 0, r);
+        Place::Numbers(place) => {
+            put_record(out, place, t, ordinal, at, depth, here, inner);
         }
     }
 }
 
-// Puts a record as numbers at an offset. Where they do not fit, nothing changes.
-fn put_record(out: &mut [u8], at: usize, r: Record)
-    ensures { λ _. ⌜ now (out .exit) ≡ placed (now (out .entry)) at (encodeRecord r) ⌝ }
+// Where something is put of block number n in so many bytes.
+fn place_of(form: Form, n: u64, room: usize) -> Place
+    ensures { λ r. ⌜ PlaceIs form n room r ⌝ }
 {
-    let numbers = fields::record_fields(r);
-    put::put_numbers(out, at, &numbers);
+    match form {
+        Form::Rows => {
+            if (room / ROW_BYTES) as u64 <= n {
+                return Place::Nowhere;
+            }
+            Place::Row(n as usize * ROW_BYTES)
+        }
+        Form::Table => {
+            if (room / RECORD_BYTES) as u64 <= n {
+                return Place::Nowhere;
+            }
+            Place::Numbers(n as usize * RECORD_BYTES)
+        }
+        Form::One(wanted) => {
+            if wanted != n {
+                return Place::Nowhere;
+            }
+            Place::Numbers(0)
+        }
+    }
+}
+
+// The row of the block that t begins with, wherever it stands in its own file.
+fn row_of(t: &[u8], ordinal: u8, depth: u8, here: OutermostOffset, inner: Inner) -> Row
+    requires { ⌜ Sound (now t) ⌝ }
+    ensures { λ r. ⌜ ((at : ℕ) → r ≡ rowOf (recordAt depth here ordinal at (now (t .entry)) inner)) ⌝ }
+{
+    let b = again::summary_of(t);
+    Row {
+        depth,
+        streamed: b.streamed,
+        compressed: b.compressed,
+        checksum: b.checksum,
+        inner: inner_number(inner),
+        ordinal,
+        header_size: b.header_size,
+        at: here,
+        allocated: b.allocated,
+        used: b.used,
+    }
+}
+
+// Puts the record of the block that t begins with as numbers at an offset. Where they do not fit, nothing changes.
+fn put_record(
+    out: &mut [u8],
+    place: usize,
+    t: &[u8],
+    ordinal: u8,
+    at: usize,
+    depth: u8,
+    here: OutermostOffset,
+    inner: Inner,
+)
+    requires { ⌜ Sound (now t) ⌝ }
+    ensures { λ _. ⌜ now (out .exit) ≡ placed (now (out .entry)) place (encodeRecord (recordAt depth here ordinal at (now (t .entry)) inner)) ⌝ }
+{
+    let block = again::block_of(t, ordinal, at);
+    let numbers = fields::record_fields(Record {
+        depth,
+        at: here,
+        block,
+        inner,
+    });
+    put::put_numbers(out, place, &numbers);
 }

@@ -1,192 +1,148 @@
-// The walk: the reader of a block's content and the walker along the blocks call each other.
+// The walk: the reader of a block's content and the walker along the blocks call each other. Every file is judged once, when it is
+// opened; from then on the offsets that its judgement kept are followed.
 ghost use mathlib.Core.Path.{_≡_};
 ghost use Prim.Native.Nat.{_+_, _≤_};
 ghost use lib.ListN.{length};
-ghost use Rattle.format.specs.File.{mostBytes, firstBlock, layout as File·layout};
+ghost use Rattle.format.specs.Block.{Sound};
+ghost use Rattle.format.specs.File.{mostBytes};
 ghost use Rattle.format.specs.Nest.{deepest};
-ghost use Rattle.format.specs.Outcome.{accepted};
+ghost use Rattle.file.specs.Layout.{Kept};
 ghost use Rattle.nest.specs.Sink.{Delivered};
-ghost use Rattle.nest.specs.Walk.{recordsOf, recordsWith, insideOf, NextIs, ContentIs, allRecords};
+ghost use Rattle.nest.specs.Walk.{recordsAt, fileRecords, ContentIs, allRecords};
 use crate::sink;
 use crate::sink::Form;
-use file::block::BlockStep;
-use file::block::read_block;
+use file::again;
+use file::layout;
 use format::answer::LayoutAnswer;
-use format::block;
-use format::block::Block;
 use format::block::Inner;
-use format::block::Record;
-use format::layout::Layout;
-use format::layout::Tree;
+use format::limits::DEEPEST;
+use format::limits::MOST_BLOCKS;
 use format::offset::Offset;
 use format::offset::OutermostOffset;
 use scan::text;
 
-// What a block's content is.
-pub(crate) enum ContentStep {
-    // It is not walked.
-    Closed(Inner),
-    // It is a file with so many blocks, the first at this offset.
-    Open { first: usize, blocks: u8 },
+// What a block's content is, and how many blocks it has to be walked: none where it is not opened.
+pub(crate) struct Found {
+    pub inner: Inner,
+    pub blocks: u8,
 }
 
-// What is read where a block begins.
-pub(crate) enum NextStep {
-    NoBlock,
-    // The block, whose content runs from one offset to another, and where its allocated space ends.
-    Block {
-        b: Block,
-        from: usize,
-        to: usize,
-        next: usize,
-    },
-}
-
-// Walks all blocks of an accepted file.
-pub(crate) fn walk_all(s: &[u8], l: Layout, form: Form, out: &mut [u8]) -> u64
-    requires { ⌜ File·layout (now s) ≡ accepted l ⌝ }
+// Walks all blocks of an accepted file, so many, which begin at these offsets.
+pub(crate) fn walk_all(s: &[u8], offsets: &[u64], blocks: u8, form: Form, out: &mut [u8]) -> u64
+    requires { ⌜ Kept (now s) (now offsets) blocks ⌝ }
     ensures { λ x. ⌜ Delivered form 0 (now (out .entry)) (allRecords (now (s .entry))) (now (out .exit)) x ⌝ }
 {
-    let first = first_block(l);
     walk_blocks(
         s,
+        offsets,
+        blocks,
         0,
         OutermostOffset::start(),
-        first,
-        0,
-        l.blocks,
         form,
         0,
         out,
     )
 }
 
-// Where the first block begins, if there is one.
-fn first_block(l: Layout) -> usize
-    ensures { λ r. ⌜ r ≡ firstBlock (l .«comments_end» .0) (l .tree) ⌝ }
-{
-    let tree = l.tree;
-    match tree {
-        Tree::NoTree => l.comments_end.0 as usize,
-        Tree::Found {
-            start: _,
-            end: _,
-            room_end,
-        } => room_end.0 as usize,
-    }
-}
-
-// Walks so many blocks of a file at this depth, the first with this ordinal and from this offset on. The file's own first
-// byte is at `start` of the outermost file.
+// Walks the blocks of a file at this depth, whose own first byte is at `start` of the outermost file.
 fn walk_blocks(
     s: &[u8],
+    offsets: &[u64],
+    blocks: u8,
     depth: u8,
     start: OutermostOffset,
-    at: usize,
-    ordinal: u8,
-    left: u8,
     form: Form,
     number: u64,
     out: &mut [u8],
 ) -> u64
-    requires { ⌜ start .0 + length (now s) ≤ mostBytes ⌝ }
+    requires { ⌜ Kept (now s) (now offsets) blocks ⌝ }
     requires { ⌜ depth ≤ deepest ⌝ }
-    requires { ⌜ at ≤ length (now s) ⌝ }
-    requires { ⌜ ordinal + left ≤ 64 ⌝ }
-    ensures { λ x. ⌜ Delivered form number (now (out .entry)) (recordsOf depth (start .0) (now (s .entry)) at ordinal left) (now (out .exit)) x ⌝ }
+    requires { ⌜ start .0 + length (now s) ≤ mostBytes ⌝ }
+    ensures { λ x. ⌜ Delivered form number (now (out .entry)) (fileRecords depth (start .0) (now (s .entry))) (now (out .exit)) x ⌝ }
 {
-    if left == 0 {
-        return number;
+    // The table for the files inside: each is done with it before the next is opened.
+    let mut inside = [0u64; MOST_BLOCKS];
+    let mut n = number;
+    let mut k: u8 = 0;
+    while k < blocks {
+        let at = offsets[k as usize] as usize;
+        let here = Offset(at as u64).outermost(start);
+        n = walk_content(&s[at..], k, at, depth, here, &mut inside, form, n, out);
+        k += 1;
     }
-    match next_block(s, at, ordinal) {
-        NextStep::NoBlock => number,
-        NextStep::Block { b, from, to, next } => {
-            let own = b.at;
-            let here = own.outermost(start);
-            let content = Offset(from as u64).outermost(start);
-            let n = walk_content(&s[from..to], content, depth, here, b, form, number, out);
-            walk_blocks(s, depth, start, next, ordinal + 1, left - 1, form, n, out)
-        }
-    }
+    n
 }
 
-// The block with this ordinal, at the first mark from an offset of the file on.
-fn next_block(s: &[u8], at: usize, ordinal: u8) -> NextStep
-    requires { ⌜ at ≤ length (now s) ⌝ }
-    ensures { λ x. ⌜ NextIs (now (s .entry)) ordinal at x ⌝ }
-{
-    let here = mark::find(s, at);
-    match read_block(&s[here..], ordinal, here) {
-        BlockStep::Refused(_) => NextStep::NoBlock,
-        BlockStep::Read(b) => {
-            let from = here + 6 + b.header_size as usize;
-            NextStep::Block {
-                b,
-                from,
-                to: from + b.used as usize,
-                next: from + b.allocated as usize,
-            }
-        }
-    }
-}
-
-// Takes the record of a block at `here`, and behind it the records of the blocks inside. Its content is t, which begins at
-// `start` of the outermost file.
+// Takes the block that t begins with, which stands at `here` of the outermost file and at an offset of its own, and after it the
+// blocks inside. The record is made in one place only, so that the compiler can make it where it stands.
 fn walk_content(
     t: &[u8],
-    start: OutermostOffset,
+    ordinal: u8,
+    at: usize,
     depth: u8,
     here: OutermostOffset,
-    b: Block,
+    offsets: &mut [u64; MOST_BLOCKS],
     form: Form,
     number: u64,
     out: &mut [u8],
 ) -> u64
-    requires { ⌜ start .0 + length (now t) ≤ mostBytes ⌝ }
+    requires { ⌜ Sound (now t) ⌝ }
     requires { ⌜ depth ≤ deepest ⌝ }
-    ensures { λ x. ⌜ Delivered form number (now (out .entry)) (recordsWith depth here b (insideOf depth (start .0) b (now (t .entry)))) (now (out .exit)) x ⌝ }
+    requires { ⌜ here .0 + length (now t) ≤ mostBytes ⌝ }
+    ensures { λ x. ⌜ Delivered form number (now (out .entry)) (recordsAt depth here ordinal at (now (t .entry))) (now (out .exit)) x ⌝ }
 {
-    match content_of(t, depth, b) {
-        ContentStep::Closed(inner) => {
-            let r = Record {
-                depth,
-                at: here,
-                block: b,
-                inner,
-            };
-            sink::take_record(form, number, r, out)
-        }
-        ContentStep::Open { first, blocks } => {
-            let inner = Inner::Opened;
-            let r = Record {
-                depth,
-                at: here,
-                block: b,
-                inner,
-            };
-            let n = sink::take_record(form, number, r, out);
-            walk_blocks(t, depth + 1, start, first, 0, blocks, form, n, out)
-        }
+    let c = again::content_of(t);
+    let from = c.from;
+    let to = c.to;
+    let part = &t[from..to];
+    let found = content_of(part, c.compressed, depth, offsets);
+    let inner = found.inner;
+    let n = sink::take_block(form, number, t, ordinal, at, depth, here, inner, out);
+    if found.blocks == 0 {
+        return n;
     }
+    let content = Offset(from as u64).outermost(here);
+    walk_blocks(
+        part,
+        offsets,
+        found.blocks,
+        depth + 1,
+        content,
+        form,
+        n,
+        out,
+    )
 }
 
-// What the content t of a block at this depth is.
-fn content_of(t: &[u8], depth: u8, b: Block) -> ContentStep
-    ensures { λ x. ⌜ ContentIs depth b (now (t .entry)) x ⌝ }
+// What the content t of a block at this depth is. Where it is opened, the offsets of its blocks come first in the table.
+fn content_of(t: &[u8], compressed: bool, depth: u8, offsets: &mut [u64; MOST_BLOCKS]) -> Found
+    ensures { λ x. ⌜ ContentIs depth compressed (now (t .entry)) (now (offsets .exit)) x ⌝ }
 {
-    if block::is_compressed(b.compression as u64) {
-        return ContentStep::Closed(Inner::Plain);
+    if compressed {
+        return Found {
+            inner: Inner::Plain,
+            blocks: 0,
+        };
     }
     if !text::begins_at(t, 0, b"#ASDF ") {
-        return ContentStep::Closed(Inner::Plain);
+        return Found {
+            inner: Inner::Plain,
+            blocks: 0,
+        };
     }
-    if 7 <= depth {
-        return ContentStep::Closed(Inner::TooDeep);
+    if DEEPEST <= depth {
+        return Found {
+            inner: Inner::TooDeep,
+            blocks: 0,
+        };
     }
-    match file::layout::read(t) {
-        LayoutAnswer::Refused(r) => ContentStep::Closed(Inner::Refused(r)),
-        LayoutAnswer::Accepted(l) => ContentStep::Open {
-            first: first_block(l),
+    match layout::read_into(t, offsets) {
+        LayoutAnswer::Refused(r) => Found {
+            inner: Inner::Refused(r),
+            blocks: 0,
+        },
+        LayoutAnswer::Accepted(l) => Found {
+            inner: Inner::Opened,
             blocks: l.blocks,
         },
     }

@@ -1,6 +1,6 @@
--- The file's refusal, or the count.
+-- A refused file has no count; the records of an accepted one are counted.
 use borrow.Author.Needs.{needs}
-use Rattle.file.proofs.LayoutLaws.{accepted-as}
+use Rattle.file.proofs.LayoutLaws.{table-size, blocks-kept}
 use Rattle.nest.proofs.EntryLaws.{count-refused, count-accepted}
 use Rattle.nest.proofs.count.Statement.{statement}
 use Rattle.nest.proofs.count.Tie as tie
@@ -12,6 +12,7 @@ count-spec =
     (λ c κs. search needs)
     (λ c. search needs)
     (λ c. search needs)
-    (λ c κs. search (accepted-as, needs))
+    (λ c. search (table-size, needs))
+    (λ c κs. search (blocks-kept, needs))
     (λ c. search (count-refused, needs))
     (λ c. search (count-accepted, needs)))

@@ -1,6 +1,6 @@
--- The file's refusal, or the record.
+-- A refused file has no record; of an accepted one it is looked for.
 use borrow.Author.Needs.{needs}
-use Rattle.file.proofs.LayoutLaws.{accepted-as}
+use Rattle.file.proofs.LayoutLaws.{table-size, blocks-kept}
 use Rattle.nest.proofs.EntryLaws.{record-refused}
 use Rattle.nest.proofs.record.Statement.{statement}
 use Rattle.nest.proofs.record.Tie as tie
@@ -12,7 +12,8 @@ record-spec =
     (λ c κs. search needs)
     (λ c. search needs)
     (λ c. search needs)
-    (λ c κs. search (accepted-as, needs))
+    (λ c. search (table-size, needs))
+    (λ c κs. search (blocks-kept, needs))
     (λ c. search (record-refused, needs))
     (λ c. search needs)
     (λ c. search needs))

@@ -1,6 +1,6 @@
--- The file's refusal, or its records.
+-- A refused file has no records; those of an accepted one are written.
 use borrow.Author.Needs.{needs}
-use Rattle.file.proofs.LayoutLaws.{accepted-as}
+use Rattle.file.proofs.LayoutLaws.{table-size, blocks-kept}
 use Rattle.nest.proofs.EntryLaws.{table-refused, table-written}
 use Rattle.nest.proofs.records.Statement.{statement}
 use Rattle.nest.proofs.records.Tie as tie
@@ -12,7 +12,8 @@ records-spec =
     (λ c κs. search needs)
     (λ c. search needs)
     (λ c. search needs)
-    (λ c κs. search (accepted-as, needs))
+    (λ c. search (table-size, needs))
+    (λ c κs. search (blocks-kept, needs))
     (λ c. search (table-refused, needs))
     (λ c. search needs)
     (λ c. search (table-written, needs)))

@@ -1,7 +1,7 @@
--- The buffer is too short, or the entries are put.
+-- The buffer surely does, or it has to be measured.
 use borrow.Author.Needs.{needs}
-use Rattle.nest.proofs.WalkLaws.{delivered-length}
-use Rattle.nest.proofs.EntryLaws.{each-some, entries-short, entries-fit, entries-put}
+use Rattle.nest.proofs.EntryLaws.{each-some, told-fits, sure-put}
+use Rattle.nest.proofs.SinkLaws.{delivered-length}
 use Rattle.nest.proofs.write.Statement.{statement}
 use Rattle.nest.proofs.write.Tie as tie
 
@@ -10,11 +10,11 @@ write-spec =
     tie.close
     (tie.spec
     (λ c κs. search needs)
-    (λ c κs. search needs)
     (λ c. search (each-some, needs))
     (λ c κs. search needs)
-    (λ c. search (entries-short, needs))
+    (λ c. search needs)
+    (λ c. search needs)
     (λ c κs. search needs)
-    (λ c. search (entries-fit, needs))
+    (λ c. search (told-fits, needs))
     (λ c. search (delivered-length, needs))
-    (λ c. search (entries-put, needs)))
+    (λ c. search (sure-put, needs)))

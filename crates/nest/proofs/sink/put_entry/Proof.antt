@@ -1,7 +1,6 @@
--- Nothing is put, there is no place for it, or it is put.
+-- Nothing is put, or a row, or the numbers.
 use borrow.Author.Needs.{needs}
-use Rattle.put.proofs.PutLaws.{placed-length}
-use Rattle.nest.proofs.SinkLaws.{put-count, put-no-row, put-row, put-no-record, put-table, put-other, put-wanted}
+use Rattle.nest.proofs.SinkLaws.{put-nowhere, put-row, put-numbers}
 use Rattle.nest.proofs.sink.put_entry.Statement.{statement}
 use Rattle.nest.proofs.sink.put_entry.Tie as tie
 
@@ -9,23 +8,15 @@ pub put-entry-spec : {M : Type 1} → statement M
 put-entry-spec =
     tie.close
     (tie.spec
+    (λ c κs. search needs)
     (λ c. search needs)
-    (λ c. search needs)
-    (λ c. search (put-no-row, needs))
     (λ c. search needs)
     (λ c κs. search needs)
     (λ c κs. search needs)
     (λ c. search needs)
-    (λ c. search (put-no-record, needs))
-    (λ c. search needs)
     (λ c κs. search needs)
+    (λ c. search (put-nowhere, needs))
     (λ c. search needs)
-    (λ c. search (put-other, needs))
-    (λ c κs. search needs)
-    (λ c. search (put-count, needs))
-    (λ c. search (placed-length, needs))
-    (λ c. search (put-row, needs))
-    (λ c. search (placed-length, needs))
-    (λ c. search (put-table, needs))
-    (λ c. search (placed-length, needs))
-    (λ c. search (put-wanted, needs)))
+    (λ c. search (put-row, needs, c .before .before .before .row-of .ensures))
+    (λ c. search needs)
+    (λ c. search (put-numbers, needs)))

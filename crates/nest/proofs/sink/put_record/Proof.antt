@@ -1,6 +1,5 @@
 -- A record is put as its numbers.
 use borrow.Author.Needs.{needs}
-use Rattle.put.proofs.PutLaws.{placed-length}
 use Rattle.nest.proofs.SinkLaws.{record-put}
 use Rattle.nest.proofs.sink.put_record.Statement.{statement}
 use Rattle.nest.proofs.sink.put_record.Tie as tie
@@ -10,7 +9,8 @@ put-record-spec =
     tie.close
     (tie.spec
     (λ c κs. search needs)
+    (λ c κs. search needs)
     (λ c. search needs)
     (λ c κs. search needs)
-    (λ c. search (placed-length, needs))
+    (λ c. search needs)
     (λ c. search (record-put, needs)))

@@ -8,8 +8,6 @@ pub content-of-spec : {M : Type 1} → statement M
 content-of-spec =
     tie.close
     (tie.spec
-    (λ c. search needs)
-    (λ c κs. search needs)
     (λ c. search (content-compressed, needs))
     (λ c. search needs)
     (λ c κs. search needs)
@@ -18,6 +16,5 @@ content-of-spec =
     (λ c κs. search needs)
     (λ c. search needs)
     (λ c. search needs)
-    (λ c κs. search needs)
     (λ c. search (content-refused, needs))
     (λ c. search (content-opened, needs)))

@@ -1,7 +1,7 @@
 -- The walk begins at the first block of an accepted file.
 use borrow.Author.Needs.{needs}
-use Rattle.nest.proofs.WalkLaws.{delivered-length}
-use Rattle.nest.proofs.EntryLaws.{walk-room, walk-first, walk-blocks-few, walk-whole}
+use Rattle.nest.proofs.EntryLaws.{walk-room, walk-whole}
+use Rattle.nest.proofs.SinkLaws.{delivered-length}
 use Rattle.nest.proofs.walk.walk_all.Statement.{statement}
 use Rattle.nest.proofs.walk.walk_all.Tie as tie
 
@@ -10,7 +10,6 @@ walk-all-spec =
     tie.close
     (tie.spec
     (λ c κs. search needs)
-    (λ c κs. search needs)
-    (λ c κs. search (walk-room, walk-first, walk-blocks-few, needs))
+    (λ c κs. search (walk-room, needs))
     (λ c. search (delivered-length, needs))
     (λ c. search (walk-whole, needs)))

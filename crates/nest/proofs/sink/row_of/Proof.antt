@@ -1,0 +1,13 @@
+-- Each field of the row is one of the summary.
+use borrow.Author.Needs.{needs}
+use Rattle.nest.proofs.SinkLaws.{row-made}
+use Rattle.nest.proofs.sink.row_of.Statement.{statement}
+use Rattle.nest.proofs.sink.row_of.Tie as tie
+
+pub row-of-spec : {M : Type 1} → statement M
+row-of-spec =
+    tie.close
+    (tie.spec
+    (λ c κs. search needs)
+    (λ c κs. search needs)
+    (λ c. search (row-made, needs)))
