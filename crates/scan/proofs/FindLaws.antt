@@ -1,33 +1,32 @@
--- The search for a byte: the flag of a block, and the search behind bytes that have no b.
+-- The search for a byte: the flag of a block, the blocks that are passed over, and the search after bytes that have no b.
 use Prim.Native.Nat.{ℕ, suc, _+_, _-_, _≤_, _<_}
 use native.Mathlib.Numerals.{add-one}
 use native.Mathlib.Omega.{arith}
 use mathlib.Core.Path.{_≡_, refl, sym, ap, _∙_}
-use mathlib.Core.Bool.{Bool, true, false, _||_, or-true, or-false}
+use mathlib.Core.Bool.{Bool, true, false, _||_, Bool·beq, or-true, or-false, or-assoc}
 use mathlib.Core.List.{[], _∷_, _++_}
 use lib.ListN.{length, take, drop, getD, take-append-drop, length-take, drop-of-length-le}
-use lib.Seq.{drop-append-le, length-take-le, length-slice, slice-cons, take-length}
+use lib.Seq.{drop-append-le, length-take-le, length-slice, slice-empty, slice-cons, take-length, take-take}
 use lib.Dec.{eqb}
-use borrow.Author.Tests.{eq-eqb, ne-eqb}
 use Rattle.bytes.specs.Bytes.{indexOf, indexAfter, slice}
 use Rattle.format.specs.Bytes.{Bytes}
-use Rattle.scan.specs.Find.{has, firstFrom}
+use Rattle.scan.specs.Find.{has, PassedOver, firstFrom}
 
--- b was found already or stands from j on, where it stands at all
-module _ (b : ℕ) (s : Bytes) (to j : ℕ) (f x : Bool) (left : (f || has b (slice j to s)) ≡ x) where
+-- such a byte was found already or stands from j on, where it stands at all
+module _ (is : Bool) (b : ℕ) (s : Bytes) (to j : ℕ) (f x : Bool) (left : (f || has is b (slice j to s)) ≡ x) where
   module _ (g : Bool) (h : j < to) (q : to ≤ length s) where
     -- the next byte is tested, and then the others
-    has-next : (f || (eqb (getD s j 0) b || has b (slice (j + 1) to s))) ≡ x
+    has-next : (f || (Bool·beq (eqb (getD s j 0) b) is || has is b (slice (j + 1) to s))) ≡ x
     unfolding slice
     has-next = rw (add-one j) (rw (slice-cons j to s 0 h q) at left)
 
-    -- it is b
-    pub has-hit : getD s j 0 ≡ b → g ≡ true → (g || has b (slice (j + 1) to s)) ≡ x
-    has-hit e k = rw k (sym (or-true f) ∙ rw (eq-eqb _ _ e) at has-next)
+    -- it is such a byte
+    pub has-hit : Bool·beq (eqb (getD s j 0) b) is ≡ true → g ≡ true → (g || has is b (slice (j + 1) to s)) ≡ x
+    has-hit e k = rw k (sym (or-true f) ∙ rw e at has-next)
 
-    -- it is another
-    pub has-miss : (getD s j 0 ≡ b → ⊥) → g ≡ f → (g || has b (slice (j + 1) to s)) ≡ x
-    has-miss n k = rw k (rw (ne-eqb _ _ n) at has-next)
+    -- it is not
+    pub has-miss : Bool·beq (eqb (getD s j 0) b) is ≡ false → g ≡ f → (g || has is b (slice (j + 1) to s)) ≡ x
+    has-miss e k = rw k (rw e at has-next)
 
   -- nothing is left
   pub has-done : to ≤ j → f ≡ x
@@ -35,6 +34,11 @@ module _ (b : ℕ) (s : Bytes) (to j : ℕ) (f x : Bool) (left : (f || has b (sl
   has-done h =
       let short : length (take to s) ≤ j = simp length-take (omega arith) in
       sym (or-false f) ∙ (rw (drop-of-length-le (take to s) short) at left)
+
+-- u and v together have such a byte where one of them has it
+has-append : (is : Bool) (b : ℕ) (u v : Bytes) → has is b (u ++ v) ≡ (has is b u || has is b v)
+has-append is b [] v = refl
+has-append is b (a ∷ u) v = rw (has-append is b u v) (sym (or-assoc (Bool·beq (eqb a b) is) (has is b u) (has is b v)))
 
 -- where b stands in u, the first b of u and more is that of u
 index-in : (b : ℕ) (u v : Bytes) → indexOf b u < length u → indexOf b (u ++ v) ≡ indexOf b u
@@ -47,11 +51,11 @@ index-in b (a ∷ u) v h = go (eqb a b) h (index-in b u v)
     go true h i = refl
     go false h i = ap suc (i (omega arith))
 
--- where it does not, the search goes on behind u
-index-behind : (b : ℕ) (u v : Bytes) → length u ≤ indexOf b u → indexOf b (u ++ v) ≡ length u + indexOf b v
+-- where it does not, the search goes on after u
+index-past : (b : ℕ) (u v : Bytes) → length u ≤ indexOf b u → indexOf b (u ++ v) ≡ length u + indexOf b v
 unfolding indexOf
-index-behind b [] v h = omega arith
-index-behind b (a ∷ u) v h = go (eqb a b) h (index-behind b u v)
+index-past b [] v h = omega arith
+index-past b (a ∷ u) v h = go (eqb a b) h (index-past b u v)
   where
     go : (x : Bool) → suc (length u) ≤ indexAfter x (indexOf b u) → (length u ≤ indexOf b u → indexOf b (u ++ v) ≡ length u + indexOf b v)
         → indexAfter x (indexOf b (u ++ v)) ≡ suc (length u) + indexOf b v
@@ -59,41 +63,74 @@ index-behind b (a ∷ u) v h = go (eqb a b) h (index-behind b u v)
     go false h i = omega (arith, i (omega arith))
 
 -- where b does not stand in u, the search comes to the end
-has-none : (b : ℕ) (u : Bytes) → has b u ≡ false → length u ≤ indexOf b u
+has-none : (b : ℕ) (u : Bytes) → has true b u ≡ false → length u ≤ indexOf b u
 unfolding indexOf
 has-none b [] n = omega arith
 has-none b (a ∷ u) n = go (eqb a b) n (has-none b u)
   where
-    go : (x : Bool) → (x || has b u) ≡ false → (has b u ≡ false → length u ≤ indexOf b u) → suc (length u) ≤ indexAfter x (indexOf b u)
+    go : (x : Bool) → (Bool·beq x true || has true b u) ≡ false → (has true b u ≡ false → length u ≤ indexOf b u) → suc (length u) ≤ indexAfter x (indexOf b u)
     go true n i = let z : _≡_ {A = ℕ} 0 1 = cc in absurd (omega arith)
     go false n i = omega (arith, i n)
 
--- the next k bytes from an offset on
-module _ (b : ℕ) (s : Bytes) (at k : ℕ) (p : at ≤ length s) (q : k ≤ length s - at) where
-  -- they are k
-  size : length (slice at (at + k) s) ≡ k
+-- the bytes from an offset on are those up to another and those from there on
+pub slice-drop : (s : Bytes) (at to : ℕ) → at ≤ to → to ≤ length s → drop at s ≡ slice at to s ++ drop to s
+unfolding slice
+slice-drop s at to p q =
+    let inside : at ≤ length (take to s) = rw (length-take-le to s q) p in
+    rw (← drop-append-le at (take to s) (drop to s) inside, take-append-drop)
+
+-- the bytes from an offset up to another
+module _ (b : ℕ) (s : Bytes) (at to : ℕ) (p : at ≤ to) (q : to ≤ length s) where
+  -- how many they are
+  size : length (slice at to s) ≡ to - at
   unfolding slice
-  size = omega (arith, length-slice at (at + k) s (omega arith))
+  size = length-slice at to s q
 
   -- the others follow them
-  first-cut : firstFrom b s at ≡ at + indexOf b (slice at (at + k) s ++ slice (at + k) (length s) s)
+  first-cut : firstFrom b s at ≡ at + indexOf b (slice at to s ++ slice to (length s) s)
   unfolding slice
-  first-cut =
-      let inside : at ≤ length (take (at + k) s) = rw (length-take-le (at + k) s (omega arith)) (omega arith) in
-      rw (take-length, ← drop-append-le at (take (at + k) s) (drop (at + k) s) inside, take-append-drop)
+  first-cut = rw (take-length, slice-drop s at to p q)
 
-  -- the first b is one of them
-  pub first-near : (r : ℕ) → r ≡ at + indexOf b (slice at (at + k) s) → r < at + k → r ≡ firstFrom b s at
-  first-near r e h = omega (arith, first-cut, index-in b (slice at (at + k) s) (slice (at + k) (length s) s) (omega (arith, size)))
+  -- the first b is none of them
+  first-past : to - at ≤ indexOf b (slice at to s) → firstFrom b s to ≡ firstFrom b s at
+  first-past h = omega (arith, size, first-cut, index-past b (slice at to s) (slice to (length s) s) (omega (arith, size)))
 
-  -- it is none of them
-  first-behind : k ≤ indexOf b (slice at (at + k) s) → firstFrom b s (at + k) ≡ firstFrom b s at
-  first-behind h = omega (arith, size, first-cut, index-behind b (slice at (at + k) s) (slice (at + k) (length s) s) (omega (arith, size)))
+-- the first b is looked for among the next k bytes
+module _ (b : ℕ) (s : Bytes) (at k : ℕ) (p : at ≤ length s) (q : k ≤ length s - at) (n : ℕ) (e : n ≡ at + indexOf b (slice at (at + k) s)) where
+  -- it is one of them
+  pub first-near : n < at + k → n ≡ firstFrom b s at
+  first-near h =
+      let near = slice at (at + k) s in
+      let sized = size b s at (at + k) (omega arith) (omega arith) in
+      omega (arith, first-cut b s at (at + k) (omega arith) (omega arith), index-in b near (slice (at + k) (length s) s) (omega arith))
 
-  -- so it is looked for behind them
-  pub first-far : (n r : ℕ) → n ≡ at + indexOf b (slice at (at + k) s) → at + k ≤ n → r ≡ firstFrom b s (at + k) → r ≡ firstFrom b s at
-  first-far n r e h g = g ∙ first-behind (omega arith)
+  -- it is looked for after them
+  pub first-far : (r : ℕ) → at + k ≤ n → r ≡ firstFrom b s (at + k) → r ≡ firstFrom b s at
+  first-far r h g = g ∙ first-past b s at (at + k) (omega arith) (omega arith) (omega arith)
 
-  -- a block of k bytes has no b
-  pub first-pass : (y : ℕ) (x : Bool) → firstFrom b s at ≡ y → x ≡ has b (slice at (at + k) s) → x ≡ false → firstFrom b s (at + k) ≡ y
-  first-pass y x g h e = first-behind (omega (arith, size, has-none b (slice at (at + k) s) (sym h ∙ e))) ∙ g
+-- the search goes on after bytes that were passed over
+pub first-skipped : (b : ℕ) (s : Bytes) (at to r : ℕ) → PassedOver true b s at to → r ≡ firstFrom b s to → r ≡ firstFrom b s at
+first-skipped b s at to r k g =
+    g ∙ first-past b s at to (k .onward) (k .inside) (omega (arith, size b s at to (k .onward) (k .inside), has-none b (slice at to s) (k .none)))
+
+module _ (is : Bool) (b : ℕ) (s : Bytes) (at : ℕ) where
+  -- at the start nothing is passed over
+  pub skip-none : at ≤ length s → PassedOver is b s at at
+  unfolding slice
+  skip-none h = record { onward = omega arith; inside = h; none = rw (slice-empty at s) }
+
+  -- a block of k bytes has no such byte
+  pub skip-block : (i k : ℕ) (x : Bool) → PassedOver is b s at i → k ≤ length s - i → x ≡ has is b (slice i (i + k) s) → x ≡ false
+      → PassedOver is b s at (i + k)
+  unfolding slice
+  skip-block i k x d h e n =
+      let onward = d .onward in
+      let inside = d .inside in
+      let whole : i ≤ length (take (i + k) s) = rw (length-take-le (i + k) s (omega arith)) (omega arith) in
+      let cut = slice-drop (take (i + k) s) at i onward whole in
+      let both = has-append is b (slice at i s) (slice i (i + k) s) in
+      record {
+        onward = omega arith;
+        inside = omega arith;
+        none = rw (cut, take-take i (i + k) s (omega arith), both, d .none) (sym e ∙ n);
+      }

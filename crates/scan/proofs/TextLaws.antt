@@ -3,8 +3,8 @@ use Prim.Native.Nat.{ℕ, suc, _+_, _^_, _≤_, _<_}
 use native.Mathlib.Numerals.{add-one}
 use native.Mathlib.Omega.{arith}
 use mathlib.Core.Path.{_≡_, refl, sym, _∙_, ap}
-use mathlib.Core.Bool.{Bool, true, false, _&&_, and-false}
-use mathlib.Core.List.{[], _∷_}
+use mathlib.Core.Bool.{Bool, true, false, _&&_, _||_, Bool·beq, and-false}
+use mathlib.Core.List.{[], _∷_, _++_}
 use lib.ListN.{length, drop, getD, drop-of-length-le, length-append, length-drop}
 use lib.Seq.{drop-cons}
 use lib.Dec.{eqb}
@@ -13,6 +13,9 @@ use mir.Val.{Fits}
 use borrow.Author.Tests.{eq-eqb, ne-eqb}
 use Rattle.format.specs.Bytes.{Bytes, begins, same, allZero}
 use Rattle.format.proofs.ByteLaws.{begins-true}
+use Rattle.bytes.specs.Bytes.{slice}
+use Rattle.scan.specs.Find.{has, PassedOver}
+use Rattle.scan.proofs.FindLaws.{slice-drop}
 
 module _ (k : Bytes) (j : ℕ) (s : Bytes) (i : ℕ) (x : Bool) (left : begins (drop j k) (drop i s) ≡ x) where
   -- the bytes end before the word does
@@ -62,7 +65,23 @@ pub begins-fits : (k : Bytes) (at : ℕ) (s : Bytes) (x : Bool) (n : ℕ) → x 
     → 1 ≤ n → n ≤ length k → Fits w64 (at + n)
 begins-fits k at s x n h e l p q = omega (arith, begins-inside k at s (sym h ∙ e) (omega arith))
 
+-- zeros in front do not count
+zeros-front : (u v : Bytes) → has false 0 u ≡ false → allZero (u ++ v) ≡ allZero v
+zeros-front [] v n = refl
+zeros-front (a ∷ u) v n = go (eqb a 0) n (zeros-front u v)
+  where
+    go : (x : Bool) → (Bool·beq x false || has false 0 u) ≡ false → (has false 0 u ≡ false → allZero (u ++ v) ≡ allZero v)
+        → x && allZero (u ++ v) ≡ allZero v
+    go true n i = i n
+    go false n i = let z : _≡_ {A = ℕ} 0 1 = cc in absurd (omega arith)
+
 module _ (s : Bytes) (i : ℕ) (x : Bool) (left : allZero (drop i s) ≡ x) where
+  -- blocks of zeros are passed over
+  pub zeros-skipped : (r : ℕ) → PassedOver false 0 s i r → allZero (drop r s) ≡ x
+  zeros-skipped r k =
+      let cut = slice-drop s i r (k .onward) (k .inside) in
+      sym (ap allZero cut ∙ zeros-front (slice i r s) (drop r s) (k .none)) ∙ left
+
   -- the next byte is tested, and then the others
   zeros-next : i < length s → eqb (getD s i 0) 0 && allZero (drop (i + 1) s) ≡ x
   zeros-next h = rw (add-one i) (rw (drop-cons s i 0 h) at left)

@@ -1,11 +1,12 @@
-// The search for a byte. Blocks of bytes are tested without an early exit, so that the compiler tests many bytes at once.
+// The search for a byte, and blocks that are passed over. A block is tested without an early exit, so that the compiler
+// tests many bytes at once.
 ghost use Prim.Native.Nat.{_≤_};
 ghost use mathlib.Core.Path.{_≡_};
 ghost use lib.ListN.{length};
 ghost use Rattle.bytes.specs.Bytes.{slice};
-ghost use Rattle.scan.specs.Find.{has, firstFrom};
+ghost use Rattle.scan.specs.Find.{has, PassedOver, firstFrom};
 
-// The first b at or behind an offset, or the end. The next eight bytes are tested one by one, since a b is often near.
+// The first b at or after an offset, or the end. The next eight bytes are tested one by one, since a b is often near.
 pub(crate) fn find_byte(s: &[u8], at: usize, b: u8) -> usize
     requires { ⌜ at ≤ length (now s) ⌝ }
     ensures { λ r. ⌜ r ≡ firstFrom b (now (s .entry)) at ⌝ }
@@ -28,21 +29,20 @@ fn find_far(s: &[u8], at: usize, b: u8) -> usize
     ensures { λ r. ⌜ r ≡ firstFrom b (now (s .entry)) at ⌝ }
     ensures { λ r. ⌜ r ≤ length (now (s .entry)) ⌝ }
 {
-    let large = skip_blocks(s, at, b, 64);
-    let small = skip_blocks(s, large, b, 8);
+    let large = skip_blocks(s, at, 64, b, true);
+    let small = skip_blocks(s, large, 8, b, true);
     bytes::scan::find(s, small, s.len(), b)
 }
 
-// Goes over the blocks of `size` bytes that have no b: the first b from there on is the first from at on.
-fn skip_blocks(s: &[u8], at: usize, b: u8, size: usize) -> usize
+// Goes over the blocks of `size` bytes that have no byte that is b or, where `is` is false, none that is not b.
+pub(crate) fn skip_blocks(s: &[u8], at: usize, size: usize, b: u8, is: bool) -> usize
     requires { ⌜ at ≤ length (now s) ⌝ }
     requires { ⌜ 1 ≤ size ⌝ }
-    ensures { λ r. ⌜ firstFrom b (now (s .entry)) r ≡ firstFrom b (now (s .entry)) at ⌝ }
-    ensures { λ r. ⌜ r ≤ length (now (s .entry)) ⌝ }
+    ensures { λ r. ⌜ PassedOver is b (now (s .entry)) at r ⌝ }
 {
     let mut i = at;
     while size <= s.len() - i {
-        if has_byte(s, i, i + size, b) {
+        if has_byte(s, i, i + size, b, is) {
             return i;
         }
         i += size;
@@ -50,15 +50,15 @@ fn skip_blocks(s: &[u8], at: usize, b: u8, size: usize) -> usize
     i
 }
 
-// Whether b stands in s from one offset up to another. Looks at every byte there.
-fn has_byte(s: &[u8], from: usize, to: usize, b: u8) -> bool
+// Whether a byte of s from one offset up to another is b or, where `is` is false, is not b. Looks at every byte there.
+fn has_byte(s: &[u8], from: usize, to: usize, b: u8, is: bool) -> bool
     requires { ⌜ from ≤ to ⌝ }
     requires { ⌜ to ≤ length (now s) ⌝ }
-    ensures { λ r. ⌜ r ≡ has b (slice from to (now (s .entry))) ⌝ }
+    ensures { λ r. ⌜ r ≡ has is b (slice from to (now (s .entry))) ⌝ }
 {
     let mut found = false;
     for j in from..to {
-        if s[j] == b {
+        if (s[j] == b) == is {
             found = true;
         }
     }

@@ -2,6 +2,7 @@
 ghost use mathlib.Core.Path.{_≡_};
 ghost use lib.ListN.{drop};
 ghost use Rattle.format.specs.Bytes.{begins, same, allZero};
+use crate::find;
 
 // Whether word stands in s at an offset.
 pub fn begins_at(s: &[u8], at: usize, word: &[u8]) -> bool
@@ -32,11 +33,24 @@ pub fn is(s: &[u8], word: &[u8]) -> bool
     begins_at(word, 0, s)
 }
 
-// Whether every byte is zero.
+// Whether every byte is zero. A few bytes are tested one by one; of more, the blocks of zeros are passed over first.
+// The large blocks have 128 bytes: the compiler unrolls the test of 64 bytes against zero, and what it makes of that is slow.
 pub fn only_zeros(s: &[u8]) -> bool
     ensures { λ r. ⌜ r ≡ allZero (now (s .entry)) ⌝ }
 {
-    let mut i = 0;
+    if s.len() < 8 {
+        return zeros_from(s, 0);
+    }
+    let large = find::skip_blocks(s, 0, 128, 0, false);
+    let small = find::skip_blocks(s, large, 8, 0, false);
+    zeros_from(s, small)
+}
+
+// Whether every byte from an offset on is zero, byte by byte.
+fn zeros_from(s: &[u8], from: usize) -> bool
+    ensures { λ r. ⌜ r ≡ allZero (drop from (now (s .entry))) ⌝ }
+{
+    let mut i = from;
     while i < s.len() {
         if s[i] != 0 {
             return false;

@@ -1,4 +1,4 @@
--- The invariant: b was found already, or stands from j on, where it stands at all.
+-- The invariant: such a byte was found already, or stands from j on, where it stands at all.
 use Prim.Native.Nat.{_-_}
 use mathlib.Core.Path.{_≡_}
 use mathlib.Core.Bool.{_||_}
@@ -11,10 +11,10 @@ use Rattle.scan.proofs.find.has_byte.Statement.{statement}
 use Rattle.scan.proofs.find.has_byte.Tie as tie
 
 abbrev Inv-loop : tie.InvT-loop
-Inv-loop s from to b found₀ j₀ found j = (found || has b (slice j to s)) ≡ has b (slice from to s)
+Inv-loop s from to b is found₀ j₀ found j = (found || has is b (slice j to s)) ≡ has is b (slice from to s)
 
 abbrev μ-loop : tie.MeasureT-loop
-μ-loop s from to b found₀ j₀ found j = to - j
+μ-loop s from to b is found₀ j₀ found j = to - j
 
 pub has-byte-spec : {M : Type 1} → statement M
 has-byte-spec =

@@ -1,29 +1,17 @@
--- The invariant: what is left to test is what was to be tested.
-use Prim.Native.Nat.{_≤_, _-_}
-use mathlib.Core.Path.{_≡_}
-use lib.ListN.{length, drop}
+-- The bytes after the blocks of zeros that were passed over decide.
+use mathlib.Core.Path.{_∙_}
 use borrow.Author.Needs.{needs}
-use Rattle.format.specs.Bytes.{allZero}
-use Rattle.scan.proofs.TextLaws.{zeros-differs, zeros-step, zeros-done}
+use Rattle.scan.proofs.TextLaws.{zeros-skipped}
 use Rattle.scan.proofs.text.only_zeros.Statement.{statement}
 use Rattle.scan.proofs.text.only_zeros.Tie as tie
-
-abbrev Inv-loop : tie.InvT-loop
-Inv-loop s i₀ i = (i ≤ length s) × (allZero (drop i s) ≡ allZero s)
-
-abbrev μ-loop : tie.MeasureT-loop
-μ-loop s i₀ i = length s - i
 
 pub only-zeros-spec : {M : Type 1} → statement M
 only-zeros-spec =
     tie.close
     (tie.spec
-    Inv-loop
-    μ-loop
+    (λ c κs. search needs)
     (λ c. search needs)
-    (λ c. search needs)
-    (λ c. search (zeros-differs, needs))
-    (λ c. search needs)
-    (λ c. search needs)
-    (λ c. search (zeros-step, needs))
-    (λ c. search (zeros-done, needs)))
+    (λ c κs. search needs)
+    (λ c κs. search needs)
+    (λ c κs. search needs)
+    (λ c. search (_∙_, zeros-skipped, needs)))
