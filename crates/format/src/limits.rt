@@ -17,3 +17,6 @@ pub const ROW_BYTES: usize = 16;
 
 // The bytes of a record.
 pub const RECORD_BYTES: usize = 120;
+
+// The bytes of a stored row's numbers.
+pub const STORED_ROW_BYTES: usize = 80;

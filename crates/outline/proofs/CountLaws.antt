@@ -16,19 +16,21 @@ use Rattle.format.specs.declared.answer.CountAnswer.the-variants.{Counted, Refu
 use Rattle.format.specs.declared.row.Row.{Row}
 use Rattle.format.specs.Answer.{countAnswer}
 use Rattle.format.specs.Bytes.{Bytes}
+use Rattle.format.specs.Block.{leastHeader}
+use Rattle.format.specs.Chain.{mostBlocks}
 use Rattle.format.specs.Outcome.{Outcome, accepted, refused, refusal, need, _>>=_, _>>_}
 use Rattle.format.specs.Outline.{rowFrom, unpacked, decodeRow, isRow, storedFrom, stored, storedCount}
 
 module _ (r : Row) (most : ℕ) where
   -- the ordinal is too high
-  pub ordinal-high : 63 < r .ordinal → false ≡ isRow most r
+  pub ordinal-high : mostBlocks ≤ r .ordinal → false ≡ isRow most r
   unfolding isRow
-  ordinal-high h = rw (isRow, lt-leb (suc (r .ordinal)) 64 (omega arith))
+  ordinal-high h = rw (isRow, lt-leb (suc (r .ordinal)) mostBlocks (omega arith))
 
   -- the header is too short
-  pub header-short : r .«header_size» < 48 → false ≡ isRow most r
+  pub header-short : r .«header_size» < leastHeader → false ≡ isRow most r
   unfolding isRow
-  header-short h = rw (isRow, lt-leb 48 (r .«header_size») h, and-false)
+  header-short h = rw (isRow, lt-leb leastHeader (r .«header_size») h, and-false)
 
   -- more is used than is allocated
   pub used-high : r .allocated < r .used → false ≡ isRow most r
@@ -36,10 +38,11 @@ module _ (r : Row) (most : ℕ) where
   used-high h = rw (isRow, lt-leb (r .used) (r .allocated) h, and-false)
 
   -- of other rows the depth decides
-  pub depth-decides : r .ordinal ≤ 63 → 48 ≤ r .«header_size» → r .used ≤ r .allocated → leb (r .depth) most ≡ isRow most r
+  pub depth-decides : r .ordinal < mostBlocks → leastHeader ≤ r .«header_size» → r .used ≤ r .allocated
+      → leb (r .depth) most ≡ isRow most r
   unfolding isRow
   depth-decides o h u =
-      rw (isRow, le-leb (suc (r .ordinal)) 64 (omega arith), le-leb 48 (r .«header_size») h, le-leb (r .used) (r .allocated) u)
+      rw (isRow, le-leb (suc (r .ordinal)) mostBlocks (omega arith), le-leb leastHeader (r .«header_size») h, le-leb (r .used) (r .allocated) u)
 
 -- a depth has three bits
 depth-small : (b : Bytes) → decodeRow b .depth < 8

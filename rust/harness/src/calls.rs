@@ -16,6 +16,7 @@ pub enum Function {
     Index,
     StoredCount,
     StoredRow,
+    StoredRows,
     Rewrite,
     Edit,
 }
@@ -57,7 +58,7 @@ pub struct Call {
 }
 
 impl Function {
-    const ALL: [Function; 11] = [
+    const ALL: [Function; 12] = [
         Function::Read,
         Function::Block,
         Function::Count,
@@ -67,6 +68,7 @@ impl Function {
         Function::Index,
         Function::StoredCount,
         Function::StoredRow,
+        Function::StoredRows,
         Function::Rewrite,
         Function::Edit,
     ];
@@ -75,7 +77,7 @@ impl Function {
     fn is_of_stored(self) -> bool {
         matches!(
             self,
-            Function::StoredCount | Function::StoredRow | Function::Rewrite
+            Function::StoredCount | Function::StoredRow | Function::StoredRows | Function::Rewrite
         )
     }
 
@@ -195,6 +197,7 @@ impl fmt::Display for Function {
             Function::Index => "asdf_index",
             Function::StoredCount => "asdf_stored_count",
             Function::StoredRow => "asdf_stored_row",
+            Function::StoredRows => "asdf_stored_rows",
             Function::Rewrite => "asdf_rewrite",
             Function::Edit => "asdf_edit",
         })
@@ -292,6 +295,7 @@ mod tests {
         assert_eq!(of("asdf_count,"), 2);
         assert_eq!(of("asdf_index,"), 12);
         assert_eq!(of("asdf_stored_count,"), 3);
+        assert_eq!(of("asdf_stored_rows,"), 16);
         assert_eq!(of("asdf_rewrite,"), 16);
         assert_eq!(of("asdf_edit,"), 5);
     }

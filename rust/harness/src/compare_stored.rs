@@ -6,6 +6,7 @@ use crate::exports;
 use crate::loan::{compare_count, compare_numbered, Asked, Expected};
 use crate::numbers::{bytes_of, row_numbers};
 use crate::stored_answers::StoredAnswers;
+use asdf_second::Row;
 
 /// Every row of an outline with at most so many is asked for.
 const FEW_ROWS: usize = 24;
@@ -23,6 +24,8 @@ pub fn compare_stored(
     let rewritten = expected.rewritten.clone();
     let rewritten = Asked::new(Function::Rewrite, rewritten, stored.len());
     rewritten.compare(|out| exports::rewrite(stored, out), calls)?;
+    let rows = Asked::new(Function::StoredRows, expected_rows(expected), stored.len());
+    rows.compare(|out| exports::stored_rows(stored, out), calls)?;
     compare_numbered(
         Function::StoredRow,
         row_places(expected.rows().len()),
@@ -39,11 +42,22 @@ fn row_places(count: usize) -> impl Iterator<Item = u64> {
     (0..all).chain(wanted(count))
 }
 
+/// The bytes of all rows.
+fn expected_rows(expected: &StoredAnswers) -> Expected {
+    let rows = expected.rows.as_ref().map_err(|&refusal| refusal)?;
+    let bytes: Vec<Vec<u8>> = rows.iter().map(row_bytes).collect();
+    Ok(bytes.concat())
+}
+
 /// The bytes of a row, none where there is no such row.
 fn expected_row(expected: &StoredAnswers, number: u64) -> Expected {
     let rows = expected.rows.as_ref().map_err(|&refusal| refusal)?;
-    let row = rows.get(number as usize);
-    Ok(row.map_or(Vec::new(), |row| bytes_of(&row_numbers(row))))
+    Ok(rows.get(number as usize).map_or(Vec::new(), row_bytes))
+}
+
+/// The numbers of a row as bytes.
+fn row_bytes(row: &Row) -> Vec<u8> {
+    bytes_of(&row_numbers(row))
 }
 
 #[cfg(test)]

@@ -5,6 +5,7 @@
 use asdf_map::Map;
 pub use asdf_sys::{
     block, count, edit, index, outline, read, record, records, rewrite, stored_count, stored_row,
+    stored_rows,
 };
 use std::ffi::{c_int, c_void};
 use std::io;
