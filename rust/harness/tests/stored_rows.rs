@@ -1,7 +1,7 @@
 //! All rows of a stored outline as numbers: exact bytes, both sides of each rule, and buffers that fit, do not, or are
 //! longer.
 
-use asdf_harness::exports::stored_rows;
+use asdf_harness::calls::exports::stored_rows;
 
 /// What every lent buffer holds before a call.
 const UNTOUCHED: u8 = 0xA5;

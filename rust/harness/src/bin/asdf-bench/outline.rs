@@ -2,8 +2,10 @@
 
 use crate::measure::medians;
 use crate::read::{tree_file, LINE_OF_41};
-use asdf_harness::exports::{self, SparseFile};
-use asdf_harness::nests::{file_of, many_gaps, path, tree, LEVELS, MOST_BLOCKS};
+use asdf_harness::calls::exports;
+use asdf_harness::files::nests::{file_of, many_gaps, path, tree};
+use asdf_harness::files::sparse::SparseFile;
+use asdf_harness::format::limits::{LEVELS, MOST_BLOCKS};
 use asdf_second::{most_rows, ROW_LENGTH};
 use std::hint::black_box;
 use std::io;
@@ -60,7 +62,7 @@ fn cases() -> Vec<Case> {
     ]
 }
 
-/// 32 files of 32 blocks, each with a file that is refused behind its last byte.
+/// 32 files of 32 blocks, each with a file that is refused after its last byte.
 fn refused_files() -> Vec<u8> {
     let refused = [ENDLESS_TREE, &LINE_OF_41.repeat(REFUSED_LINES)].concat();
     let inner = file_of([&refused[..]; 32]);

@@ -2,11 +2,14 @@
 
 use crate::index::indexed_files;
 use crate::measure::medians;
-use asdf_harness::exports::{self, SparseFile};
-use asdf_harness::nests::file_with_gaps;
-use asdf_harness::numbers::LAYOUT_BYTES;
+use asdf_harness::calls::exports;
+use asdf_harness::calls::numbers::LAYOUT_BYTES;
+use asdf_harness::files::nests::file_with_gaps;
+use asdf_harness::files::sparse::chain_of_blocks;
+use asdf_harness::files::sparse::SparseFile;
+use asdf_harness::format::block::block_header;
+use asdf_harness::format::text::{HEADER_LINE, MARK};
 use asdf_harness::rng::Rng;
-use asdf_harness::sparse::{block_header, chain_of_blocks, HEADER_LINE, MARK};
 use std::hint::black_box;
 use std::io;
 
