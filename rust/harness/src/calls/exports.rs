@@ -11,6 +11,7 @@ use std::ffi::{c_int, c_void};
 extern "C" {
     fn bench_find_mark(bytes: *const u8, length: usize, at: usize) -> usize;
     fn bench_find_mark_plain(bytes: *const u8, length: usize, at: usize) -> usize;
+    fn memcmp(bytes: *const c_void, others: *const c_void, length: usize) -> c_int;
     fn memchr(bytes: *const c_void, byte: c_int, length: usize) -> *mut c_void;
     fn memmem(
         bytes: *const c_void,
@@ -60,6 +61,16 @@ pub fn find_bytes(bytes: &[u8], wanted: &[u8]) -> Option<usize> {
     place_in(bytes, found)
 }
 
+/// Whether libc finds only zeros: the first byte is one, and each is the same as the next.
+pub fn only_zeros(bytes: &[u8]) -> bool {
+    let Some((first, rest)) = bytes.split_first() else {
+        return true;
+    };
+    // SAFETY: both pointers come from slices with at least this length.
+    let order = unsafe { memcmp(bytes.as_ptr().cast(), rest.as_ptr().cast(), rest.len()) };
+    *first == 0 && order == 0
+}
+
 /// The place in these bytes to which libc points, if it points at all.
 fn place_in(bytes: &[u8], found: *mut c_void) -> Option<usize> {
     (!found.is_null()).then(|| found as usize - bytes.as_ptr() as usize)
@@ -75,5 +86,15 @@ mod tests {
         assert_eq!(find_byte(b"abcb", b'x'), None);
         assert_eq!(find_bytes(b"abcb", b"cb"), Some(2));
         assert_eq!(find_bytes(b"abcb", b"ba"), None);
+    }
+
+    #[test]
+    fn libc_tells_zeros_from_other_bytes() {
+        for bytes in [&b""[..], b"\0", b"\0\0\0"] {
+            assert!(only_zeros(bytes));
+        }
+        for bytes in [&b"\x01"[..], b"\x01\x01", b"\0\0\x01", b"\x01\0"] {
+            assert!(!only_zeros(bytes));
+        }
     }
 }
