@@ -174,11 +174,14 @@ uint64_t asdf_records(const uint8_t *file, size_t file_length, uint8_t *out, siz
  * lines end as the file's header line does. */
 uint64_t asdf_index(const uint8_t *file, size_t file_length, uint8_t *out, size_t out_length);
 
-/* How many rows a stored outline has. Refuses it with 23 or 24, as the next two do. */
+/* How many rows a stored outline has. Refuses it with 23 or 24, as the next three do. */
 uint64_t asdf_stored_count(const uint8_t *stored, size_t stored_length);
 
-/* The k-th row of a stored outline, from 0: ASDF_STORED_ROW_BYTES, or 0 where there is none. */
+/* The k-th row of a stored outline, from 0: ASDF_STORED_ROW_BYTES, or 0 where there is none. Each call judges all rows. */
 uint64_t asdf_stored_row(const uint8_t *stored, size_t stored_length, uint64_t k, uint8_t *out, size_t out_length);
+
+/* All rows of a stored outline, by one call: ASDF_STORED_ROW_BYTES for each. There are stored_length / ASDF_ROW_BYTES. */
+uint64_t asdf_stored_rows(const uint8_t *stored, size_t stored_length, uint8_t *out, size_t out_length);
 
 /* Reads a stored outline and writes it again: the same bytes. */
 uint64_t asdf_rewrite(const uint8_t *stored, size_t stored_length, uint8_t *out, size_t out_length);

@@ -6,7 +6,7 @@ ghost use lib.ListN.{length};
 ghost use Rattle.format.specs.Outcome.{accepted, _>>_ as Outcome·then};
 ghost use Rattle.format.specs.Answer.{editAnswer};
 ghost use Rattle.format.specs.Export.{word as Export·word, Returned, Exported, OutlineExported, RewriteExported, IndexExported, EditExported};
-ghost use Rattle.format.specs.Fields.{layoutBytes, blockFields, recordFields, rowFields, foundBytes, recordTable};
+ghost use Rattle.format.specs.Fields.{layoutBytes, blockFields, recordFields, rowFields, foundBytes, recordTable, storedRows};
 ghost use Rattle.format.specs.File.{blockAt};
 ghost use Rattle.format.specs.Nest.{recordCount, recordAt};
 ghost use Rattle.format.specs.Outline.{storedCount, storedAt};
@@ -105,6 +105,14 @@ pub extern "C" fn asdf_stored_row(stored: &[u8], k: u64, out: &mut [u8]) -> u64
             word::counted(word::put_numbers(out, &numbers))
         }
     }
+}
+
+// The rows of a stored outline as numbers: 80 bytes for each.
+#[no_mangle]
+pub extern "C" fn asdf_stored_rows(stored: &[u8], out: &mut [u8]) -> u64
+    ensures { λ r. ⌜ Exported (now (stored .entry)) (storedRows (now (stored .entry))) (now (out .entry)) (now (out .exit)) r ⌝ }
+{
+    word::counted(outline::stored::rows(stored, out))
 }
 
 // A stored outline, read and written again: the same bytes.

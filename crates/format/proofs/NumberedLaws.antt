@@ -28,7 +28,7 @@ use Rattle.format.specs.Chain.{Chain, mostBlocks, extent, ended, linked,
 use Rattle.format.specs.File.{mostBytes, firstBlock, goesOn, body, file, layout, blockAt}
 use Rattle.format.specs.Nest.{walkFile, recordsFrom, records, recordCount, recordAt}
 use Rattle.format.specs.Outline.{rowBytes, decodeRow, rows, outline, storedFrom, stored, storedCount, storedAt, rewritten}
-use Rattle.format.specs.Fields.{layoutBytes, recordTable, foundBytes}
+use Rattle.format.specs.Fields.{layoutBytes, recordTable, storedRows, foundBytes}
 use Rattle.format.specs.Lent.{writes}
 use Rattle.format.specs.IndexWriter.{indexFor}
 use Rattle.format.specs.Edit.{editTree, edit}
@@ -276,3 +276,8 @@ module _ (b : Bytes) where
   pub numbered-rewritten : Numbered (length b) (rewritten b)
   unfolding rewritten
   numbered-rewritten = search (numbered-value, numbered-stored)
+
+  -- or all rows as numbers
+  pub numbered-stored-rows : Numbered (length b) (storedRows b)
+  unfolding storedRows
+  numbered-stored-rows = search (numbered-value, numbered-stored)

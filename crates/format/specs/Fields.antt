@@ -18,7 +18,7 @@ use Rattle.format.specs.Bytes.{Bytes, toBytes, bit}
 use Rattle.format.specs.Outcome.{Outcome, accepted, _>>=_}
 use Rattle.format.specs.File.{layout}
 use Rattle.format.specs.Nest.{records}
-use Rattle.format.specs.Outline.{innerNumber}
+use Rattle.format.specs.Outline.{innerNumber, stored}
 
 -- numbers of eight bytes each, the most significant byte first
 unfoldable pub numberBytes : List ℕ → Bytes
@@ -91,6 +91,19 @@ unfoldable pub recordTable : Bytes → Outcome Bytes
 recordTable s = do
   rs ← records s
   accepted (flatMap encodeRecord rs)
+
+-- how many bytes the numbers of a stored row take
+abbrev pub storedRowBytes : ℕ
+storedRowBytes = 80
+
+unfoldable pub encodeStoredRow : Row → Bytes
+encodeStoredRow r = numberBytes (rowFields r)
+
+-- the rows of a stored outline as numbers, one after another with nothing around them
+unfoldable pub storedRows : Bytes → Outcome Bytes
+storedRows b = do
+  rs ← stored b
+  accepted (flatMap encodeStoredRow rs)
 
 -- the bytes of what is found, as these numbers; none where there is none
 unfoldable pub foundNumbers : {A : Type 0} → (A → List ℕ) → Option A → Bytes

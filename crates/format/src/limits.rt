@@ -20,3 +20,5 @@ pub const RECORD_BYTES: usize = 120;
 
 // The least bytes of a block: those of the least header and of what stands before it.
 pub const LEAST_BLOCK: usize = 54;
+// The bytes of a stored row's numbers.
+pub const STORED_ROW_BYTES: usize = 80;

@@ -16,19 +16,21 @@ use Rattle.format.specs.declared.answer.CountAnswer.the-variants.{Counted, Refu
 use Rattle.format.specs.declared.row.Row.{Row}
 use Rattle.format.specs.Answer.{countAnswer}
 use Rattle.format.specs.Bytes.{Bytes}
+use Rattle.format.specs.Block.{leastHeader}
+use Rattle.format.specs.Chain.{mostBlocks}
 use Rattle.format.specs.Outcome.{Outcome, accepted, refused, refusal, need, _>>=_, _>>_}
-use Rattle.format.specs.Outline.{rowFrom, unpacked, decodeRow, isRow, storedFrom, stored, storedCount}
+use Rattle.format.specs.Outline.{rowBytes, rowFrom, unpacked, decodeRow, isRow, storedFrom, stored, storedCount}
 
 module _ (r : Row) (most : ℕ) where
   -- the ordinal is too high
-  pub ordinal-high : 63 < r .ordinal → false ≡ isRow most r
+  pub ordinal-high : mostBlocks ≤ r .ordinal → false ≡ isRow most r
   unfolding isRow
-  ordinal-high h = rw (isRow, lt-leb (suc (r .ordinal)) 64 (omega arith))
+  ordinal-high h = rw (isRow, lt-leb (suc (r .ordinal)) mostBlocks (omega arith))
 
   -- the header is too short
-  pub header-short : r .«header_size» < 48 → false ≡ isRow most r
+  pub header-short : r .«header_size» < leastHeader → false ≡ isRow most r
   unfolding isRow
-  header-short h = rw (isRow, lt-leb 48 (r .«header_size») h, and-false)
+  header-short h = rw (isRow, lt-leb leastHeader (r .«header_size») h, and-false)
 
   -- more is used than is allocated
   pub used-high : r .allocated < r .used → false ≡ isRow most r
@@ -36,10 +38,11 @@ module _ (r : Row) (most : ℕ) where
   used-high h = rw (isRow, lt-leb (r .used) (r .allocated) h, and-false)
 
   -- of other rows the depth decides
-  pub depth-decides : r .ordinal ≤ 63 → 48 ≤ r .«header_size» → r .used ≤ r .allocated → leb (r .depth) most ≡ isRow most r
+  pub depth-decides : r .ordinal < mostBlocks → leastHeader ≤ r .«header_size» → r .used ≤ r .allocated
+      → leb (r .depth) most ≡ isRow most r
   unfolding isRow
   depth-decides o h u =
-      rw (isRow, le-leb (suc (r .ordinal)) 64 (omega arith), le-leb 48 (r .«header_size») h, le-leb (r .used) (r .allocated) u)
+      rw (isRow, le-leb (suc (r .ordinal)) mostBlocks (omega arith), le-leb leastHeader (r .«header_size») h, le-leb (r .used) (r .allocated) u)
 
 -- a depth has three bits
 depth-small : (b : Bytes) → decodeRow b .depth < 8
@@ -50,7 +53,7 @@ depth-small b = mod-lt _ (omega arith)
 pub depth-fits : (r : Row) (b : Bytes) → r ≡ decodeRow b → Fits w8 (r .depth + 1)
 depth-fits r b e = rw e (omega (arith, depth-small b))
 
--- rows counted behind n others
+-- rows counted after n others
 abbrev pub countedFrom : ℕ → Outcome (List Row) → Outcome ℕ
 countedFrom n o = do
   rs ← o
@@ -58,35 +61,35 @@ countedFrom n o = do
 
 -- the rows before an offset are accepted, and what is left to count is what was to be counted
 pub record Counting (b : Bytes) (at most : ℕ) : Type 0 where
-  pub whole : length b % 16 ≡ 0
-  pub begin : at % 16 ≡ 0
+  pub whole : length b % rowBytes ≡ 0
+  pub begin : at % rowBytes ≡ 0
   pub inside : at ≤ length b
-  pub left : countedFrom (at / 16) (storedFrom ((length b - at) / 16) at most (drop at b)) ≡ storedCount b
+  pub left : countedFrom (at / rowBytes) (storedFrom ((length b - at) / rowBytes) at most (drop at b)) ≡ storedCount b
 
 -- the bytes are no whole rows
-pub count-parts : (b : Bytes) (a : CountAnswer) → a ≡ Refused (refusal 23 0) → (length b % 16 ≡ 0 → ⊥) → countAnswer a ≡ storedCount b
+pub count-parts : (b : Bytes) (a : CountAnswer) → a ≡ Refused (refusal 23 0) → (length b % rowBytes ≡ 0 → ⊥) → countAnswer a ≡ storedCount b
 unfolding countAnswer storedCount stored
-count-parts b a e h = rw (e, ne-eqb (length b % 16) 0 h)
+count-parts b a e h = rw (e, ne-eqb (length b % rowBytes) 0 h)
 
--- rows counted behind none are counted alone
+-- rows counted after none are counted alone
 counted-alone : (o : Outcome (List Row)) → countedFrom 0 o ≡ _>>=_ o (λ rs. accepted (length rs))
 counted-alone (accepted rs) = ap accepted (zero-add (length rs))
 counted-alone (refused r) = refl
 
 -- no row is read yet
-pub count-start : (b : Bytes) → length b % 16 ≡ 0 → Counting b 0 0
+pub count-start : (b : Bytes) → length b % rowBytes ≡ 0 → Counting b 0 0
 unfolding storedCount stored
 count-start b h =
     let all : length b - 0 ≡ length b = omega arith in
-    let rows = storedFrom (length b / 16) 0 0 b in
+    let rows = storedFrom (length b / rowBytes) 0 0 b in
     record {
       whole = h;
       begin = refl;
       inside = omega arith;
-      left = rw (all, storedCount, stored, eq-eqb (length b % 16) 0 h) (counted-alone rows);
+      left = rw (all, storedCount, stored, eq-eqb (length b % rowBytes) 0 h) (counted-alone rows);
     }
 
--- a row that is tested, and the rows behind it
+-- a row that is tested, and the rows after it
 abbrev rowAnd : Bool → ℕ → Row → Outcome (List Row) → Outcome (List Row)
 rowAnd x at r others = do
   need x 24 at
@@ -99,14 +102,14 @@ counted-next n at r (accepted rs) = ap accepted (omega arith)
 counted-next n at r (refused e) = refl
 
 module _ (b : Bytes) (at most : ℕ) (h : Counting b at most) (p : at < length b) where
-  module _ (r : Row) (is : r ≡ decodeRow (take 16 (drop at b))) (x : Bool) (test : x ≡ isRow most r) where
-    -- what is left to count is the next row and the rows behind it
-    next-row : countedFrom (at / 16) (rowAnd x at r (storedFrom ((length b - (at + 16)) / 16) (at + 16) (r .depth + 1) (drop (at + 16) b)))
+  module _ (r : Row) (is : r ≡ decodeRow (take rowBytes (drop at b))) (x : Bool) (test : x ≡ isRow most r) where
+    -- what is left to count is the next row and the rows after it
+    next-row : countedFrom (at / rowBytes) (rowAnd x at r (storedFrom ((length b - (at + rowBytes)) / rowBytes) (at + rowBytes) (r .depth + 1) (drop (at + rowBytes) b)))
         ≡ storedCount b
     unfolding storedFrom
     next-row =
-        let more : (length b - at) / 16 ≡ suc ((length b - (at + 16)) / 16) = omega arith in
-        rw (test, is, ← drop-drop 16 at b) (rw more at (h .left))
+        let more : (length b - at) / rowBytes ≡ suc ((length b - (at + rowBytes)) / rowBytes) = omega arith in
+        rw (test, is, ← drop-drop rowBytes at b) (rw more at (h .left))
 
     -- it is against the rules
     pub count-bad : not x ≡ true → (a : CountAnswer) → a ≡ Refused (refusal 24 at) → countAnswer a ≡ storedCount b
@@ -114,20 +117,20 @@ module _ (b : Bytes) (at most : ℕ) (h : Counting b at most) (p : at < length b
     count-bad e a f = rw f (rw (not-true x e) at next-row)
 
     -- it keeps the rules
-    pub count-step : not x ≡ false → Counting b (at + 16) (r .depth + 1)
+    pub count-step : not x ≡ false → Counting b (at + rowBytes) (r .depth + 1)
     count-step e =
-        let more : at / 16 + 1 ≡ (at + 16) / 16 = omega arith in
+        let more : at / rowBytes + 1 ≡ (at + rowBytes) / rowBytes = omega arith in
         record {
           whole = h .whole;
           begin = omega arith;
           inside = omega arith;
-          left = rw (← more, ← counted-next (at / 16) at r _) (rw (not-false x e) at next-row);
+          left = rw (← more, ← counted-next (at / rowBytes) at r _) (rw (not-false x e) at next-row);
         }
 
 -- all rows are read
-pub count-done : (b : Bytes) (at most : ℕ) → Counting b at most → length b ≤ at → countAnswer (Counted (length b / 16)) ≡ storedCount b
+pub count-done : (b : Bytes) (at most : ℕ) → Counting b at most → length b ≤ at → countAnswer (Counted (length b / rowBytes)) ≡ storedCount b
 unfolding countAnswer storedFrom
 count-done b at most h p =
-    let none : (length b - at) / 16 ≡ 0 = omega arith in
-    let all : at / 16 + 0 ≡ length b / 16 = omega arith in
+    let none : (length b - at) / rowBytes ≡ 0 = omega arith in
+    let all : at / rowBytes + 0 ≡ length b / rowBytes = omega arith in
     ap accepted (sym all) ∙ rw none at (h .left)

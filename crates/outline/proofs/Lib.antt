@@ -2,4 +2,4 @@
 pub mod RowLaws
 pub mod CountLaws
 pub mod StoredLaws
-pub mod RewriteLaws
+pub mod WriteLaws

@@ -19,32 +19,32 @@ use Rattle.format.specs.declared.row.Row.{Row}
 use Rattle.format.specs.Answer.{countAnswer, rowAnswer}
 use Rattle.format.specs.Bytes.{Bytes}
 use Rattle.format.specs.Outcome.{Outcome, accepted, refused, _>>=_}
-use Rattle.format.specs.Outline.{decodeRow, storedFrom, stored, storedCount, storedAt}
+use Rattle.format.specs.Outline.{rowBytes, decodeRow, storedFrom, stored, storedCount, storedAt}
 use Rattle.outline.specs.Row.{rowsIn}
 use Rattle.format.proofs.OutcomeLaws.{Accepts, accepted-holds, accepts-bind, accepts-need}
 
 -- rs are all the rows in b
 pub record Read (b : Bytes) (rs : List Row) : Type 0 where
-  pub size : length b ≡ length rs * 16
+  pub size : length b ≡ length rs * rowBytes
   pub rows : rs ≡ rowsIn (length rs) b
 
--- a row and the rows behind it
-read-next : (b : Bytes) (o : Outcome (List Row)) (rs : List Row) → 16 ≤ length b → Accepts (Read (drop 16 b)) o → o ≡ accepted rs
-    → Read b (decodeRow (take 16 b) ∷ rs)
+-- a row and the rows after it
+read-next : (b : Bytes) (o : Outcome (List Row)) (rs : List Row) → rowBytes ≤ length b → Accepts (Read (drop rowBytes b)) o → o ≡ accepted rs
+    → Read b (decodeRow (take rowBytes b) ∷ rs)
 read-next b o rs h others e =
-    let behind = accepted-holds (Read (drop 16 b)) o rs others e in
+    let after = accepted-holds (Read (drop rowBytes b)) o rs others e in
     record {
-      size = omega (arith, length-drop 16 b, behind .size);
-      rows = ap (λ (l : List Row). decodeRow (take 16 b) ∷ l) (behind .rows);
+      size = omega (arith, length-drop rowBytes b, after .size);
+      rows = ap (λ (l : List Row). decodeRow (take rowBytes b) ∷ l) (after .rows);
     }
 
 -- what is accepted are the rows in the bytes
-read-from : (k n most : ℕ) (b : Bytes) → length b ≡ k * 16 → Accepts (Read b) (storedFrom k n most b)
+read-from : (k n most : ℕ) (b : Bytes) → length b ≡ k * rowBytes → Accepts (Read b) (storedFrom k n most b)
 unfolding storedFrom
 read-from zero n most b h = record { size = h; rows = refl }
 read-from (suc k) n most b h =
-    let others = read-from k (n + 16) (decodeRow (take 16 b) .depth + 1) (drop 16 b) (omega (arith, length-drop 16 b)) in
-    let long : 16 ≤ length b = omega arith in
+    let others = read-from k (n + rowBytes) (decodeRow (take rowBytes b) .depth + 1) (drop rowBytes b) (omega (arith, length-drop rowBytes b)) in
+    let long : rowBytes ≤ length b = omega arith in
     search (accepts-need, accepts-bind, read-next)
 
 -- also of a whole outline
@@ -52,11 +52,11 @@ pub read-stored : (b : Bytes) → Accepts (Read b) (stored b)
 unfolding stored
 read-stored b =
     accepts-need _ _ 23 0 _
-    λ (e : eqb (length b % 16) 0 ≡ true). read-from (length b / 16) 0 0 b (omega (arith, eqb-true (length b % 16) 0 e))
+    λ (e : eqb (length b % rowBytes) 0 ≡ true). read-from (length b / rowBytes) 0 0 b (omega (arith, eqb-true (length b % rowBytes) 0 e))
 
 -- an outline of n rows
 pub record HasRows (b : Bytes) (n : ℕ) : Type 0 where
-  pub size : length b ≡ n * 16
+  pub size : length b ≡ n * rowBytes
   pub is : stored b ≡ accepted (rowsIn n b)
 
 -- where n rows are counted the outline has them
@@ -80,18 +80,18 @@ no-rows b a r h e = go (stored b) refl (rw e at h)
     go (refused t) q c = cc
 
 -- each row is in its sixteen bytes
-row-in : (n k : ℕ) (b : Bytes) → k < n → getElem? (rowsIn n b) k ≡ some (decodeRow (take 16 (drop (k * 16) b)))
+row-in : (n k : ℕ) (b : Bytes) → k < n → getElem? (rowsIn n b) k ≡ some (decodeRow (take rowBytes (drop (k * rowBytes) b)))
 row-in zero k b h = absurd (omega arith)
 row-in (suc n) zero b h = refl
 row-in (suc n) (suc k) b h =
-    let e : suc k * 16 ≡ 16 + k * 16 = omega arith in
-    rw (row-in n k (drop 16 b) (omega arith), drop-drop (k * 16) 16 b, e)
+    let e : suc k * rowBytes ≡ rowBytes + k * rowBytes = omega arith in
+    rw (row-in n k (drop rowBytes b) (omega arith), drop-drop (k * rowBytes) rowBytes b, e)
 
 -- there are no others
 row-out : (n k : ℕ) (b : Bytes) → n ≤ k → getElem? (rowsIn n b) k ≡ none
 row-out zero k b h = refl
 row-out (suc n) zero b h = absurd (omega arith)
-row-out (suc n) (suc k) b h = row-out n k (drop 16 b) (omega arith)
+row-out (suc n) (suc k) b h = row-out n k (drop rowBytes b) (omega arith)
 
 -- the outline is refused
 pub row-refused : (b : Bytes) (k : ℕ) (a : CountAnswer) (r : Refusal) → countAnswer a ≡ storedCount b → a ≡ Refused r
@@ -106,14 +106,14 @@ module _ (b : Bytes) (k : ℕ) (a : CountAnswer) (n : ℕ) (h : countAnswer a �
   row-none p = rw (storedAt, has-rows b a n h e .is, row-out n k b p)
 
   -- there is, and it lies inside
-  pub row-inside : k < n → k * 16 + 16 ≤ length b
+  pub row-inside : k < n → k * rowBytes + rowBytes ≤ length b
   row-inside p = omega (arith, has-rows b a n h e .size)
 
   -- so its offset fits
-  pub row-fits : k < n → length b < 2 ^ 64 → Fits w64 (k * 16)
+  pub row-fits : k < n → length b < 2 ^ 64 → Fits w64 (k * rowBytes)
   row-fits p f = omega (arith, row-inside p)
 
   -- and is the one asked for
-  pub row-found : (r : Row) → k < n → r ≡ decodeRow (take 16 (drop (k * 16) b)) → rowAnswer (RowAnswer·is.Found r) ≡ storedAt b k
+  pub row-found : (r : Row) → k < n → r ≡ decodeRow (take rowBytes (drop (k * rowBytes) b)) → rowAnswer (RowAnswer·is.Found r) ≡ storedAt b k
   unfolding rowAnswer storedAt
   row-found r p f = rw (storedAt, has-rows b a n h e .is, row-in n k b p, f)

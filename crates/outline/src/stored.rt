@@ -1,58 +1,54 @@
 // Stored outlines.
-ghost use Prim.Native.Nat.{_%_, _≤_};
+ghost use Prim.Native.Nat.{_/_, _%_, _≤_, _<_};
 ghost use mathlib.Core.Path.{_≡_};
 ghost use lib.ListN.{length};
-ghost use Rattle.format.specs.declared.answer.CountAnswer.the-variants.{Refused};
 ghost use Rattle.format.specs.Answer.{countAnswer, rowAnswer};
+ghost use Rattle.format.specs.Fields.{storedRows};
 ghost use Rattle.format.specs.Lent.{placed};
-ghost use Rattle.format.specs.Outcome.{refusal};
-ghost use Rattle.format.specs.Outline.{isRow, storedCount, storedAt};
-ghost use Rattle.format.specs.Written.{WrittenAgain};
+ghost use Rattle.format.specs.Outline.{rowBytes, isRow, storedCount, storedAt};
+ghost use Rattle.format.specs.Written.{Written, WrittenAgain};
+ghost use Rattle.outline.specs.Row.{rowsIn};
+ghost use Rattle.outline.specs.Form.{formed, formBytes, formedRows, storedIn};
 use crate::row;
 use format::answer::CountAnswer;
 use format::answer::RowAnswer;
-use format::offset::Offset;
-use format::refusal::Refusal;
+use format::limits::LEAST_HEADER;
+use format::limits::MOST_BLOCKS;
+use format::limits::ROW_BYTES;
+use format::limits::STORED_ROW_BYTES;
+use format::refusal::BUFFER_TOO_SHORT;
+use format::refusal::OUTLINE_LENGTH;
+use format::refusal::OUTLINE_ROW;
 use format::row::Row;
 
 // How many rows a stored outline has, or its refusal.
 pub fn count(b: &[u8]) -> CountAnswer
     ensures { λ r. ⌜ countAnswer r ≡ storedCount (now (b .entry)) ⌝ }
 {
-    if b.len() % 16 != 0 {
-        return refused(23, 0);
+    if b.len() % ROW_BYTES != 0 {
+        return CountAnswer::refuse(OUTLINE_LENGTH, 0);
     }
     let mut at = 0;
     let mut most: u8 = 0;
     while at < b.len() {
         let r = row::row_at(b, at);
         if !is_row(r, most) {
-            return refused(24, at);
+            return CountAnswer::refuse(OUTLINE_ROW, at);
         }
         most = r.depth + 1;
-        at += 16;
+        at += ROW_BYTES;
     }
-    CountAnswer::Counted((b.len() / 16) as u64)
-}
-
-// A refusal with this number at this place.
-fn refused(number: u8, place: usize) -> CountAnswer
-    ensures { λ r. ⌜ r ≡ Refused (refusal number place) ⌝ }
-{
-    CountAnswer::Refused(Refusal {
-        number,
-        place: Offset(place as u64),
-    })
+    CountAnswer::Counted((b.len() / ROW_BYTES) as u64)
 }
 
 // Whether a row keeps the rules, at most so deep.
 fn is_row(r: Row, most: u8) -> bool
     ensures { λ x. ⌜ x ≡ isRow most r ⌝ }
 {
-    if 63 < r.ordinal {
+    if MOST_BLOCKS <= r.ordinal as usize {
         return false;
     }
-    if r.header_size < 48 {
+    if (r.header_size as u64) < LEAST_HEADER {
         return false;
     }
     if r.allocated < r.used {
@@ -71,7 +67,7 @@ pub fn row(b: &[u8], k: u64) -> RowAnswer
             if n <= k {
                 return RowAnswer::NoSuchRow;
             }
-            RowAnswer::Found(row::row_at(b, k as usize * 16))
+            RowAnswer::Found(row::row_at(b, k as usize * ROW_BYTES))
         }
     }
 }
@@ -80,27 +76,76 @@ pub fn row(b: &[u8], k: u64) -> RowAnswer
 pub fn rewrite(b: &[u8], out: &mut [u8]) -> CountAnswer
     ensures { λ r. ⌜ WrittenAgain (now (b .entry)) (now (out .entry)) (now (out .exit)) r ⌝ }
 {
+    write(b, RowForm::AsStored, out)
+}
+
+// Reads a stored outline and writes its rows as numbers, each in eight bytes.
+pub fn rows(b: &[u8], out: &mut [u8]) -> CountAnswer
+    ensures { λ r. ⌜ Written (storedRows (now (b .entry))) (now (out .entry)) (now (out .exit)) r ⌝ }
+{
+    write(b, RowForm::AsNumbers, out)
+}
+
+enum RowForm {
+    // In the bytes that are stored for a row.
+    AsStored,
+    // As the numbers that the program prints.
+    AsNumbers,
+}
+
+// How many bytes a row takes.
+fn bytes_of(form: RowForm) -> usize
+    ensures { λ r. ⌜ (r ≡ formBytes form) × (0 < r) ⌝ }
+{
+    match form {
+        RowForm::AsStored => ROW_BYTES,
+        RowForm::AsNumbers => STORED_ROW_BYTES,
+    }
+}
+
+// Writes the rows of a stored outline. All are judged before the first is put, so that a refusal changes nothing.
+fn write(b: &[u8], form: RowForm, out: &mut [u8]) -> CountAnswer
+    ensures { λ r. ⌜ Written (storedIn form (now (b .entry))) (now (out .entry)) (now (out .exit)) r ⌝ }
+{
     match count(b) {
         CountAnswer::Refused(r) => CountAnswer::Refused(r),
         CountAnswer::Counted(_) => {
-            if out.len() < b.len() {
-                return refused(21, 0);
+            let each = bytes_of(form);
+            let n = b.len() / ROW_BYTES;
+            if out.len() / each < n {
+                return CountAnswer::refuse(BUFFER_TOO_SHORT, 0);
             }
-            put_rows(b, out);
-            CountAnswer::Counted(b.len() as u64)
+            put_rows(b, form, out);
+            CountAnswer::Counted((n * each) as u64)
         }
     }
 }
 
-// Writes the rows of b again, for which there is room: the same bytes.
-fn put_rows(b: &[u8], out: &mut [u8])
-    requires { ⌜ length (now b) % 16 ≡ 0 ⌝ }
-    requires { ⌜ length (now b) ≤ length (now out) ⌝ }
-    ensures { λ _. ⌜ now (out .exit) ≡ placed (now (out .entry)) 0 (now (b .entry)) ⌝ }
+// Puts the rows in b, for which there is room.
+fn put_rows(b: &[u8], form: RowForm, out: &mut [u8])
+    requires { ⌜ length (now b) % rowBytes ≡ 0 ⌝ }
+    requires { ⌜ length (formedRows form (rowsIn (length (now b) / rowBytes) (now b))) ≤ length (now out) ⌝ }
+    ensures { λ _. ⌜ now (out .exit) ≡ placed (now (out .entry)) 0 (formedRows form (rowsIn (length (now (b .entry)) / rowBytes) (now (b .entry)))) ⌝ }
 {
-    let mut at = 0;
-    while at < b.len() {
-        row::put_row(out, at, row::row_at(b, at));
-        at += 16;
+    let each = bytes_of(form);
+    let mut from = 0;
+    let mut to = 0;
+    while from < b.len() {
+        put_row(out, to, form, row::row_at(b, from));
+        from += ROW_BYTES;
+        to += each;
+    }
+}
+
+// Puts a row at an offset. Where it does not fit, nothing changes.
+fn put_row(out: &mut [u8], at: usize, form: RowForm, r: Row)
+    ensures { λ _. ⌜ now (out .exit) ≡ placed (now (out .entry)) at (formed form r) ⌝ }
+{
+    match form {
+        RowForm::AsStored => row::put_row(out, at, r),
+        RowForm::AsNumbers => {
+            let numbers = fields::row_fields(r);
+            put::put_numbers(out, at, &numbers);
+        }
     }
 }

@@ -1,10 +1,13 @@
 //! Outlines: sixteen bytes for each block, to be stored beside a file and read without it.
 
-use crate::answer::{answer, numbers, written, written_rows};
+use crate::answer::{answer, numbers_of, written, written_rows};
 use crate::Refusal;
-use asdf_sys::{ROW_BYTES, ROW_NUMBERS};
+use asdf_sys::{NUMBER_BYTES, ROW_BYTES, ROW_NUMBERS};
 use std::borrow::Cow;
 use std::fmt;
+
+/// The bytes of a stored row's numbers.
+const STORED_ROW_BYTES: usize = ROW_NUMBERS * NUMBER_BYTES;
 
 /// An outline that is accepted.
 ///
@@ -90,32 +93,17 @@ impl<'a> Outline<'a> {
         &self.bytes
     }
 
-    /// The rows, in walking order.
-    pub fn rows(&self) -> impl Iterator<Item = Row> + '_ {
-        let (rows, _) = self.bytes.as_chunks();
-        rows.iter().map(Row::read)
+    /// The rows, in walking order. Each call judges the outline anew.
+    pub fn rows(&self) -> impl Iterator<Item = Row> {
+        let count = self.bytes.len() / ROW_BYTES;
+        let ask = |out: &mut [u8]| asdf_sys::stored_rows(&self.bytes, out);
+        let rows = written(count * STORED_ROW_BYTES, ask);
+        let rows = rows.expect("the rows of an accepted outline can be read");
+        (0..count).map(move |k| Row::from_numbers(numbers_of(&rows[k * STORED_ROW_BYTES..])))
     }
 }
 
-/// A row deeper than 7 cannot be written, so below this many rows, each one deeper, every row may stand.
-const LADDER: usize = 7;
-
 impl Row {
-    /// A row of an accepted outline.
-    ///
-    /// To read it in the whole outline, all rows would be judged anew for each. So it is lent at the foot of a ladder
-    /// of rows, where it may have any depth.
-    fn read(row: &[u8; ROW_BYTES]) -> Row {
-        let mut lent: [[u8; ROW_BYTES]; LADDER + 1] = std::array::from_fn(|depth| {
-            let depth = depth as u8;
-            [depth << 5, 0, 0, 48, 0, 0, 0, 0, 0, 0, 0, 0, 0, 0, 0, 0]
-        });
-        lent[LADDER] = *row;
-        let ask = |out: &mut [u8]| asdf_sys::stored_row(lent.as_flattened(), LADDER as u64, out);
-        let numbers = numbers(ask).ok().flatten();
-        Row::from_numbers(numbers.expect("every row of an accepted outline can be read"))
-    }
-
     /// The row that these numbers tell; each is promised to fit its field.
     fn from_numbers(numbers: [u64; ROW_NUMBERS]) -> Row {
         let [depth, ordinal, offset, header_size, allocated, used, streamed, compressed, checksum, inner] =

@@ -52,6 +52,12 @@ extern "C" {
         out: *mut u8,
         out_length: usize,
     ) -> u64;
+    fn asdf_stored_rows(
+        stored: *const u8,
+        stored_length: usize,
+        out: *mut u8,
+        out_length: usize,
+    ) -> u64;
     fn asdf_rewrite(
         stored: *const u8,
         stored_length: usize,
@@ -121,6 +127,11 @@ pub fn stored_count(stored: &[u8]) -> u64 {
 /// Asks for the row of a number in a stored outline; no bytes where there is none.
 pub fn stored_row(stored: &[u8], number: u64, out: &mut [u8]) -> u64 {
     written_at(asdf_stored_row, stored, number, out)
+}
+
+/// Asks for all rows of a stored outline.
+pub fn stored_rows(stored: &[u8], out: &mut [u8]) -> u64 {
+    written(asdf_stored_rows, stored, out)
 }
 
 /// Asks for a stored outline to be written again.

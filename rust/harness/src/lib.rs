@@ -1,42 +1,27 @@
 //! Generates test files, and compares what is said of them.
+//!
+//! | Folder | Holds |
+//! |---|---|
+//! | `format` | the words, fields, limits and refusal numbers of the format |
+//! | `calls` | the proved functions, and how often each was called in which way |
+//! | `answers` | what the second program says |
+//! | `files` | files that are made by hand |
+//! | `generate` | files, stored outlines and edits that are made from a seed |
+//! | `goals` | what a run has to reach |
+//! | `compare` | the comparisons of what is called with what the second program says |
+//! | `run` | what the command does |
+//!
+//! Each rests only on those above it, so that no two know each other.
 
 #![deny(unsafe_code)]
 
-mod afresh;
 mod answers;
-mod calls;
+pub mod calls;
 mod compare;
-mod compare_edit;
-mod compare_nest;
-mod compare_stored;
-pub mod corpus;
-mod coverage;
-pub mod dump;
-mod edit_answers;
-mod edit_goals;
-pub mod exports;
-mod fields;
-mod gap_goals;
-mod gaps;
-mod generate;
+pub mod files;
+pub mod format;
+pub mod generate;
 mod goals;
-mod index_goals;
-mod limits;
-mod line_end_goals;
-mod loan;
-pub mod long_edits;
-mod long_files;
-mod mutate;
-mod nest_goals;
-pub mod nests;
-pub mod numbers;
 pub mod rng;
 pub mod run;
 mod same;
-mod searches;
-mod self_check;
-pub mod sparse;
-pub mod stack;
-mod stored;
-mod stored_answers;
-mod stored_goals;

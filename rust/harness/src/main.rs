@@ -2,8 +2,7 @@
 
 #![deny(unsafe_code)]
 
-use asdf_harness::run::{DEFAULT_COUNT, DEFAULT_SEED};
-use asdf_harness::{dump, run, stack};
+use asdf_harness::run::{dump, run, stack, DEFAULT_COUNT, DEFAULT_SEED};
 use std::env::args;
 use std::io;
 use std::path::Path;
@@ -88,7 +87,7 @@ fn command(words: &[String]) -> Option<Command> {
 /// Does what is asked for, and says whether all is well.
 fn perform(command: Command) -> io::Result<bool> {
     match command {
-        Command::Run { seed, count } => run::run(seed, count),
+        Command::Run { seed, count } => run(seed, count),
         Command::Dump {
             seed,
             count,

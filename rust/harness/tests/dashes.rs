@@ -4,9 +4,9 @@
 
 mod common;
 
-use asdf_harness::exports;
-use asdf_harness::nests::file_of;
-use asdf_harness::sparse::{HEADER_LINE, LEAST_TREE};
+use asdf_harness::calls::exports;
+use asdf_harness::files::nests::file_of;
+use asdf_harness::format::text::{HEADER_LINE, LEAST_TREE};
 use common::{assert_writes, layout, one_block, verdict};
 use std::collections::HashSet;
 

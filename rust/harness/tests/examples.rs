@@ -2,10 +2,11 @@
 
 mod common;
 
-use asdf_harness::exports;
-use asdf_harness::nests::file_of;
-use asdf_harness::numbers::LAYOUT_BYTES;
-use asdf_harness::sparse::{block_header, HEADER_LINE, LEAST_TREE};
+use asdf_harness::calls::exports;
+use asdf_harness::calls::numbers::LAYOUT_BYTES;
+use asdf_harness::files::nests::file_of;
+use asdf_harness::format::block::block_header;
+use asdf_harness::format::text::{HEADER_LINE, LEAST_TREE};
 use common::{assert_writes, one_block, verdict};
 
 /// A header line, this in the room of a tree, and an empty block.
@@ -83,7 +84,7 @@ fn p13_edit_with_one_byte_too_many_is_refused_with_20() {
 /// Where the smallest tree ends; it begins at 12.
 const TREE_END: usize = 30;
 
-/// Where the room of the smallest tree ends, with this behind it up to the end of the file. By the layout, if the file is
+/// Where the room of the smallest tree ends, with this after it up to the end of the file. By the layout, if the file is
 /// accepted; both proved searches have to find the same.
 fn room_end(behind: &[u8]) -> usize {
     let file = [HEADER_LINE, LEAST_TREE, behind].concat();
@@ -96,7 +97,7 @@ fn room_end(behind: &[u8]) -> usize {
     found
 }
 
-/// Where the room ends if these bytes and an empty block stand behind the tree.
+/// Where the room ends if these bytes and an empty block stand after the tree.
 fn room_end_before_a_block(space: &[u8]) -> usize {
     room_end(&[space, &block_header(0, 0)].concat())
 }

@@ -4,9 +4,10 @@
 
 mod common;
 
-use asdf_harness::exports;
-use asdf_harness::nests::{file_of, file_with_gaps};
-use asdf_harness::sparse::{block_header, HEADER_LINE, INDEX_LINE, LEAST_TREE, MARK};
+use asdf_harness::calls::exports;
+use asdf_harness::files::nests::{file_of, file_with_gaps};
+use asdf_harness::format::block::block_header;
+use asdf_harness::format::text::{HEADER_LINE, INDEX_LINE, LEAST_TREE, MARK};
 use common::{assert_writes, layout, numbers, one_block, verdict};
 
 /// The index of a block at 12: 41 bytes.

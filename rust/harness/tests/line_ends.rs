@@ -2,10 +2,12 @@
 
 mod common;
 
-use asdf_harness::exports::{self, SparseFile};
-use asdf_harness::nests::MOST_BLOCKS;
-use asdf_harness::numbers::LAYOUT_BYTES;
-use asdf_harness::sparse::{block_header, HEADER_LINE, LEAST_TREE};
+use asdf_harness::calls::exports;
+use asdf_harness::calls::numbers::LAYOUT_BYTES;
+use asdf_harness::files::sparse::SparseFile;
+use asdf_harness::format::block::block_header;
+use asdf_harness::format::limits::MOST_BLOCKS;
+use asdf_harness::format::text::{HEADER_LINE, LEAST_TREE};
 use common::{assert_writes, layout, one_block, verdict};
 
 /// A header line that ends with 0D 0A: 13 bytes.

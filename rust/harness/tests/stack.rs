@@ -1,6 +1,6 @@
 //! The stack that the walk of files inside files takes.
 
-use asdf_harness::stack::walk_with_stack;
+use asdf_harness::run::stack::walk_with_stack;
 
 /// 512 KiB, the least power of two with which the deepest files are walked; `asdf-harness --stack
 /// BYTES` tries others.

@@ -3,9 +3,10 @@
 
 #![deny(unsafe_code)]
 
-use asdf_harness::corpus::{numbered_file, numbered_nest};
-use asdf_harness::nests;
-use asdf_harness::sparse::{block_header, HEADER_LINE};
+use asdf_harness::files::nests;
+use asdf_harness::format::block::block_header;
+use asdf_harness::format::text::HEADER_LINE;
+use asdf_harness::generate::corpus::{numbered_file, numbered_nest};
 use asdf_second::{listing, PROGRAM_LIMIT};
 use std::env::args;
 use std::fs;
@@ -106,7 +107,7 @@ impl Run {
         Ok(complete && listed > 0 && refused > 0 && too_long > 0 && different == 0)
     }
 
-    /// The cases, whose listings stand one after another, each behind its file's name.
+    /// The cases, whose listings stand one after another, each after its file's name.
     fn cases(&mut self) -> io::Result<usize> {
         let folder = Path::new(ROOT).join("crates/cases");
         let stored = fs::read(folder.join("stdout"))?;
@@ -153,7 +154,7 @@ impl Run {
         Ok(())
     }
 
-    /// Runs the program on a file, with a pause behind its first bytes, and compares. Answers what it printed.
+    /// Runs the program on a file, with a pause after its first bytes, and compares. Answers what it printed.
     fn compare(&mut self, file: &[u8], expected: &[u8], first: usize) -> io::Result<Vec<u8>> {
         match expected {
             [b't', b'o', ..] => self.too_long += 1,

@@ -1,12 +1,9 @@
 //! A block that keeps the rules.
 
-use super::text::{part_of_mark, MARK};
-use crate::fields::{FIELD_BYTES, HEADER_SIZE_COUNTS_FROM};
+use super::text::part_of_mark;
+use crate::format::block::{block_header, FIELD_BYTES, HEADER_SIZE_COUNTS_FROM, STREAMED};
+use crate::format::text::{HEADER_LINE, MARK};
 use crate::rng::Rng;
-use crate::sparse::{block_header, HEADER_LINE};
-
-/// The bit that says that a block is streamed.
-const STREAMED: u32 = 1;
 
 /// Compression names, the standard's and others.
 const COMPRESSIONS: &[[u8; 4]] = &[
@@ -61,7 +58,7 @@ fn header_bytes(header_size: u16) -> usize {
     HEADER_SIZE_COUNTS_FROM + usize::from(header_size)
 }
 
-/// Space behind the content, mostly none.
+/// Space after the content, mostly none.
 fn unused_space(rng: &mut Rng) -> Vec<u8> {
     let length = rng.between(1, 30);
     match rng.below(14) {

@@ -1,9 +1,10 @@
 //! The chain of blocks.
 
 use super::block::good_block;
-use super::content::content;
+use super::content::{content, MakeFile};
 use super::gap::gap_after;
-use super::shape::{Part, Shape, MOST_BLOCKS};
+use super::shape::{Part, Shape};
+use crate::format::limits::MOST_BLOCKS;
 use crate::rng::Rng;
 
 /// Where the blocks of a chain are.
@@ -21,8 +22,9 @@ impl Chain {
     }
 }
 
-/// Adds the chain of this shape. One in three has gaps, before about half of its blocks.
-pub fn add_chain(rng: &mut Rng, shape: &Shape, file: &mut Vec<u8>) -> Chain {
+/// Adds the chain of this shape. One in three has gaps, before about half of its blocks. Blocks that hold a file get one that is
+/// made so.
+pub fn add_chain(rng: &mut Rng, shape: &Shape, file: &mut Vec<u8>, make_file: MakeFile) -> Chain {
     let nesting_block = rng.below(shape.blocks);
     let wrong_block = shape
         .is_wrong(Part::Blocks)
@@ -38,7 +40,7 @@ pub fn add_chain(rng: &mut Rng, shape: &Shape, file: &mut Vec<u8>) -> Chain {
             file.extend(gap_after(rng, file));
         }
         let at = file.len();
-        let content = content(rng, shape, ordinal == nesting_block);
+        let content = content(rng, shape, ordinal == nesting_block, make_file);
         let may_end = ordinal + 1 == shape.blocks || ordinal + 1 == MOST_BLOCKS;
         let mut block = good_block(rng, &content, may_end);
         if wrong_block == Some(ordinal) {

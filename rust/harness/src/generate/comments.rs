@@ -1,6 +1,7 @@
-//! The comments behind the header.
+//! The comments after the header.
 
-use super::text::{bytes_of_one_line, lines, texts, INDEX_LINE};
+use super::text::{bytes_of_one_line, lines, texts};
+use crate::format::text::INDEX_LINE;
 use crate::rng::Rng;
 
 /// The most comments, the index line not counted.
@@ -45,7 +46,7 @@ pub fn comments(rng: &mut Rng, wrong: bool) -> Vec<u8> {
     }
 }
 
-/// Comments with the index line, or with an unended one behind them.
+/// Comments with the index line, or with an unended one after them.
 fn wrong_comments(rng: &mut Rng) -> Vec<u8> {
     let mut comments = texts(rng, MOST_COMMENTS, comment);
     if rng.chance(3) {

@@ -1,8 +1,7 @@
 //! The content of a block.
 
-use super::file;
 use super::shape::Shape;
-use super::text::{FILE_BEGIN, MARK};
+use crate::format::text::{FILE_BEGIN, MARK};
 use crate::rng::Rng;
 
 /// Contents that begin like a file, or almost.
@@ -24,22 +23,25 @@ const LIKE_A_FILE: &[&[u8]] = &[
 /// So seldom one of the other blocks holds a file, if the shape asks for branches.
 const BRANCH_ONE_IN: usize = 6;
 
+/// Makes a file of a shape. It is handed down, since the parts of a file do not know the whole.
+pub type MakeFile = fn(&mut Rng, &Shape) -> Vec<u8>;
+
 /// The content of a block; one that nests holds a file, if the shape asks for nesting.
-pub fn content(rng: &mut Rng, shape: &Shape, nests: bool) -> Vec<u8> {
+pub fn content(rng: &mut Rng, shape: &Shape, nests: bool, make_file: MakeFile) -> Vec<u8> {
     if nests && shape.nesting > 0 {
-        nested_file(rng, shape.nesting - 1, shape.branches)
+        nested_file(rng, shape.nesting - 1, shape.branches, make_file)
     } else if shape.blocks > Shape::USUAL_BLOCKS {
         plain_bytes(rng, 12)
     } else if shape.branches && rng.chance(BRANCH_ONE_IN) {
         let nesting = rng.below(shape.nesting);
-        nested_file(rng, nesting, true)
+        nested_file(rng, nesting, true, make_file)
     } else {
-        any_content(rng)
+        any_content(rng, make_file)
     }
 }
 
 /// Nothing, plain bytes, something like a file, or a file.
-fn any_content(rng: &mut Rng) -> Vec<u8> {
+fn any_content(rng: &mut Rng, make_file: MakeFile) -> Vec<u8> {
     match rng.below(16) {
         0..=3 => Vec::new(),
         4..=6 => plain_bytes(rng, 12),
@@ -49,14 +51,14 @@ fn any_content(rng: &mut Rng) -> Vec<u8> {
         10 => rng.pick(LIKE_A_FILE).to_vec(),
         11 => [FILE_BEGIN, &plain_bytes(rng, 12)].concat(),
         12 => [MARK, &plain_bytes(rng, 80)].concat(),
-        _ => nested_file(rng, 0, false),
+        _ => nested_file(rng, 0, false, make_file),
     }
 }
 
 /// A file with so many more in one another inside it.
-fn nested_file(rng: &mut Rng, nesting: usize, branches: bool) -> Vec<u8> {
+fn nested_file(rng: &mut Rng, nesting: usize, branches: bool, make_file: MakeFile) -> Vec<u8> {
     let shape = Shape::inner(rng, nesting, branches);
-    file(rng, &shape)
+    make_file(rng, &shape)
 }
 
 /// At most so many bytes of any value.

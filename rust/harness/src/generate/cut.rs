@@ -1,6 +1,6 @@
 //! Files that end too early.
 
-use super::text::MARK;
+use crate::format::text::{places_of, MARK};
 use crate::rng::Rng;
 
 /// Cuts a file at a line end, inside a block header, or anywhere.
@@ -13,23 +13,16 @@ pub fn cut(rng: &mut Rng, file: &mut Vec<u8>) {
     file.truncate(length.unwrap_or(rng.below(file.len())));
 }
 
-/// A place before or behind a 0A, or before the 0D 0A; the first lines are cut more often.
+/// A place before or after a 0A, or before the 0D 0A; the first lines are cut more often.
 fn at_line_end(rng: &mut Rng, file: &[u8]) -> Option<usize> {
     let ends = places_of(file, b"\n");
     let end = *ends.get(rng.below(ends.len().min(12)))?;
     Some((end + 1).saturating_sub(rng.below(3)))
 }
 
-/// A place at most as far behind a mark as the shortest header reaches.
+/// A place at most as far after a mark as the shortest header reaches.
 fn inside_block_header(rng: &mut Rng, file: &[u8]) -> Option<usize> {
     let marks = places_of(file, MARK);
     let mark = *marks.get(rng.below(marks.len()))?;
     Some(mark + rng.pick(&[0, 1, 2, 3, 4, 5, 6, 7, 10, 53, 54]))
-}
-
-/// Where these bytes stand in a file.
-pub fn places_of(file: &[u8], bytes: &[u8]) -> Vec<usize> {
-    (0..file.len())
-        .filter(|&place| file[place..].starts_with(bytes))
-        .collect()
 }

@@ -1,7 +1,7 @@
-//! The free space behind a tree.
+//! The free space after a tree.
 
 use super::markless::markless;
-use super::text::MARK;
+use crate::format::text::MARK;
 use crate::rng::Rng;
 
 /// Free space, none in half of the files; wrong one holds a mark that begins no good block.

@@ -1,7 +1,7 @@
 //! The bytes between two blocks.
 
 use super::markless::markless;
-use super::text::{INDEX_LINE, MARK};
+use crate::format::text::{INDEX_LINE, MARK};
 use crate::rng::Rng;
 
 /// Bytes that keep an index from standing directly after a block.
@@ -41,8 +41,8 @@ fn rest_of_mark(file: &[u8]) -> Option<&'static [u8]> {
 
 #[cfg(test)]
 mod tests {
-    use super::super::places_of;
     use super::*;
+    use crate::format::text::places_of;
 
     /// Many gaps, and as many after each part of a mark.
     fn gaps() -> impl Iterator<Item = Vec<u8>> {

@@ -1,6 +1,7 @@
 //! The header line.
 
-use super::text::{line, FILE_BEGIN};
+use super::text::line;
+use crate::format::text::FILE_BEGIN;
 use crate::rng::Rng;
 
 /// What may stand wrongly in the place of `#ASDF ` (2).

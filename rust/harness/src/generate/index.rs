@@ -1,6 +1,7 @@
 //! Block indexes, in brackets and with dashes: good ones, lists of other numbers, and texts that have not the form.
 
-use super::text::{lines, DASH_START, END_LINE, INDEX_LINE, YAML_LINE};
+use super::text::lines;
+use crate::format::text::{DASH_START, END_LINE, INDEX_LINE, YAML_LINE};
 use crate::rng::Rng;
 
 /// Where the start line stands among the lines.

@@ -2,8 +2,8 @@
 
 use super::block::good_block;
 use super::index::good_index;
-use super::places_of;
-use super::text::{part_of_mark, INDEX_LINE, MARK};
+use super::text::part_of_mark;
+use crate::format::text::{places_of, INDEX_LINE, MARK};
 use crate::rng::Rng;
 
 /// Texts that mean something elsewhere.

@@ -1,114 +1,23 @@
-//! Structured test files: each part of the layout, right and wrong, with the near misses of both.
+//! What a run generates: structured files with each part of the layout, right and wrong, and the near misses of both; stored
+//! outlines; and texts for edits.
 
 mod block;
 mod chain;
 mod comments;
 mod content;
+pub mod corpus;
 mod cut;
+mod damage;
+mod file;
 mod free_space;
 mod gap;
 mod header;
-mod index;
+pub(crate) mod index;
 mod markless;
+pub(crate) mod outline;
 mod replacement;
 mod shape;
 mod tail;
 mod text;
 mod tree;
 mod wrong_block;
-
-pub use cut::places_of;
-pub use index::{WRONG_DASH_LINES, WRONG_START_LINES};
-pub use replacement::{behind_first_line, replacement, LEAST_TREE};
-pub use shape::{Part, Shape};
-pub use text::{DASH_START, END_LINE, FILE_BEGIN, INDEX_LINE, MARK, YAML_LINE};
-
-use crate::rng::Rng;
-
-/// A file of this shape. It is accepted if no part is wrong and there are 1 to 64 blocks, or none
-/// and no tree. With a tree and no block the tail is free space, in which a mark may stand.
-pub fn file(rng: &mut Rng, shape: &Shape) -> Vec<u8> {
-    let mut file = header::header(rng, shape.is_wrong(Part::Header));
-    file.extend(comments::comments(rng, shape.is_wrong(Part::Comments)));
-    file.extend(tree_and_free_space(rng, shape));
-    let chain = chain::add_chain(rng, shape, &mut file);
-    if shape.has_tail() {
-        file.extend(tail::tail(rng, &chain, shape.is_wrong(Part::Tail)));
-        file.resize(file.len().max(shape.least_length), 0);
-    }
-    if shape.is_wrong(Part::End) {
-        cut::cut(rng, &mut file);
-    }
-    file
-}
-
-/// The tree with the free space behind it, or what stands where there is none.
-fn tree_and_free_space(rng: &mut Rng, shape: &Shape) -> Vec<u8> {
-    let wrong = shape.is_wrong(Part::Tree);
-    if shape.tree {
-        let space = free_space::free_space(rng, shape.is_wrong(Part::FreeSpace));
-        [tree::tree(rng, wrong), space].concat()
-    } else if wrong {
-        tree::no_tree(rng)
-    } else {
-        Vec::new()
-    }
-}
-
-#[cfg(test)]
-mod tests {
-    use super::*;
-    use asdf_second::read;
-
-    /// Files of one shape.
-    fn files_of(shape: &Shape) -> impl Iterator<Item = Vec<u8>> + '_ {
-        (0..500).map(|number| file(&mut Rng::for_file(0, number), shape))
-    }
-
-    /// The numbers with which files of a shape are refused, 0 for accepted ones.
-    fn numbers_of(shape: &Shape) -> Vec<u8> {
-        let number = |file: Vec<u8>| read(&file).map_or_else(|refusal| refusal.number, |_| 0);
-        let mut numbers: Vec<u8> = files_of(shape).map(number).collect();
-        numbers.sort();
-        numbers.dedup();
-        numbers
-    }
-
-    #[test]
-    fn plain_file_is_accepted() {
-        assert_eq!(numbers_of(&Shape::plain()), [0]);
-    }
-
-    #[test]
-    fn file_without_a_wrong_part_is_accepted() {
-        for tree in [false, true] {
-            for (blocks, nesting) in [(1, 9), (5, 2), (64, 0)] {
-                let shape = Shape {
-                    tree,
-                    blocks,
-                    nesting,
-                    ..Shape::plain()
-                };
-                assert_eq!(numbers_of(&shape), [0], "{shape:?}");
-            }
-        }
-    }
-
-    #[test]
-    fn each_wrong_part_is_refused_with_its_numbers() {
-        let cases: [(Part, usize, &[u8]); 4] = [
-            (Part::Header, 0, &[2, 3, 4]),
-            (Part::Comments, 0, &[5, 6]),
-            (Part::Tail, 5, &[0, 11, 12, 17]),
-            (Part::Tail, 64, &[0, 16, 17]),
-        ];
-        for (part, blocks, numbers) in cases {
-            let shape = Shape {
-                wrong: vec![part],
-                blocks,
-                ..Shape::plain()
-            };
-            assert_eq!(numbers_of(&shape), numbers, "{part:?}");
-        }
-    }
-}

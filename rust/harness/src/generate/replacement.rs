@@ -1,13 +1,10 @@
 //! Texts to be put in the place of a tree: right ones of telling lengths, and every kind of wrong one.
 
 use super::cut::cut;
-use super::text::MARK;
+use super::damage::damage;
 use super::tree::{no_tree, tree};
-use crate::mutate::damage;
+use crate::format::text::{behind_first_line, LEAST_TREE, MARK};
 use crate::rng::Rng;
-
-/// The smallest tree.
-pub const LEAST_TREE: &[u8] = b"%YAML 1.1\n---\n...\n";
 
 /// What may stand wrongly before the tree of a text.
 const BEFORE: &[&[u8]] = &[
@@ -25,7 +22,7 @@ const BEFORE: &[&[u8]] = &[
     MARK,
 ];
 
-/// What may stand wrongly behind it.
+/// What may stand wrongly after it.
 const BEHIND: &[&[u8]] = &[
     b"\n",
     b"\r\n",
@@ -121,16 +118,10 @@ fn wrong_text(rng: &mut Rng, room: usize) -> Vec<u8> {
     text
 }
 
-/// What stands behind the first line.
-pub fn behind_first_line(text: &[u8]) -> &[u8] {
-    let end = text.iter().position(|&byte| byte == b'\n');
-    end.map_or(&[], |end| &text[end + 1..])
-}
-
 #[cfg(test)]
 mod tests {
     use super::*;
-    use crate::edit_answers::is_one_tree;
+    use crate::answers::edit::is_one_tree;
 
     #[test]
     fn trees_have_the_length_that_is_asked_for() {

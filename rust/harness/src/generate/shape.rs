@@ -1,9 +1,8 @@
 //! What a generated file is to be like.
 
+use crate::format::limits::MOST_BLOCKS;
 use crate::rng::Rng;
 
-/// The most blocks a file may have.
-pub const MOST_BLOCKS: usize = 64;
 /// The most files in one another; eight are read.
 const MOST_NESTED: usize = 11;
 

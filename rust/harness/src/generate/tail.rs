@@ -1,13 +1,13 @@
-//! What stands behind the last block: nothing, zeros, an index or something stray.
+//! What stands after the last block: nothing, zeros, an index or something stray.
 
 use super::chain::Chain;
 use super::gap::{after_one_byte, gap};
 use super::index::{good_index, index_of_other_list, index_of_wrong_form};
 use super::markless::markless;
-use super::shape::MOST_BLOCKS;
-use super::text::{INDEX_LINE, MARK};
+use crate::format::block::block_header;
+use crate::format::limits::MOST_BLOCKS;
+use crate::format::text::{INDEX_LINE, MARK};
 use crate::rng::Rng;
-use crate::sparse::block_header;
 
 /// Tails that are refused (17): no mark stands in them.
 const STRAY: &[&[u8]] = &[

@@ -1,19 +1,7 @@
-//! The fixed words of the format, and lines.
+//! Lines, and bytes that almost mean something.
 
+use crate::format::text::MARK;
 use crate::rng::Rng;
-
-/// The six bytes with which every file begins.
-pub const FILE_BEGIN: &[u8] = b"#ASDF ";
-/// The four bytes with which every block begins.
-pub const MARK: &[u8] = &[0xD3, 0x42, 0x4C, 0x4B];
-/// The first line of an index.
-pub const INDEX_LINE: &[u8] = b"#ASDF BLOCK INDEX";
-/// The first line of a tree, and the second of an index.
-pub const YAML_LINE: &[u8] = b"%YAML 1.1";
-/// The start line of an index with dashes.
-pub const DASH_START: &[u8] = b"---";
-/// The last line of a tree and of an index.
-pub const END_LINE: &[u8] = b"...";
 
 /// A line end, mostly 0A alone.
 pub fn line_end(rng: &mut Rng) -> &'static [u8] {

@@ -1,6 +1,7 @@
 //! The tree.
 
-use super::text::{bytes_of_one_line, line, lines, part_of_mark, texts, END_LINE, MARK, YAML_LINE};
+use super::text::{bytes_of_one_line, line, lines, part_of_mark, texts};
+use crate::format::text::{END_LINE, MARK, YAML_LINE};
 use crate::rng::Rng;
 
 /// Lines that almost are the first of a tree, or almost a block (7).
@@ -210,7 +211,7 @@ mod tests {
     use super::*;
     use asdf_second::{read, Layout, Refusal};
 
-    /// What is said of a header line with something behind it, for many of them.
+    /// What is said of a header line with something after it, for many of them.
     fn answers(behind: impl Fn(&mut Rng) -> Vec<u8>) -> Vec<Result<Layout, Refusal>> {
         (0..500)
             .map(|number| behind(&mut Rng::for_file(0, number)))

@@ -42,7 +42,7 @@ impl Block {
         self.data_size = self.used;
     }
 
-    /// Allocated space behind the end of the file, or an end that wraps back into it (15).
+    /// Allocated space after the end of the file, or an end that wraps back into it (15).
     fn allocate_past_the_end(&mut self, rng: &mut Rng, at: usize) {
         let wrapped_end = rng.pick(&[0, 1, at as u64]);
         self.allocated = match rng.below(6) {

@@ -1,8 +1,8 @@
 //! What the tests of the exported functions share.
 
-use asdf_harness::exports;
-use asdf_harness::nests::file_of;
-use asdf_harness::numbers::LAYOUT_NUMBERS;
+use asdf_harness::calls::exports;
+use asdf_harness::calls::numbers::LAYOUT_NUMBERS;
+use asdf_harness::files::nests::file_of;
 
 /// What every lent buffer holds before a call.
 const UNTOUCHED: u8 = 0xA5;

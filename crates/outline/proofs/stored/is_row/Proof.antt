@@ -8,7 +8,9 @@ pub is-row-spec : {M : Type 1} → statement M
 is-row-spec =
     tie.close
     (tie.spec
+    (λ c. search needs)
     (λ c. search (ordinal-high, needs))
+    (λ c. search needs)
     (λ c. search (header-short, needs))
     (λ c. search (used-high, needs))
     (λ c. search (depth-decides, needs)))

@@ -1,16 +1,17 @@
--- The invariant: the rows so far are put, as they were.
+-- The invariant: what is left to put is what was to be put.
 use Prim.Native.Nat.{_-_}
 use lib.ListN.{length}
 use borrow.Author.Needs.{needs}
-use Rattle.outline.proofs.RewriteLaws.{Putting, rows-start, rows-step, rows-done}
+use Rattle.put.proofs.PutLaws.{placed-length}
+use Rattle.outline.proofs.WriteLaws.{Putting, rows-start, next-fits, rows-step, rows-done}
 use Rattle.outline.proofs.stored.put_rows.Statement.{statement}
 use Rattle.outline.proofs.stored.put_rows.Tie as tie
 
 abbrev Inv-loop : tie.InvT-loop
-Inv-loop b out₀ at₀ out at = Putting b out₀ out at
+Inv-loop b form out₀ each from₀ to₀ out from to = Putting form b out₀ out from to
 
 abbrev μ-loop : tie.MeasureT-loop
-μ-loop b out₀ at₀ out at = length b - at
+μ-loop b form out₀ each from₀ to₀ out from to = length b - from
 
 pub put-rows-spec : {M : Type 1} → statement M
 put-rows-spec =
@@ -18,11 +19,13 @@ put-rows-spec =
     (tie.spec
     Inv-loop
     μ-loop
+    (λ c κs. search needs)
     (λ c. search (rows-start, needs))
     (λ c κs. search needs)
     (λ c κs. search needs)
     (λ c. search needs)
+    (λ c. search (next-fits, needs))
     (λ c. search needs)
-    (λ c. search (rows-step, needs))
+    (λ c. search (rows-step _ _ _ _ _ _ (c .before .before .before .before .before .before .loop .inv), needs))
     (λ c. search needs)
     (λ c. search (rows-done, needs)))

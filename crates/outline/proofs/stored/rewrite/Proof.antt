@@ -1,6 +1,6 @@
--- An outline whose rows are counted is written as it was.
+-- An outline whose rows are written as they are stored is the same.
 use borrow.Author.Needs.{needs}
-use Rattle.outline.proofs.RewriteLaws.{rewrite-refused, rewrite-whole, rewrite-long, rewrite-done}
+use Rattle.outline.proofs.WriteLaws.{written-again}
 use Rattle.outline.proofs.stored.rewrite.Statement.{statement}
 use Rattle.outline.proofs.stored.rewrite.Tie as tie
 
@@ -10,10 +10,4 @@ rewrite-spec =
     (tie.spec
     (λ c κs. search needs)
     (λ c. search needs)
-    (λ c. search needs)
-    (λ c κs. search needs)
-    (λ c. search (rewrite-long, needs))
-    (λ c κs. search (rewrite-whole, needs))
-    (λ c. search (rewrite-refused, needs))
-    (λ c. search needs)
-    (λ c. search (rewrite-done, needs)))
+    (λ c. search (written-again, needs)))

@@ -2,14 +2,15 @@
 
 use crate::measure::medians;
 use crate::read::{tree_text, GIB, LINE_OF_41, MIB};
-use asdf_harness::exports::{self, SparseFile};
-use asdf_harness::long_edits::file_with_room;
+use asdf_harness::calls::exports;
+use asdf_harness::files::edits::file_with_room;
+use asdf_harness::files::sparse::SparseFile;
 use std::hint::black_box;
 use std::io;
 
 /// The room of a small tree.
 const SMALL_ROOM: usize = 100;
-/// The bytes of a block behind a room.
+/// The bytes of a block after a room.
 const LEAST_BLOCK: usize = 1_000;
 
 /// A file with a room, and a text for it.

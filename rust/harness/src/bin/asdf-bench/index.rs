@@ -1,8 +1,10 @@
 //! Files with a block index, in brackets and with dashes.
 
 use crate::read::MIB;
-use asdf_harness::nests::{file_of, MOST_BLOCKS};
-use asdf_harness::sparse::{block_header, HEADER_LINE};
+use asdf_harness::files::nests::file_of;
+use asdf_harness::format::block::block_header;
+use asdf_harness::format::limits::MOST_BLOCKS;
+use asdf_harness::format::text::HEADER_LINE;
 
 /// The lines of an index before its start line.
 const INDEX_BEGIN: &str = "#ASDF BLOCK INDEX\n%YAML 1.1\n";

@@ -2,11 +2,14 @@
 
 use crate::index::indexed_files;
 use crate::measure::medians;
-use asdf_harness::exports::{self, SparseFile};
-use asdf_harness::nests::file_with_gaps;
-use asdf_harness::numbers::LAYOUT_BYTES;
+use asdf_harness::calls::exports;
+use asdf_harness::calls::numbers::LAYOUT_BYTES;
+use asdf_harness::files::nests::file_with_gaps;
+use asdf_harness::files::sparse::chain_of_blocks;
+use asdf_harness::files::sparse::SparseFile;
+use asdf_harness::format::block::{block_header, FIELD_BYTES};
+use asdf_harness::format::text::{HEADER_LINE, MARK};
 use asdf_harness::rng::Rng;
-use asdf_harness::sparse::{block_header, chain_of_blocks, HEADER_LINE, MARK};
 use std::hint::black_box;
 use std::io;
 
@@ -60,6 +63,11 @@ fn cases() -> io::Result<Vec<Case>> {
             file: chain_of_blocks(BLOCKS, GIB / BLOCKS)?,
             floor: find_each_block,
         },
+        Case {
+            name: "one block, 64 MiB of zeros after it",
+            file: block_before_zeros()?,
+            floor: find_zeros,
+        },
         gap_case("64 blocks, 1 MiB of spaces between each two", &[b' '; MIB])?,
         gap_case(
             "64 blocks, 1 MiB of random bytes between each two",
@@ -93,6 +101,13 @@ fn gap_case(name: &'static str, gap: &[u8]) -> io::Result<Case> {
         file: SparseFile::new(file.len(), &[(0, &file)])?,
         floor: find_all_marks,
     })
+}
+
+/// A file with an empty block and zeros after it. They are written, so that they take memory as those of a file do.
+fn block_before_zeros() -> io::Result<SparseFile> {
+    let zeros = vec![0; 64 * MIB];
+    let file = [HEADER_LINE, &block_header(0, 0), &zeros].concat();
+    SparseFile::new(file.len(), &[(0, &file)])
 }
 
 /// A megabyte of random bytes, in which no mark stands.
@@ -141,6 +156,16 @@ fn find_all_marks(file: &[u8]) -> usize {
         marks += 1;
     }
     marks
+}
+
+/// Compares the zeros after an empty block with memcmp, and counts them.
+fn find_zeros(file: &[u8]) -> usize {
+    let tail = &file[HEADER_LINE.len() + FIELD_BYTES..];
+    if exports::only_zeros(tail) {
+        tail.len()
+    } else {
+        0
+    }
 }
 
 /// Measures one file and prints what came of it.

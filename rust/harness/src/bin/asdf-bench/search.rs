@@ -2,8 +2,8 @@
 
 use crate::measure::medians;
 use crate::read::{random_bytes, MIB};
-use asdf_harness::exports;
-use asdf_harness::sparse::MARK;
+use asdf_harness::calls::exports;
+use asdf_harness::format::text::MARK;
 use std::hint::black_box;
 use std::io;
 

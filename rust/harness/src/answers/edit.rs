@@ -1,0 +1,64 @@
+//! What the second program says of an edit.
+
+use super::file::Answers;
+use crate::format::text::HEADER_LINE;
+use asdf_second::{read, Layout, Refusal, Tree};
+
+/// What is said of a file and a text for its tree.
+pub struct EditAnswers {
+    pub text: Vec<u8>,
+    /// What is said of the file before the edit.
+    pub file: Answers,
+    /// What the text is after a header line.
+    pub text_read: Result<Layout, Refusal>,
+    /// What came of the edit.
+    pub outcome: Result<(), Refusal>,
+}
+
+impl EditAnswers {
+    /// Asks the second program, of which this came.
+    pub fn to(file: &[u8], text: &[u8], outcome: Result<(), Refusal>) -> EditAnswers {
+        EditAnswers {
+            text: text.to_vec(),
+            file: Answers::to(file),
+            text_read: behind_header(text),
+            outcome,
+        }
+    }
+
+    /// Where the edit is refused with this number.
+    pub fn refused_with(&self, number: u8) -> Option<usize> {
+        let refusal = self.outcome.err()?;
+        (refusal.number == number).then_some(refusal.place as usize)
+    }
+
+    /// Where the text is refused with this number, counted from its own first byte.
+    pub fn text_refused_with(&self, number: u8) -> Option<usize> {
+        let refusal = self.text_read.as_ref().err()?;
+        let place = (refusal.place as usize).checked_sub(HEADER_LINE.len())?;
+        (refusal.number == number).then_some(place)
+    }
+
+    /// What stands after a tree with which the text begins.
+    pub fn behind_tree(&self) -> Option<&[u8]> {
+        let end = leading_tree_end(&self.text_read)?;
+        self.text.get(end..)
+    }
+}
+
+/// What a text is after a header line.
+fn behind_header(text: &[u8]) -> Result<Layout, Refusal> {
+    read(&[HEADER_LINE, text].concat())
+}
+
+/// Where a tree ends with which a text begins.
+fn leading_tree_end(read: &Result<Layout, Refusal>) -> Option<usize> {
+    let tree: Tree = read.as_ref().ok()?.tree?;
+    let begins = tree.start.0 as usize == HEADER_LINE.len();
+    begins.then(|| tree.end.0 as usize - HEADER_LINE.len())
+}
+
+/// Whether a text is exactly one tree.
+pub fn is_one_tree(text: &[u8]) -> bool {
+    leading_tree_end(&behind_header(text)) == Some(text.len())
+}

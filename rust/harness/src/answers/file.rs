@@ -1,0 +1,90 @@
+//! What the second program says of a file.
+
+use crate::format::block::HEADER_SIZE_COUNTS_FROM;
+use asdf_second::{
+    outline, read, records, write_index, Block, Layout, Record, Refusal, Tree, Verdict,
+    LONGEST_INDEX, ROW_LENGTH,
+};
+
+/// What the second program says of a file.
+pub struct Answers {
+    pub layout: Result<Layout, Refusal>,
+    pub records: Result<Vec<Record>, Refusal>,
+    /// The bytes of the outline.
+    pub outline: Result<Vec<u8>, Refusal>,
+    /// The text of the index.
+    pub index: Result<Vec<u8>, Refusal>,
+}
+
+impl Answers {
+    /// Asks the second program.
+    pub fn to(file: &[u8]) -> Answers {
+        let records = records(file);
+        let outline_length = records.as_ref().map_or(0, Vec::len) * ROW_LENGTH;
+        Answers {
+            layout: read(file),
+            records,
+            outline: written(outline_length, |out| outline(file, out)),
+            index: written(LONGEST_INDEX, |out| write_index(file, out)),
+        }
+    }
+
+    /// How many records there are.
+    pub fn count(&self) -> Result<usize, Refusal> {
+        let count = self.records.as_ref().map(Vec::len);
+        count.map_err(|&refusal| refusal)
+    }
+
+    /// Where the file is refused with this number.
+    pub fn refused_with(&self, number: u8) -> Option<usize> {
+        let refusal = self.layout.as_ref().err()?;
+        (refusal.number == number).then_some(refusal.place as usize)
+    }
+
+    /// The blocks of the file itself; none of a refused one.
+    pub fn blocks(&self) -> &[Block] {
+        self.layout.as_ref().map_or(&[], |layout| &layout.blocks)
+    }
+
+    /// The records of all blocks; none of a refused file.
+    pub fn records(&self) -> &[Record] {
+        self.records.as_ref().map_or(&[], |records| records)
+    }
+
+    /// The file's tree, if it is accepted and has one.
+    pub fn tree(&self) -> Option<Tree> {
+        self.layout.as_ref().ok()?.tree
+    }
+
+    /// The verdict on the index of an accepted file.
+    pub fn verdict(&self) -> Option<Verdict> {
+        Some(self.layout.as_ref().ok()?.index)
+    }
+
+    /// Where the last block ends, if it is not streamed.
+    pub fn chain_end(&self) -> Option<usize> {
+        let last = self.blocks().last()?;
+        (!last.is_streamed()).then(|| block_end(last))
+    }
+}
+
+/// Where a block's content begins in its own file.
+pub fn content_start(block: &Block) -> usize {
+    block.offset.0 as usize + HEADER_SIZE_COUNTS_FROM + usize::from(block.header_size)
+}
+
+/// Where a block's allocated space ends in its own file.
+pub fn block_end(block: &Block) -> usize {
+    content_start(block) + block.allocated as usize
+}
+
+/// What a writer of the second program writes into a buffer of so many bytes.
+pub fn written(
+    most: usize,
+    write: impl FnOnce(&mut [u8]) -> Result<usize, Refusal>,
+) -> Result<Vec<u8>, Refusal> {
+    let mut out = vec![0; most];
+    let length = write(&mut out)?;
+    out.truncate(length);
+    Ok(out)
+}

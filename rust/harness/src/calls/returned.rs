@@ -1,0 +1,19 @@
+//! What a proved function returns, as a result.
+
+use asdf_second::Refusal;
+
+/// What a function puts into a buffer that is long enough.
+pub type Expected = Result<Vec<u8>, Refusal>;
+
+/// What a returned number says: a count, or a refusal.
+pub fn result_of(word: u64) -> Result<u64, Refusal> {
+    asdf_sys::answer(word).map_err(|(number, place)| Refusal { number, place })
+}
+
+/// What a function writes into a buffer of so many bytes.
+pub fn result_in(most: usize, ask: impl Fn(&mut [u8]) -> u64) -> Expected {
+    let mut out = vec![0; most];
+    let length = result_of(ask(&mut out))?;
+    out.truncate(length as usize);
+    Ok(out)
+}

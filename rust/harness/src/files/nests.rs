@@ -1,0 +1,105 @@
+//! Files inside files that are built by hand: for many rows, for the stack and for the benchmark.
+
+use crate::format::block::block_header;
+use crate::format::limits::{LEVELS, MOST_BLOCKS};
+use crate::format::text::{FILE_BEGIN, HEADER_LINE};
+
+/// A file with these contents, each in a block of its own.
+pub fn file_of<'a>(contents: impl IntoIterator<Item = &'a [u8]>) -> Vec<u8> {
+    file_with_gaps(contents, b"")
+}
+
+/// The same with these bytes before each block but the first.
+pub fn file_with_gaps<'a>(contents: impl IntoIterator<Item = &'a [u8]>, gap: &[u8]) -> Vec<u8> {
+    let mut file = HEADER_LINE.to_vec();
+    for (ordinal, content) in contents.into_iter().enumerate() {
+        if ordinal > 0 {
+            file.extend(gap);
+        }
+        file.extend(block_header(0, content.len() as u64));
+        file.extend(content);
+    }
+    file
+}
+
+/// So many files in one another, each with so many blocks; the block of an ordinal holds the next
+/// file, or the innermost content, and the others are empty.
+pub fn path(levels: usize, blocks: usize, ordinal: usize, innermost: &[u8]) -> Vec<u8> {
+    (0..levels).fold(innermost.to_vec(), |inner, _| {
+        file_of((0..blocks).map(|block| if block == ordinal { &inner[..] } else { b"" }))
+    })
+}
+
+/// So many files in one another; each of so many blocks holds the next file, or the innermost
+/// content.
+pub fn tree(levels: usize, blocks: usize, innermost: &[u8]) -> Vec<u8> {
+    tree_with_gaps(levels, blocks, innermost, b"")
+}
+
+/// The same with these bytes before each block but the first of its file.
+fn tree_with_gaps(levels: usize, blocks: usize, innermost: &[u8], gap: &[u8]) -> Vec<u8> {
+    (0..levels).fold(innermost.to_vec(), |inner, _| {
+        file_with_gaps((0..blocks).map(|_| &inner[..]), gap)
+    })
+}
+
+/// The files that make the walk go deepest: as many blocks as there may be at every level that is
+/// read, and the next level in the last of them, in the first, or in one between.
+pub fn deepest() -> Vec<Vec<u8>> {
+    [MOST_BLOCKS - 1, 0, 31]
+        .map(|ordinal| path(LEVELS, MOST_BLOCKS, ordinal, FILE_BEGIN))
+        .into()
+}
+
+/// The rows of a file with more of them than two bytes count.
+pub const MANY_ROWS: usize = 41 + 41 * 41 + 41 * 41 * 41;
+
+/// A file with that many rows.
+pub fn many_rows() -> Vec<u8> {
+    tree(3, 41, b"")
+}
+
+/// 40 bytes in which every third could begin a mark, and none does.
+const PARTS_OF_MARKS: &[u8] =
+    b"\xD3BL\xD3BL\xD3BL\xD3BL\xD3BL\xD3BL\xD3BL\xD3BL\xD3BL\xD3BL\xD3BL\xD3BL\xD3BL\xD3";
+
+/// As many blocks as there may be in each of as many files, with parts of marks before every block but the first.
+pub fn many_gaps() -> Vec<u8> {
+    tree_with_gaps(2, MOST_BLOCKS, b"", PARTS_OF_MARKS)
+}
+
+#[cfg(test)]
+mod tests {
+    use super::*;
+    use asdf_second::{records, row_count, Inner};
+
+    #[test]
+    fn deepest_files_have_every_block_and_end_too_deep() {
+        for file in deepest() {
+            let records = records(&file).unwrap();
+            assert_eq!(records.len(), LEVELS * MOST_BLOCKS);
+            let too_deep = records
+                .iter()
+                .filter(|record| record.inner == Inner::TooDeep);
+            assert_eq!(too_deep.count(), 1);
+        }
+    }
+
+    #[test]
+    fn many_rows_are_more_than_two_bytes_count() {
+        assert_eq!(row_count(&many_rows()), Ok(MANY_ROWS));
+        assert!(MANY_ROWS > usize::from(u16::MAX));
+    }
+
+    #[test]
+    fn every_block_after_a_gap_has_its_row() {
+        let file = many_gaps();
+        assert_eq!(
+            row_count(&file),
+            Ok(MOST_BLOCKS + MOST_BLOCKS * MOST_BLOCKS)
+        );
+        let gaps = (MOST_BLOCKS + 1) * (MOST_BLOCKS - 1);
+        let without_gaps = tree(2, MOST_BLOCKS, b"");
+        assert_eq!(file.len() - without_gaps.len(), 40 * gaps);
+    }
+}

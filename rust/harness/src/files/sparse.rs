@@ -1,0 +1,60 @@
+//! Long files that are mostly zeros.
+
+use crate::format::block::{block_header, FIELD_BYTES};
+use crate::format::text::HEADER_LINE;
+use asdf_map::Map;
+use std::io;
+use std::ops::Deref;
+
+/// A long stretch of zeros with other bytes at some places. Only what is not zero takes memory.
+pub struct SparseFile {
+    map: Map,
+}
+
+impl SparseFile {
+    /// A file of this length with these bytes at these places in it.
+    pub fn new(length: usize, parts: &[(usize, &[u8])]) -> io::Result<SparseFile> {
+        let mut map = Map::of_zeros(length)?;
+        let file = map.lend()?;
+        for (place, bytes) in parts {
+            file[*place..][..bytes.len()].copy_from_slice(bytes);
+        }
+        map.protect()?;
+        Ok(SparseFile { map })
+    }
+
+    /// The bytes to be changed.
+    pub fn lend(&mut self) -> io::Result<&mut [u8]> {
+        self.map.lend()
+    }
+}
+
+impl Deref for SparseFile {
+    type Target = [u8];
+
+    fn deref(&self) -> &[u8] {
+        &self.map
+    }
+}
+
+/// A file of zeros with a header line and so many blocks, each of this length with its header.
+pub fn chain_of_blocks(blocks: usize, length: usize) -> io::Result<SparseFile> {
+    let header = block_header(0, (length - FIELD_BYTES) as u64);
+    let place = |block| HEADER_LINE.len() + block * length;
+    let mut parts = vec![(0, HEADER_LINE)];
+    parts.extend((0..blocks).map(|block| (place(block), &header[..])));
+    SparseFile::new(place(blocks), &parts)
+}
+
+#[cfg(test)]
+mod tests {
+    use super::*;
+
+    #[test]
+    fn sparse_file_holds_its_parts_and_zeros() -> io::Result<()> {
+        let file = SparseFile::new(10_000, &[(0, b"ab"), (9_998, b"yz")])?;
+        let expected = [b"ab", &[0; 9_996][..], b"yz"].concat();
+        assert_eq!(file[..], expected);
+        Ok(())
+    }
+}

@@ -1,0 +1,84 @@
+//! What a run has to reach of a file: each refusal, each verdict, and the parts that it may have or not.
+
+use super::goal::Goal;
+use super::searches::BLOCK;
+use crate::answers::file::Answers;
+use crate::format::text::{places_of, MARK};
+use asdf_second::Verdict;
+
+/// All verdicts.
+pub const VERDICTS: [Verdict; 4] = [
+    Verdict::Absent,
+    Verdict::Good,
+    Verdict::IgnoredForm,
+    Verdict::IgnoredList,
+];
+
+/// All of them.
+pub fn goals() -> Vec<Goal> {
+    [refusals(), verdicts(), parts()]
+        .into_iter()
+        .flatten()
+        .collect()
+}
+
+/// Each number that refuses a file.
+fn refusals() -> Vec<Goal> {
+    (1..=17)
+        .map(|number| Goal::of_refusal(format!("refused {number}"), number, |_, _| true))
+        .collect()
+}
+
+/// Each verdict.
+fn verdicts() -> Vec<Goal> {
+    VERDICTS
+        .map(|verdict| {
+            Goal::of_file(format!("index {verdict}"), move |_, answers| {
+                answers.verdict() == Some(verdict)
+            })
+        })
+        .into()
+}
+
+/// The parts that a file may have or not.
+fn parts() -> Vec<Goal> {
+    vec![
+        Goal::of_file("no comments", |_, answers| !has_comments(answers)),
+        Goal::of_file("comments", |_, answers| has_comments(answers)),
+        Goal::of_file("no tree", |_, answers| answers.tree().is_none()),
+        Goal::of_file("tree", |_, answers| answers.tree().is_some()),
+        Goal::of_file("tree without free space", |_, answers| {
+            answers.tree().is_some_and(|tree| tree.end == tree.room_end)
+        }),
+        Goal::of_file("tree with free space", |_, answers| {
+            answers.tree().is_some_and(|tree| tree.end < tree.room_end)
+        }),
+        Goal::of_file("free space of 64 bytes and more", |_, answers| {
+            free_space(answers).is_some_and(|length| length >= BLOCK)
+        }),
+        Goal::of_file("first mark over two blocks of 64", |_, answers| {
+            let over = |length: usize| length % BLOCK > BLOCK - MARK.len();
+            !answers.blocks().is_empty() && free_space(answers).is_some_and(over)
+        }),
+        Goal::of_file("tree with a mark inside", |file, answers| {
+            answers.tree().is_some_and(|tree| {
+                let bytes = &file[tree.start.0 as usize..tree.end.0 as usize];
+                !places_of(bytes, MARK).is_empty()
+            })
+        }),
+    ]
+}
+
+/// The length of the free space after a tree.
+fn free_space(answers: &Answers) -> Option<usize> {
+    let tree = answers.tree()?;
+    Some((tree.room_end.0 - tree.end.0) as usize)
+}
+
+/// Whether an accepted file has comments.
+fn has_comments(answers: &Answers) -> bool {
+    answers
+        .layout
+        .as_ref()
+        .is_ok_and(|layout| layout.comments.start < layout.comments.end)
+}

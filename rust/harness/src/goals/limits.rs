@@ -1,0 +1,233 @@
+//! Both sides of each limit, as goals.
+
+use super::goal::Goal;
+use crate::answers::file::content_start;
+use crate::format::block::{
+    Field, ALLOCATED, DATA_SIZE, FIELD_BYTES, HEADER_SIZE, HEADER_SIZE_COUNTS_FROM, USED,
+};
+use crate::format::text::{FILE_BEGIN, INDEX_LINE, MARK, YAML_LINE};
+use asdf_second::{Block, Inner, Verdict};
+
+/// All of them.
+pub fn goals() -> Vec<Goal> {
+    [
+        block_counts(),
+        text_limits(),
+        header_size_limits(),
+        size_limits(),
+        streamed_blocks(),
+        content_limits(),
+        length_limits(),
+    ]
+    .into_iter()
+    .flatten()
+    .collect()
+}
+
+/// Few blocks, and as many as a file may have.
+fn block_counts() -> Vec<Goal> {
+    let mut goals: Vec<Goal> = [0, 1, 2, 62, 63, 64]
+        .map(|count| {
+            Goal::of_file(format!("{count} blocks"), move |_, answers| {
+                answers.blocks().len() == count
+            })
+        })
+        .into();
+    goals.extend([
+        Goal::of_file("64 blocks with a good index", |_, answers| {
+            answers.blocks().len() == 64 && answers.verdict() == Some(Verdict::Good)
+        }),
+        Goal::of_file("64 blocks, the last streamed", |_, answers| {
+            answers.blocks().get(63).is_some_and(Block::is_streamed)
+        }),
+        Goal::of_refusal("65 blocks (16)", 16, |file, place| {
+            file.len() - place >= FIELD_BYTES
+        }),
+        Goal::of_refusal("65 marks and nothing behind (16)", 16, |file, place| {
+            file.len() - place == MARK.len()
+        }),
+    ]);
+    goals
+}
+
+/// Lines that end, or do not, at the end of the file.
+fn text_limits() -> Vec<Goal> {
+    vec![
+        Goal::of_refusal("unended version line (3)", 3, |file, _| {
+            !file.contains(&b'\n')
+        }),
+        Goal::of_refusal("unended index line among comments (5)", 5, |file, place| {
+            &file[place..] == INDEX_LINE
+        }),
+        Goal::of_refusal("unended first line of a tree (7)", 7, |file, place| {
+            &file[place..] == YAML_LINE
+        }),
+        Goal::of_refusal("three bytes of a mark (7)", 7, |file, place| {
+            file[place..] == MARK[..3]
+        }),
+        Goal::of_refusal("unended line in a tree (10)", 10, |file, place| {
+            place < file.len()
+        }),
+        Goal::of_refusal("missing line in a tree (10)", 10, |file, place| {
+            place == file.len()
+        }),
+        Goal::of_refusal("16 of the 17 bytes of an index (17)", 17, |file, place| {
+            file[place..] == INDEX_LINE[..16]
+        }),
+    ]
+}
+
+/// Both sides of the limits on H.
+fn header_size_limits() -> Vec<Goal> {
+    vec![
+        Goal::of_block("header size 48", |_, block| block.header_size == 48),
+        Goal::of_block("header size 49", |_, block| block.header_size == 49),
+        Goal::of_block("header size 65535", |_, block| {
+            block.header_size == u16::MAX
+        }),
+        Goal::of_refusal("header size 47 (12)", 12, |file, block| {
+            HEADER_SIZE.number(file, block) == Some(47)
+        }),
+        Goal::of_refusal("header size 0 (12)", 12, |file, block| {
+            HEADER_SIZE.number(file, block) == Some(0)
+        }),
+        Goal::of_block("header up to the end of the file", |file, block| {
+            content_start(block) == file.len()
+        }),
+        Goal::of_refusal("header one byte past it (11)", 11, |file, block| {
+            stored_content_start(file, block) == Some(file.len() as u128 + 1)
+        }),
+        Goal::of_refusal("four bytes of a header (11)", 11, |file, block| {
+            file.len() - block == 4
+        }),
+        Goal::of_refusal("five bytes of a header (11)", 11, |file, block| {
+            file.len() - block == 5
+        }),
+        Goal::of_refusal("six bytes of a header (11)", 11, |file, block| {
+            file.len() - block == 6
+        }),
+        Goal::of_refusal("six bytes, H below 48 (12)", 12, |file, block| {
+            file.len() - block == 6
+        }),
+    ]
+}
+
+/// Where a block's content begins by its stored header size.
+fn stored_content_start(file: &[u8], block: usize) -> Option<u128> {
+    let header_size = HEADER_SIZE.number(file, block)?;
+    Some((block + HEADER_SIZE_COUNTS_FROM) as u128 + header_size)
+}
+
+/// Where a block's allocated space ends by its stored sizes.
+fn stored_end(file: &[u8], block: usize) -> Option<u128> {
+    Some(stored_content_start(file, block)? + ALLOCATED.number(file, block)?)
+}
+
+/// Both sides of the limits on the three sizes.
+fn size_limits() -> Vec<Goal> {
+    vec![
+        Goal::of_block("used equals allocated", |_, block| {
+            block.used > 0 && block.used == block.allocated
+        }),
+        Goal::of_block("used below allocated", |_, block| {
+            block.used < block.allocated
+        }),
+        Goal::of_refusal("used one above allocated (13)", 13, |file, block| {
+            is_one_above(file, block, USED, ALLOCATED)
+        }),
+        Goal::of_refusal("data size one above used (14)", 14, |file, block| {
+            is_one_above(file, block, DATA_SIZE, USED)
+        }),
+        Goal::of_refusal("data size one below used (14)", 14, |file, block| {
+            is_one_above(file, block, USED, DATA_SIZE)
+        }),
+        Goal::of_block("data size of all FF", |_, block| {
+            block.data_size == u64::MAX
+        }),
+        Goal::of_file(
+            "allocated space up to the end of the file",
+            |file, answers| answers.chain_end() == Some(file.len()),
+        ),
+        Goal::of_refusal(
+            "allocated space one byte past it (15)",
+            15,
+            |file, block| stored_end(file, block) == Some(file.len() as u128 + 1),
+        ),
+        Goal::of_refusal("allocated size of all FF (15)", 15, |file, block| {
+            ALLOCATED.number(file, block) == Some(u128::from(u64::MAX))
+        }),
+        Goal::of_refusal("end that wraps in 64 bits (15)", 15, |file, block| {
+            wraps(file, block, 64)
+        }),
+        Goal::of_refusal("end that wraps in 32 bits (15)", 15, |file, block| {
+            wraps(file, block, 32)
+        }),
+    ]
+}
+
+/// Whether one stored size is one above another.
+fn is_one_above(file: &[u8], block: usize, above: Field, below: Field) -> bool {
+    above.number(file, block) == below.number(file, block).map(|size| size + 1)
+}
+
+/// Whether the end of the allocated space, cut to so many bits, falls into the file.
+fn wraps(file: &[u8], block: usize, bits: u32) -> bool {
+    stored_end(file, block).is_some_and(|end| {
+        let behind_range = 1 << bits;
+        end >= behind_range && end % behind_range <= file.len() as u128
+    })
+}
+
+/// Kinds of streamed blocks.
+fn streamed_blocks() -> Vec<Goal> {
+    vec![
+        Goal::of_record("streamed block", |record| record.block.is_streamed()),
+        Goal::of_record("streamed block without content", |record| {
+            record.block.is_streamed() && record.block.used == 0
+        }),
+        Goal::of_record("streamed block with a compression", |record| {
+            record.block.is_streamed() && record.block.is_compressed()
+        }),
+        Goal::of_record("streamed block that is opened", |record| {
+            record.block.is_streamed() && record.inner == Inner::Opened
+        }),
+        Goal::of_record("streamed block in an inner file", |record| {
+            record.block.is_streamed() && record.depth > 0
+        }),
+        Goal::of_block("streamed block that ignores its sizes", |file, block| {
+            let end = stored_end(file, block.offset.0 as usize);
+            block.is_streamed() && end.is_some_and(|end| end > file.len() as u128)
+        }),
+    ]
+}
+
+/// Contents that begin like a file, and almost.
+fn content_limits() -> Vec<Goal> {
+    vec![
+        Goal::of_block("content of five bytes like a file's", |file, block| {
+            begins_like_file(file, block, 5)
+        }),
+        Goal::of_block("content of six bytes like a file's", |file, block| {
+            begins_like_file(file, block, 6)
+        }),
+        Goal::of_block("compressed content like a file", |file, block| {
+            block.is_compressed() && file[content_start(block)..].starts_with(FILE_BEGIN)
+        }),
+    ]
+}
+
+/// Whether a block's content is these first bytes of a file and no more.
+fn begins_like_file(file: &[u8], block: &Block, length: usize) -> bool {
+    block.used as usize == length && file[content_start(block)..].starts_with(&FILE_BEGIN[..length])
+}
+
+/// Lengths around what the program takes, and the greatest.
+fn length_limits() -> Vec<Goal> {
+    [65_535, 65_536, 65_537, 4_294_967_295]
+        .map(|length| {
+            Goal::of_file(format!("file of {length} bytes"), move |file, _| {
+                file.len() == length
+            })
+        })
+        .into()
+}

@@ -1,0 +1,99 @@
+//! What a run has to reach of line ends: of the header, of the index that is written, and of lines that end otherwise.
+
+use super::goal::Goal;
+use crate::answers::file::Answers;
+use crate::format::block::HEADER_SIZE_COUNTS_FROM;
+use crate::format::limits::MOST_BLOCKS;
+use asdf_second::{Inner, LineEnd, Record};
+
+/// The length of the index of one block at an offset of two digits, with 0D 0A. It is also asked for with one byte less.
+const SHORT_INDEX: usize = 45;
+
+/// All of them.
+pub fn goals() -> Vec<Goal> {
+    let kinds = [(LineEnd::Lf, "0A"), (LineEnd::Crlf, "0D 0A")];
+    let mut goals: Vec<Goal> = kinds
+        .into_iter()
+        .flat_map(|(kind, words)| header_goals(kind, words))
+        .collect();
+    goals.push(Goal::of_file("index of 45 bytes", |_, answers| {
+        index_length(answers) == Some(SHORT_INDEX) && line_end(answers) == Some(LineEnd::Crlf)
+    }));
+    goals
+}
+
+/// What files have to reach whose header line ends so.
+fn header_goals(kind: LineEnd, words: &str) -> Vec<Goal> {
+    let header = |what: &str, reached: fn(&[u8], &Answers) -> bool| {
+        let name = format!("header ended by {words}{what}");
+        Goal::of_file(name, move |file, answers| {
+            line_end(answers) == Some(kind) && reached(file, answers)
+        })
+    };
+    vec![
+        header("", |_, _| true),
+        header(", no index possible", |_, answers| answers.index.is_err()),
+        header(", index", |_, answers| answers.index.is_ok()),
+        header(", index of 64 blocks", |_, answers| {
+            answers.index.is_ok() && answers.blocks().len() == MOST_BLOCKS
+        }),
+        header(", index, other lines before", |file, answers| {
+            answers.index.is_ok() && has_other_lines(file, answers)
+        }),
+        header(", index, other header inside", |file, answers| {
+            answers.index.is_ok() && has_other_header(file, answers)
+        }),
+    ]
+}
+
+/// How the header line of an accepted file ends.
+pub fn line_end(answers: &Answers) -> Option<LineEnd> {
+    Some(answers.layout.as_ref().ok()?.line_end)
+}
+
+/// The length of the index that is written.
+fn index_length(answers: &Answers) -> Option<usize> {
+    answers.index.as_ref().ok().map(Vec::len)
+}
+
+/// The line ends in a text.
+pub fn line_ends_in(text: &[u8]) -> Vec<LineEnd> {
+    let mut lines: Vec<&[u8]> = text.split(|&byte| byte == b'\n').collect();
+    lines.pop();
+    let ends = lines.iter().map(|line| match line.last() {
+        Some(b'\r') => LineEnd::Crlf,
+        _ => LineEnd::Lf,
+    });
+    ends.collect()
+}
+
+/// Whether a line of the comments or the tree ends otherwise than the header line.
+fn has_other_lines(file: &[u8], answers: &Answers) -> bool {
+    let comments = answers.layout.as_ref().ok().map(|layout| layout.comments);
+    let comments = comments.map(|comments| comments.start..comments.end);
+    let tree = answers.tree().map(|tree| tree.start..tree.end);
+    let mut stretches = comments.into_iter().chain(tree);
+    stretches.any(|stretch| {
+        let text = &file[stretch.start.0 as usize..stretch.end.0 as usize];
+        let mut ends = line_ends_in(text).into_iter();
+        ends.any(|end| Some(end) != line_end(answers))
+    })
+}
+
+/// Whether the header line of an opened inner file ends otherwise than that of the outermost.
+fn has_other_header(file: &[u8], answers: &Answers) -> bool {
+    let content_start = |record: &Record| {
+        let header_size = usize::from(record.block.header_size);
+        record.offset.0 as usize + HEADER_SIZE_COUNTS_FROM + header_size
+    };
+    let mut opened = answers
+        .records()
+        .iter()
+        .filter(|record| record.inner == Inner::Opened);
+    opened.any(|record| {
+        let content = &file[content_start(record)..];
+        let header_end = content.iter().position(|&byte| byte == b'\n');
+        let header = header_end.map_or(content, |end| &content[..=end]);
+        line_ends_in(header).first().copied() != line_end(answers)
+    })
+}

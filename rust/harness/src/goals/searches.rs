@@ -1,0 +1,75 @@
+//! What a run has to reach of searches for a mark.
+
+use super::goal::Goal;
+use crate::format::text::MARK;
+
+/// So many bytes the search of the core tests at once.
+pub const BLOCK: usize = 64;
+
+/// Where a search started, and what it has to find.
+pub struct Search {
+    pub start: usize,
+    pub found: usize,
+}
+
+impl Search {
+    /// How far the mark, or the end, is from the start.
+    fn distance(&self) -> usize {
+        self.found - self.start
+    }
+
+    /// Whether there is a mark.
+    fn is_found(&self, bytes: &[u8]) -> bool {
+        self.found < bytes.len()
+    }
+}
+
+/// What the strings have to reach.
+pub fn goals() -> Vec<Goal<Search>> {
+    let mut goals = vec![
+        goal("search, no bytes", |bytes, _| bytes.is_empty()),
+        goal("search after the end", |bytes, search| {
+            search.start > bytes.len()
+        }),
+        goal("search, no mark", |bytes, search| {
+            search.found >= bytes.len()
+        }),
+        goal("search, a part of a mark at the end", |bytes, search| {
+            search.found == bytes.len() && bytes.ends_with(&MARK[..3])
+        }),
+        goal("search, a mark at the start", |bytes, search| {
+            search.is_found(bytes) && search.distance() == 0
+        }),
+        goal("search, a mark over two blocks of 64", |bytes, search| {
+            search.is_found(bytes) && search.distance() % BLOCK > BLOCK - MARK.len()
+        }),
+        goal("search, a mark near the end", |bytes, search| {
+            search.is_found(bytes) && bytes.len() - search.found < BLOCK
+        }),
+    ];
+    goals.extend((0..MARK.len()).map(|place| {
+        goal(
+            format!("search, a mark at place {place} of a four"),
+            move |bytes, search| {
+                search.is_found(bytes)
+                    && search.distance() >= BLOCK
+                    && search.distance() % MARK.len() == place
+            },
+        )
+    }));
+    goals
+}
+
+/// A goal that a search reaches at the distance of what it finds.
+fn goal(
+    name: impl Into<String>,
+    reached: impl Fn(&[u8], &Search) -> bool + 'static,
+) -> Goal<Search> {
+    Goal::new(name, move |bytes, search: &Search| {
+        let distance = search.distance();
+        reached(bytes, search)
+            .then_some(distance)
+            .into_iter()
+            .collect()
+    })
+}
