@@ -7,7 +7,7 @@ use mathlib.Core.List.{List, [], _∷_}
 use mathlib.Core.Option.{some}
 use lib.ListN.{length, take, drop, getD, getElem?}
 use lib.Seq.{length-take-le}
-use borrow.Author.Tests.{ne-eqb}
+use borrow.Author.Tests.{ne-eqb, le-leb}
 use mir.Syntax.{w8}
 use mir.Val.{Fits}
 use Rattle.format.specs.declared.answer.CountAnswer.{CountAnswer}
@@ -22,10 +22,12 @@ use Rattle.format.specs.Answer.{layoutAnswer, blockAnswer}
 use Rattle.format.specs.Bytes.{Bytes, IsBytes}
 use Rattle.format.specs.Outcome.{accepted, refused, refusal}
 use Rattle.format.specs.Block.{isStreamed}
+use Rattle.format.specs.Chain.{mostBlocks}
 use Rattle.format.specs.Index.{indexText}
 use Rattle.format.specs.File.{layoutOf, layout, blockAt}
 use Rattle.format.specs.IndexWriter.{mayHaveIndex, indexFor}
-use Rattle.format.specs.Lent.{placed}
+use Rattle.format.proofs.ChainLaws.{blocks-few}
+use Rattle.format.proofs.FileLaws.{blocksStart, file-parts}
 use Rattle.format.proofs.WriterLaws.{index-good, index-short}
 use Rattle.file.specs.declared.block.BlockStep.{BlockStep}
 use Rattle.file.specs.declared.block.BlockStep.the-variants as BlockStep·is
@@ -34,7 +36,8 @@ use Rattle.file.specs.Layout.{Kept}
 use Rattle.file.proofs.KeptLaws.{kept-room, kept-inside, kept-found, kept-refused}
 use Rattle.file.proofs.LayoutLaws.{file-refused}
 use Rattle.format.specs.Written.{Written, IndexWritten}
-use Rattle.put.proofs.WrittenLaws.{written-refused, written-short, written-placed, Taken, written-taken}
+use Rattle.put.proofs.WrittenLaws.{written-refused, Taken, written-taken}
+use Rattle.index.specs.Index.{indexOf}
 
 -- whether there may be an index is told by the last block
 last-decides : (bs : List Block) (j : ℕ) (b : Block) → length bs ≡ suc j → getElem? bs j ≡ some b → mayHaveIndex bs ≡ not (isStreamed (b .flags))
@@ -44,17 +47,6 @@ last-decides (a ∷ []) zero b n h = let same : a ≡ b = cc in rw same
 last-decides (a ∷ []) (suc j) b n h = absurd (omega arith)
 last-decides (a ∷ c ∷ bs) zero b n h = absurd (omega arith)
 last-decides (a ∷ c ∷ bs) (suc j) b n h = last-decides (c ∷ bs) j b (omega arith) h
-
--- the text is written, or the buffer is too short
-module _ (k : LineEnd) (ns : List ℕ) (n : ℕ) (e : n ≡ length (indexText k ns)) (out : Bytes) where
-  pub text-short : length out < n → (x : CountAnswer) → x ≡ Refused (refusal 21 0) → Written (accepted (indexText k ns)) out out x
-  text-short p = written-short (accepted (indexText k ns)) out (indexText k ns) refl (omega arith)
-
-  pub text-fits : n ≤ length out → length (indexText k ns) ≤ length out
-  text-fits p = omega arith
-
-  pub text-written : n ≤ length out → (after : Bytes) → after ≡ placed out 0 (indexText k ns) → Written (accepted (indexText k ns)) out after (Counted n)
-  text-written p after f = written-placed (accepted (indexText k ns)) out (indexText k ns) refl (omega arith) after f n e
 
 module _ (s kept : Bytes) (count : ℕ) (h : Kept s kept count) where
   -- the index of a file whose last block may have one after it or not
@@ -91,15 +83,15 @@ module _ (s kept : Bytes) (count : ℕ) (h : Kept s kept count) where
     pub all-kept : (n : ℕ) → length kept ≡ n → count ≤ n
     all-kept n e = omega (arith, last-room n e)
 
-    -- so many offsets are taken, one at least and at most 64
+    -- so many offsets are taken, and a file may have so many
     pub part-length : length (take count kept) ≡ count
     part-length = length-take-le count kept (all-kept (length kept) refl)
 
-    pub part-some : 1 ≤ length (take count kept)
-    part-some = omega (arith, part-length)
-
-    pub part-few : length kept ≡ 64 → length (take count kept) ≤ 64
-    part-few e = omega (arith, part-length, all-kept 64 e)
+    part-index : (k : LineEnd) → indexOf k (take count kept) ≡ accepted (indexText k (take count kept))
+    unfolding indexOf
+    part-index k =
+        let few = blocks-few mostBlocks 0 (blocksStart (h .f)) _ (drop (blocksStart (h .f)) s) (file-parts s (h .f) (h .is) .chain-read) in
+        rw (indexOf, le-leb (length (take count kept)) mostBlocks (omega (arith, part-length, h .count)))
 
     module _ (x : BlockStep)
         (read : BlockRead (count - 1) (getD kept (count - 1) 0) (take (length s - getD kept (count - 1) 0) (drop (getD kept (count - 1) 0) s)) x) where
@@ -127,9 +119,9 @@ module _ (s kept : Bytes) (count : ℕ) (h : Kept s kept count) where
 
         -- it is not
         pub last-plain : (b .flags % 2 ≡ 1 → ⊥) → (l : Layout) → layout s ≡ accepted l → (k : LineEnd) → k ≡ l .header .«line_end»
-            → (out after : Bytes) (y : CountAnswer) → Written (accepted (indexText k (take count kept))) out after y → Written (indexFor s) out after y
+            → (out after : Bytes) (y : CountAnswer) → Written (indexOf k (take count kept)) out after y → Written (indexFor s) out after y
         last-plain q l told k e out after y w =
-            rw (index-is true (last-may true (rw (ne-eqb (b .flags % 2) 1 q))), same-header l told, ← e) w
+            rw (index-is true (last-may true (rw (ne-eqb (b .flags % 2) 1 q))), same-header l told, ← e) (rw (part-index k) at w)
 
 -- what is written is a good index, and short
 module _ (s : Bytes) (known : (i : ℕ) → Fits w8 (getD s i 0)) where

@@ -1,14 +1,21 @@
--- The parts of an index text, and how they are put.
-use Prim.Native.Nat.{ℕ, _+_}
-use mathlib.Core.Path.{_≡_}
-use mathlib.Core.List.{List, _++_, flatMap}
+-- The index that is written for offsets, and the parts of its text.
+use Prim.Native.Nat.{ℕ, _+_, _*_}
+use mathlib.Core.List.{List}
 use lib.ListN.{length}
+use lib.Dec.{leb}
 use Rattle.format.specs.declared.line.LineEnd.{LineEnd}
 use Rattle.format.specs.declared.line.LineEnd.the-variants.{Lf, Crlf}
 use Rattle.format.specs.Bytes.{Bytes, text}
-use Rattle.format.specs.Lent.{placed}
-use Rattle.format.specs.Numeral.{decimal}
-use Rattle.format.specs.Index.{entries, spaced}
+use Rattle.format.specs.Chain.{mostBlocks}
+use Rattle.format.specs.Index.{indexText}
+use Rattle.format.specs.Outcome.{Outcome, accepted, need, _>>_}
+use Rattle.put.specs.Put.{mostJoined}
+
+-- the index of these offsets, if a file may have so many blocks
+unfoldable pub indexOf : LineEnd → List ℕ → Outcome Bytes
+indexOf e offsets = do
+  need (leb (length offsets) mostBlocks) 22 0
+  accepted (indexText e offsets)
 
 -- what stands before the list of an index
 abbrev pub frontText : LineEnd → Bytes
@@ -20,24 +27,17 @@ abbrev pub backText : LineEnd → Bytes
 backText Lf = text "]\n...\n"
 backText Crlf = text "]\r\n...\r\n"
 
--- how many bytes both have
-abbrev pub aroundLength : LineEnd → ℕ
-aroundLength Lf = 39
-aroundLength Crlf = 43
+-- the most bytes that each of them has
+abbrev pub mostFront : ℕ
+mostFront = 35
 
--- the list of an index, between the brackets
-abbrev pub listText : List ℕ → Bytes
-listText ns = entries (spaced ns)
+abbrev pub mostBack : ℕ
+mostBack = 8
 
--- a number after another
-abbrev pub nextText : ℕ → Bytes
-nextText n = text ", " ++ decimal n
+-- what stands between two numbers of the list
+abbrev pub comma : Bytes
+comma = text ", "
 
--- the numbers of a list after its first
-abbrev pub othersText : List ℕ → Bytes
-othersText ns = flatMap nextText ns
-
--- bytes were put at an offset, and end at r
-pub record PutAt (before after : Bytes) (at : ℕ) (bytes : Bytes) (r : ℕ) : Type 0 where
-  pub buffer : after ≡ placed before at bytes
-  pub end : r ≡ at + length bytes
+-- the most bytes that the index of so many numbers of 64 bits has
+abbrev pub mostText : ℕ → ℕ
+mostText count = mostFront + (mostJoined comma count + mostBack)

@@ -21,49 +21,35 @@ use Rattle.format.specs.Bytes.{Bytes, IsBytes, text}
 use Rattle.format.specs.File.{File, file, layout, layoutOf}
 use Rattle.format.specs.Lent.{placed, writes, leaves}
 use Rattle.format.specs.Outcome.{Outcome, accepted, refused, refusal, _>>=_}
-use Rattle.format.specs.Outline.{outlineOf, rows, outline, stored}
+use Rattle.format.specs.Outline.{rowBytes, outlineOf, rows, outline, stored}
 use Rattle.format.specs.Listing.{mostInput, sentence, listed, printed, listing}
 use Rattle.format.proofs.ByteLaws.{and-right}
 use Rattle.format.proofs.OutcomeLaws.{accepted-holds, accepts-bind}
 use Rattle.format.proofs.OutlineLaws.{refused-no-rows, accepted-rows, read-back}
 use Rattle.format.specs.Written.{Written, OutlineWritten}
 use Rattle.put.proofs.PutLaws.{placed-none, placed-nothing}
-use Rattle.put.proofs.WrittenLaws.{written-short, written-placed, Taken, written-taken}
+use Rattle.put.specs.Put.{PutWhole, PutAt}
+use Rattle.put.proofs.WrittenLaws.{written-placed, Standing, put-stands, Taken, written-taken}
 use Rattle.outline.specs.Row.{rowsIn}
 use Rattle.outline.proofs.StoredLaws.{Read, read-stored}
 use Rattle.format.specs.Listed.{outlineBytes, outlineFor, bothFit, BothPut, lentBytes, Listed, ListedLent}
 use Rattle.listing.specs.Listing.{mostOutline, BothShort, Short}
-use Rattle.listing.specs.Text.{fileText, PutAt}
+use Rattle.listing.specs.Text.{mostShort, fileText, mostFile}
 use Rattle.file.proofs.FewLaws.{rows-few}
 
--- a text alone
-module _ (t out : Bytes) where
-  -- it does not fit
-  pub alone-short : (n : ℕ) → n ≡ length t → n ≤ lentBytes → length out < n → (x : CountAnswer) → x ≡ Refused (refusal 21 0) → Short t out out x
-  alone-short n e few h x is = record { written = written-short (accepted t) out t refl (omega arith) x is; short = omega arith }
+-- a line was put into a buffer of its own, and is written from there
+module _ (t own after : Bytes) (n : ℕ) (put : PutAt own after 0 t mostShort n) (room : length own ≡ mostShort) where
+  stands : Standing after t n
+  stands = put-stands put (omega arith) (omega arith)
 
-  -- it is put
-  pub alone-put : (n : ℕ) → n ≡ length t → n ≤ lentBytes → n ≤ length out → (after : Bytes) (most r : ℕ) → PutAt out after 0 t most r
-      → Short t out after (Counted n)
-  alone-put n e few h after most r put = record {
-    written = written-placed (accepted t) out t refl (omega arith) after (put .buffer (omega (arith, put .end))) n e;
-    short = omega arith;
-  }
+  pub line-inside : n ≤ length after
+  line-inside = stands .inside
 
-  -- the same, of a few words
-  pub words-short : length t ≤ 32 → length out < length t → (x : CountAnswer) → x ≡ Refused (refusal 21 0) → Short t out out x
-  words-short few h = alone-short (length t) refl (omega arith) h
+  pub line-length : length (take n after) ≡ n
+  line-length = ap length (stands .is) ∙ sym (stands .size)
 
-  pub words-put : length t ≤ 32 → length t ≤ length out → (after : Bytes) (r : ℕ) → PutAt out after 0 t 32 r → Short t out after (Counted (length t))
-  words-put few h after r = alone-put (length t) refl (omega arith) h after 32 r
-
-  -- it was measured before
-  module _ (a after : Bytes) (most n : ℕ) (measured : PutAt a after 0 t most n) where
-    pub measured-length : n ≡ length t
-    measured-length = measured .end ∙ omega arith
-
-    pub measured-few : most ≤ lentBytes → n ≤ lentBytes
-    measured-few h = omega (arith, measured-length, measured .few)
+  pub line-written : (out out-after : Bytes) (x : CountAnswer) → Written (accepted (take n after)) out out-after x → Short t out out-after x
+  line-written out out-after x w = record { written = rw (stands .is) at w; short = omega (arith, put .few) }
 
 -- an outline and a text
 module _ (b t rows out : Bytes) where
@@ -71,16 +57,19 @@ module _ (b t rows out : Bytes) where
   unfolding countAnswer
   neither e x is = record { answer = rw (is, e); outline-put = rw e; text-put = rw e }
 
-  module _ (small : length b ≤ mostOutline) (a after : Bytes) (most n : ℕ) (near : most ≤ lentBytes) (measured : PutAt a after 0 t most n) where
+  module _ (small : length b ≤ mostOutline) (a after : Bytes) (n : ℕ) (measured : PutAt a after 0 t (mostFile (length b / rowBytes)) n) where
+    text-few : length t ≤ lentBytes
+    text-few = omega (arith, measured .few)
+
     text-length : n ≡ length t
-    text-length = measured .end ∙ omega arith
+    text-length = omega (arith, measured .end, text-few)
 
     -- the outline does not fit
     pub outline-long : length rows < length b → (x : CountAnswer) → x ≡ Refused (refusal 21 0) → BothShort b t rows out rows out x
     outline-long h x is = record {
       put = neither (rw (lt-leb (length b) (length rows) h)) x is;
       outline-short = omega arith;
-      text-short = omega (arith, measured .few);
+      text-short = text-few;
     }
 
     -- the text does not fit
@@ -88,25 +77,25 @@ module _ (b t rows out : Bytes) where
     text-long h x is = record {
       put = neither (rw (lt-leb (length t) (length out) (omega (arith, text-length))) (and-false (leb (length b) (length rows)))) x is;
       outline-short = omega arith;
-      text-short = omega (arith, measured .few);
+      text-short = text-few;
     }
 
     -- both are put
-    pub both-put : length b ≤ length rows → n ≤ length out → (rows-after : Bytes) → rows-after ≡ placed rows 0 b → (out-after : Bytes) (k r : ℕ)
+    pub both-put : length b ≤ length rows → n ≤ length out → (rows-after : Bytes) → (p : ℕ) → PutWhole rows rows-after 0 b (length b) p → (out-after : Bytes) (k r : ℕ)
         → PutAt out out-after 0 t k r
         → BothShort b t rows out rows-after out-after (Counted n)
     unfolding countAnswer
-    both-put h g rows-after e out-after k r put =
+    both-put h g rows-after p e out-after k r put =
         let one = le-leb (length b) (length rows) h in
         let two = le-leb (length t) (length out) (omega (arith, text-length)) in
         record {
           put = record {
             answer = rw (one, two) (ap accepted text-length);
-            outline-put = rw (one, two) e;
-            text-put = rw (one, two) (put .buffer (omega (arith, put .end, text-length)));
+            outline-put = rw (one, two) (e .buffer);
+            text-put = rw (one, two) (put .buffer (omega (arith, text-length)) (omega (arith, text-few)));
           };
           outline-short = omega arith;
-          text-short = omega (arith, measured .few);
+          text-short = text-few;
         }
 
 -- a text alone is one with no outline
@@ -141,11 +130,13 @@ is-listed s b t rows out rows-after out-after r e f h = record {
 }
 
 -- the input is too long
-pub listed-long : (s rows out after : Bytes) (r : CountAnswer) → mostInput < length s → Short (text "too long for this program\n") out after r
+pub listed-long : (s rows out after : Bytes) (r : CountAnswer) → mostInput < length s
+    → Written (accepted (text "too long for this program\n")) out after r
     → Listed s rows out rows after r
 unfolding outlineFor listing sentence
-listed-long s rows out after r h short =
+listed-long s rows out after r h w =
     let e = lt-leb (length s) mostInput h in
+    let short : Short (text "too long for this program\n") out after r = record { written = w; short = omega arith } in
     is-listed s [] (text "too long for this program\n") rows out rows after r (rw (outlineFor, e)) (rw (listing, e)) (no-outline _ rows out after r short)
 
 -- the file that has a layout, and its rows
@@ -206,9 +197,9 @@ module _ (s : Bytes) (short : length s ≤ mostInput) where
       outline-few : length b ≤ mostOutline
       outline-few = omega (arith, rows-read .size, accepted-holds _ (rows s) (of .file-rows) (rows-few s) (of .rows-are))
 
-      same-rows : rowsIn (length b / 16) b ≡ of .file-rows
+      same-rows : rowsIn (length b / rowBytes) b ≡ of .file-rows
       same-rows =
-          let count : length b / 16 ≡ length (of .file-rows) = omega (arith, rows-read .size) in
+          let count : length b / rowBytes ≡ length (of .file-rows) = omega (arith, rows-read .size) in
           rw count (sym (rows-read .rows))
 
       text-is : listing s ≡ fileText (l .tree) b (l .verdict)
@@ -223,7 +214,7 @@ module _ (s : Bytes) (short : length s ≤ mostInput) where
 
     -- it is written into a buffer that is long enough
     module _ (own after : Bytes) (x : CountAnswer) (w : OutlineWritten s own after x) where
-      pub own-refused : length own ≡ 19408 → (r : Refusal) → x ≡ Refused r → (rows out : Bytes) → Listed s rows out rows out (Refused r)
+      pub own-refused : length own ≡ mostOutline → (r : Refusal) → x ≡ Refused r → (rows out : Bytes) → Listed s rows out rows out (Refused r)
       unfolding outline countAnswer writes
       own-refused size r e rows out =
           let whole : outline s ≡ accepted (outlineOf (of .file-rows)) = rw (outline, of .rows-are) in

@@ -1,15 +1,17 @@
 -- How long an outline and a text can be, and what the parts of the writer of a listing promise.
-use Prim.Native.Nat.{ℕ, _≤_}
+use Prim.Native.Nat.{ℕ, _*_, _/_, _≤_}
 use lib.ListN.{length}
 use Rattle.format.specs.declared.answer.CountAnswer.{CountAnswer}
 use Rattle.format.specs.Bytes.{Bytes}
 use Rattle.format.specs.Outcome.{accepted}
 use Rattle.format.specs.Written.{Written}
 use Rattle.format.specs.Listed.{BothPut, lentBytes}
+use Rattle.format.specs.Listing.{mostInput}
+use Rattle.format.specs.Outline.{rowBytes}
 
--- no outline of 65,536 bytes is longer: a block takes 54 of them or more, and its row 16
+-- the most bytes of the outline of a file that the program takes: a block takes 54 bytes of the file or more
 abbrev pub mostOutline : ℕ
-mostOutline = 19408
+mostOutline = mostInput / 54 * rowBytes
 
 -- an outline and a text that such buffers hold were put
 pub record BothShort (b t rows out rowsAfter outAfter : Bytes) (r : CountAnswer) : Type 0 where
@@ -17,7 +19,7 @@ pub record BothShort (b t rows out rowsAfter outAfter : Bytes) (r : CountAnswer)
   pub outline-short : length b ≤ lentBytes
   pub text-short : length t ≤ lentBytes
 
--- such a text alone was
+-- such a text was put alone
 pub record Short (t out after : Bytes) (r : CountAnswer) : Type 0 where
   pub written : Written (accepted t) out after r
   pub short : length t ≤ lentBytes

@@ -1,6 +1,6 @@
 -- The last block is read where it begins, and tells whether there may be an index.
 use borrow.Author.Needs.{needs}
-use Rattle.index.proofs.WriteLaws.{no-block, last-room, last-inside, last-refused, last-streamed, last-plain, all-kept, part-length, part-some, part-few}
+use Rattle.index.proofs.WriteLaws.{no-block, last-room, last-inside, last-refused, last-streamed, last-plain, all-kept, part-length}
 use Rattle.index.proofs.write_kept.Statement.{statement}
 use Rattle.index.proofs.write_kept.Tie as tie
 
@@ -25,7 +25,7 @@ write-kept-spec =
     (λ c. search (last-streamed, needs))
     (λ c. search (all-kept, needs))
     (λ c. search (part-length, needs))
-    (λ c κs. search (part-some, part-few, needs))
+    (λ c κs. search needs)
     (λ c. search (last-refused, needs))
     (λ c. search needs)
     (λ c. search (last-plain, needs)))
