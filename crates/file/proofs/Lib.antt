@@ -5,3 +5,4 @@ pub mod ChainLaws
 pub mod FewLaws
 pub mod KeptLaws
 pub mod LayoutLaws
+pub mod IndexWriterLaws

@@ -20,7 +20,7 @@ use Rattle.format.specs.Written.{Written}
 use Rattle.put.specs.Put.{PutWhole, PutAt, joined, mostJoined}
 use Rattle.put.proofs.PartLaws.{whole-put, parts-put, put-same}
 use Rattle.put.proofs.WrittenLaws.{written-refused, Standing, put-stands}
-use Rattle.index.specs.Index.{indexOf, frontText, backText, mostFront, mostBack, comma, mostText}
+use Rattle.index.specs.Text.{indexOf, frontText, backText, mostFront, mostBack, comma, mostText}
 
 -- a number after another, as an entry
 abbrev next : ℕ → Entry

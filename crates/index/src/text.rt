@@ -2,7 +2,7 @@
 ghost use lib.ListN.{length};
 ghost use Rattle.format.specs.Index.{indexText};
 ghost use Rattle.format.specs.Written.{Written};
-ghost use Rattle.index.specs.Index.{indexOf, frontText, backText, mostFront, mostBack, mostText};
+ghost use Rattle.index.specs.Text.{indexOf, frontText, backText, mostFront, mostBack, mostText};
 ghost use Rattle.put.specs.Put.{PutAt};
 use format::answer::CountAnswer;
 use format::limits::MOST_BLOCKS;
