@@ -33,7 +33,7 @@ use Rattle.put.proofs.WrittenLaws.{written-placed, Standing, put-stands, Taken,
 use Rattle.outline.specs.Row.{rowsIn}
 use Rattle.outline.proofs.StoredLaws.{Read, read-stored}
 use Rattle.format.specs.Listed.{outlineBytes, outlineFor, bothFit, BothPut, lentBytes, Listed, ListedLent}
-use Rattle.listing.specs.Listing.{mostOutline, BothShort, Short}
+use Rattle.listing.specs.Listing.{mostOutline, Outlined, BothShort, Short}
 use Rattle.listing.specs.Text.{mostShort, fileText, mostFile}
 use Rattle.file.proofs.FewLaws.{rows-few}
 
@@ -148,46 +148,46 @@ record OfLayout (s : Bytes) (l : Layout) : Type 0 where
   file-rows : List Row
   rows-are : rows s ≡ accepted file-rows
 
-module _ (s : Bytes) (short : length s ≤ mostInput) where
+-- the file is read, and its outline written
+pub outlined-by : (s before own : Bytes) (a : LayoutAnswer) (w : CountAnswer) → layoutAnswer a ≡ layout s → OutlineWritten s before own w
+    → length before ≡ mostOutline
+    → Outlined s a w own
+outlined-by s before own a w read outlined room = record { read = read; before = before; room = room; outlined = outlined }
+
+module _ (s : Bytes) (short : length s ≤ mostInput) (a : LayoutAnswer) (w : CountAnswer) (own : Bytes) (h : Outlined s a w own) where
   is-short : leb (length s) mostInput ≡ true
   is-short = le-leb (length s) mostInput short
 
-  -- a file is refused where its layout is
-  module _ (a : LayoutAnswer) (read : layoutAnswer a ≡ layout s) where
-    pub listed-accepted : (l : Layout) → a ≡ LayoutAnswer·is.Accepted l → layout s ≡ accepted l
-    unfolding layoutAnswer
-    listed-accepted l e = sym read ∙ ap layoutAnswer e
-
-    refused-file : (r : Refusal) → a ≡ LayoutAnswer·is.Refused r → file s ≡ refused r
+  -- the file is refused
+  module _ (r : Refusal) (e : a ≡ LayoutAnswer·is.Refused r) where
+    refused-file : file s ≡ refused r
     unfolding layoutAnswer layout
-    refused-file r e = go (file s) refl (sym read ∙ ap layoutAnswer e)
+    refused-file = go (file s) refl (sym (h .read) ∙ ap layoutAnswer e)
       where
         go : (o : Outcome File) → file s ≡ o → _>>=_ o (λ f. accepted (layoutOf f)) ≡ refused r → file s ≡ refused r
         go (accepted f) q c = cc
         go (refused x) q c = cc
 
-    -- the file is refused
-    pub listed-refused : (r : Refusal) → a ≡ LayoutAnswer·is.Refused r → (rows out after : Bytes) (x : CountAnswer)
-        → Short (printed (refused r)) out after x
-        → Listed s rows out rows after x
+    pub listed-refused : (rows out after : Bytes) (x : CountAnswer) → Short (printed (refused r)) out after x → Listed s rows out rows after x
     unfolding outlineFor outlineBytes listing listed outline
-    listed-refused r e rows out after x h =
-        let f = refused-file r e in
-        is-listed s [] (printed (refused r)) rows out rows after x (rw (outlineFor, is-short, outline, refused-no-rows s r f)) (rw (listing, is-short, listed, f))
-        (no-outline _ rows out after x h)
+    listed-refused rows out after x put =
+        is-listed s [] (printed (refused r)) rows out rows after x (rw (outlineFor, is-short, outline, refused-no-rows s r refused-file))
+        (rw (listing, is-short, listed, refused-file))
+        (no-outline _ rows out after x put)
 
-  module _ (l : Layout) (read : layout s ≡ accepted l) (known : (i : ℕ) → Fits w8 (getD s i 0)) where
+  -- the file is accepted
+  module _ (l : Layout) (e : a ≡ LayoutAnswer·is.Accepted l) (known : (i : ℕ) → Fits w8 (getD s i 0)) where
     bytes : IsBytes s
     bytes i = known i .fits
 
     of : OfLayout s l
-    unfolding layout layoutOf
+    unfolding layout layoutOf layoutAnswer
     of =
         accepted-holds (OfLayout s) (layout s) l
         (accepts-bind (OfLayout s) (file s) _ λ f e.
         let rs = accepted-rows s f e in
         record { f = f; is = e; tree = refl; verdict = refl; file-rows = rs .0; rows-are = rs .1 })
-        read
+        (sym (h .read) ∙ ap layoutAnswer e)
 
     -- the outline b of the file
     module _ (b : Bytes) (is : outline s ≡ accepted b) where
@@ -212,35 +212,35 @@ module _ (s : Bytes) (short : length s ≤ mostInput) where
       unfolding outlineFor outlineBytes
       outline-is = rw (outlineFor, is-short, is)
 
-    -- it is written into a buffer that is long enough
-    module _ (own after : Bytes) (x : CountAnswer) (w : OutlineWritten s own after x) where
-      pub own-refused : length own ≡ mostOutline → (r : Refusal) → x ≡ Refused r → (rows out : Bytes) → Listed s rows out rows out (Refused r)
-      unfolding outline countAnswer writes
-      own-refused size r e rows out =
-          let whole : outline s ≡ accepted (outlineOf (of .file-rows)) = rw (outline, of .rows-are) in
-          let fits = le-leb (length (outlineOf (of .file-rows))) (length own) (omega (arith, outline-few (outlineOf (of .file-rows)) whole)) in
-          let clash : refused r ≡ accepted (length (outlineOf (of .file-rows))) = rw (e, whole, writes, fits) at (w .written .answer) in
-          let z : _≡_ {A = ℕ} 0 1 = cc in
-          absurd (omega arith)
+    -- the outline is not refused, because the buffer is long enough
+    pub own-refused : (r : Refusal) → w ≡ Refused r → (rows out : Bytes) → Listed s rows out rows out (Refused r)
+    unfolding outline countAnswer writes
+    own-refused r q rows out =
+        let whole : outline s ≡ accepted (outlineOf (of .file-rows)) = rw (outline, of .rows-are) in
+        let fits = le-leb (length (outlineOf (of .file-rows))) (length (h .before)) (omega (arith, h .room, outline-few (outlineOf (of .file-rows)) whole)) in
+        let clash : refused r ≡ accepted (length (outlineOf (of .file-rows))) = rw (q, whole, writes, fits) at (h .outlined .written .answer) in
+        let z : _≡_ {A = ℕ} 0 1 = cc in
+        absurd (omega arith)
 
-      module _ (n : ℕ) (e : x ≡ Counted n) where
-        own-taken : Taken (outline s) after n
-        own-taken = written-taken (outline s) own after n (rw e at (w .written))
+    -- it is the first n bytes of the buffer
+    module _ (n : ℕ) (q : w ≡ Counted n) where
+      own-taken : Taken (outline s) own n
+      own-taken = written-taken (outline s) (h .before) own n (rw q at (h .outlined .written))
 
-        pub own-few : n ≤ length after
-        own-few = omega (arith, own-taken .size, length-take n after)
+      pub own-few : n ≤ length own
+      own-few = omega (arith, own-taken .size, length-take n own)
 
-        pub own-length : length (take n after) ≡ n
-        own-length = own-taken .size
+      pub own-length : length (take n own) ≡ n
+      own-length = own-taken .size
 
-        pub own-small : length (take n after) ≤ mostOutline
-        own-small = outline-few (take n after) (own-taken .is)
+      pub own-small : length (take n own) ≤ mostOutline
+      own-small = outline-few (take n own) (own-taken .is)
 
-        pub own-listed : (rows out rows-after out-after : Bytes) (r : CountAnswer)
-            → BothShort (take n after) (fileText (l .tree) (take n after) (l .verdict)) rows out rows-after out-after r
-            → Listed s rows out rows-after out-after r
-        own-listed rows out rows-after out-after r =
-            is-listed s _ _ rows out rows-after out-after r (outline-is (take n after) (own-taken .is)) (text-is (take n after) (own-taken .is))
+      pub own-listed : (rows out rows-after out-after : Bytes) (r : CountAnswer)
+          → BothShort (take n own) (fileText (l .tree) (take n own) (l .verdict)) rows out rows-after out-after r
+          → Listed s rows out rows-after out-after r
+      own-listed rows out rows-after out-after r =
+          is-listed s _ _ rows out rows-after out-after r (outline-is (take n own) (own-taken .is)) (text-is (take n own) (own-taken .is))
 
 -- what the answer tells
 module _ (s rows out rows-after out-after : Bytes) (x : CountAnswer) (h : Listed s rows out rows-after out-after x) where

@@ -2,13 +2,11 @@
 mod text;
 
 ghost use Prim.Native.Nat.{_≤_};
-ghost use mathlib.Core.Path.{_≡_};
 ghost use lib.ListN.{length};
-ghost use Rattle.format.specs.File.{layout as File·layout};
 ghost use Rattle.format.specs.Listed.{Listed, ListedLent};
 ghost use Rattle.format.specs.Listing.{mostInput, printed};
-ghost use Rattle.format.specs.Outcome.{accepted, refused as Outcome·refused};
-ghost use Rattle.listing.specs.Listing.{mostOutline, BothShort, Short};
+ghost use Rattle.format.specs.Outcome.{refused as Outcome·refused};
+ghost use Rattle.listing.specs.Listing.{mostOutline, BothShort, Outlined, Short};
 ghost use Rattle.listing.specs.Text.{fileText};
 use format::answer::CountAnswer;
 use format::answer::LayoutAnswer;
@@ -40,10 +38,10 @@ pub fn list(s: &[u8], rows: &mut [u8], out: &mut [u8]) -> CountAnswer
     if MOST_INPUT < s.len() {
         return write_text(b"too long for this program\n", out);
     }
-    match file::layout::read(s) {
-        LayoutAnswer::Refused(r) => write_refused(r, out),
-        LayoutAnswer::Accepted(l) => list_accepted(s, l, rows, out),
-    }
+    let mut own = [0u8; MOST_OUTLINE];
+    let answer = file::layout::read(s);
+    let written = nest::outline(s, &mut own);
+    list_outlined(s, answer, written, &own, rows, out)
 }
 
 // The same with buffers that are long enough for every file: the first bytes of one are the listing.
@@ -65,19 +63,28 @@ fn write_refused(r: Refusal, out: &mut [u8]) -> CountAnswer
     write_text(&own[..end], out)
 }
 
-// The listing of an accepted file. The outline is made in a buffer that is long enough for every file of 65,536 bytes.
-fn list_accepted(s: &[u8], l: Layout, rows: &mut [u8], out: &mut [u8]) -> CountAnswer
-    requires { ⌜ File·layout (now s) ≡ accepted l ⌝ }
+// The same for a file of this layout, whose outline was written into a buffer that is long enough.
+fn list_outlined(
+    s: &[u8],
+    answer: LayoutAnswer,
+    written: CountAnswer,
+    own: &[u8],
+    rows: &mut [u8],
+    out: &mut [u8],
+) -> CountAnswer
     requires { ⌜ length (now s) ≤ mostInput ⌝ }
+    requires { ⌜ Outlined (now s) answer written (now own) ⌝ }
     ensures { λ r. ⌜ Listed (now (s .entry)) (now (rows .entry)) (now (out .entry)) (now (rows .exit)) (now (out .exit)) r ⌝ }
 {
-    let mut own = [0u8; MOST_OUTLINE];
-    match nest::outline(s, &mut own) {
-        CountAnswer::Refused(r) => CountAnswer::Refused(r),
-        CountAnswer::Counted(n) => {
-            let end = n as usize;
-            write_both(&own[..end], l, rows, out)
-        }
+    match answer {
+        LayoutAnswer::Refused(r) => write_refused(r, out),
+        LayoutAnswer::Accepted(l) => match written {
+            CountAnswer::Refused(r) => CountAnswer::Refused(r),
+            CountAnswer::Counted(n) => {
+                let end = n as usize;
+                write_both(&own[..end], l, rows, out)
+            }
+        },
     }
 }
 
