@@ -37,7 +37,7 @@ use Rattle.file.proofs.KeptLaws.{kept-room, kept-inside, kept-found, ke
 use Rattle.file.proofs.LayoutLaws.{file-refused}
 use Rattle.format.specs.Written.{Written, IndexWritten}
 use Rattle.put.proofs.WrittenLaws.{written-refused, Taken, written-taken}
-use Rattle.index.specs.Text.{indexOf}
+use Rattle.index.specs.Text.{offsetsIndex}
 
 -- whether there may be an index is told by the last block
 last-decides : (bs : List Block) (j : ℕ) (b : Block) → length bs ≡ suc j → getElem? bs j ≡ some b → mayHaveIndex bs ≡ not (isStreamed (b .flags))
@@ -87,11 +87,11 @@ module _ (s kept : Bytes) (count : ℕ) (h : Kept s kept count) where
     pub part-length : length (take count kept) ≡ count
     part-length = length-take-le count kept (all-kept (length kept) refl)
 
-    part-index : (k : LineEnd) → indexOf k (take count kept) ≡ accepted (indexText k (take count kept))
-    unfolding indexOf
+    part-index : (k : LineEnd) → offsetsIndex k (take count kept) ≡ accepted (indexText k (take count kept))
+    unfolding offsetsIndex
     part-index k =
         let few = blocks-few mostBlocks 0 (blocksStart (h .f)) _ (drop (blocksStart (h .f)) s) (file-parts s (h .f) (h .is) .chain-read) in
-        rw (indexOf, le-leb (length (take count kept)) mostBlocks (omega (arith, part-length, h .count)))
+        rw (offsetsIndex, le-leb (length (take count kept)) mostBlocks (omega (arith, part-length, h .count)))
 
     module _ (x : BlockStep)
         (read : BlockRead (count - 1) (getD kept (count - 1) 0) (take (length s - getD kept (count - 1) 0) (drop (getD kept (count - 1) 0) s)) x) where
@@ -119,7 +119,7 @@ module _ (s kept : Bytes) (count : ℕ) (h : Kept s kept count) where
 
         -- it is not
         pub last-plain : (b .flags % 2 ≡ 1 → ⊥) → (l : Layout) → layout s ≡ accepted l → (k : LineEnd) → k ≡ l .header .«line_end»
-            → (out after : Bytes) (y : CountAnswer) → Written (indexOf k (take count kept)) out after y → Written (indexFor s) out after y
+            → (out after : Bytes) (y : CountAnswer) → Written (offsetsIndex k (take count kept)) out after y → Written (indexFor s) out after y
         last-plain q l told k e out after y w =
             rw (index-is true (last-may true (rw (ne-eqb (b .flags % 2) 1 q))), same-header l told, ← e) (rw (part-index k) at w)
 

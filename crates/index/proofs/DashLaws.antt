@@ -23,7 +23,7 @@ use Rattle.scan.specs.declared.number.Number.{Number}
 use Rattle.scan.specs.declared.number.Number.the-variants.{Value, Malformed}
 use Rattle.scan.specs.Line.{LineRead}
 use Rattle.scan.specs.Number.{numberOf, NumeralRead}
-use Rattle.scan.proofs.LineLaws.{unended-lines, ended-first, ended-inside}
+use Rattle.scan.proofs.LineLaws.{unended-lines, ended-first}
 use Rattle.scan.proofs.TextLaws.{begins-inside}
 use Rattle.index.specs.Verdict.{agreesAt, goodIf, judgedIf}
 use Rattle.index.proofs.TrimLaws.{part-all}
@@ -107,15 +107,6 @@ module _ (offsets : List ℕ) (t : Bytes) (at : ℕ) (c : Line) (read : LineRead
   pub lines-unended : c ≡ Unended → IgnoredForm ≡ v
   unfolding dashNumbers judgedFrom
   lines-unended e = rw (unended-lines t at c read e, others-none k) at left
-
-  module _ (m next : ℕ) (ending : LineEnd) (e : c ≡ Ended m next ending) where
-    -- the next line begins inside
-    pub lines-inside : next ≤ length t
-    lines-inside = ended-inside t at c read m next ending e .inside
-
-    -- and a line takes at least one byte
-    pub lines-count : k ≤ at → k + 1 ≤ next
-    lines-count h = omega (arith, ended-inside t at c read m next ending e)
 
   module _ (m next : ℕ) (ending : LineEnd) (e : c ≡ Ended m next ending) (x : Bool) (end : x ≡ same (take (m - at) (drop at t)) endLine) where
     -- the line is the end line

@@ -21,7 +21,7 @@ use Rattle.scan.specs.declared.line.Line.the-variants.{Ended, Unended}
 use Rattle.scan.specs.declared.line.Exact.{Exact}
 use Rattle.scan.specs.declared.line.Exact.the-variants.{Behind, Other}
 use Rattle.scan.specs.Line.{LineRead, ExactRead}
-use Rattle.scan.proofs.LineLaws.{unended-lines, ended-first, ended-inside}
+use Rattle.scan.proofs.LineLaws.{unended-lines, ended-first, ended-next}
 use Rattle.scan.proofs.ExactLaws.{other-text, behind-first}
 use Rattle.index.specs.declared.form.ListStep.{ListStep}
 use Rattle.index.specs.declared.form.ListStep.the-variants.{Between, Dashes, Nowhere}
@@ -120,7 +120,7 @@ module _ (t : Bytes) (at : ℕ) (c : Line) (read : LineRead t at c) where
 
     -- numbers after dashes are next
     pub start-dashes : x ≡ true → StyledRead t at (Dashes next)
-    start-dashes h = record { is = rw h at start-read; inside = ended-inside t at c read m next ending e .inside }
+    start-dashes h = record { is = rw h at start-read; inside = ended-next t at c read m next ending e }
 
     module _ (h : x ≡ false) (z : Bool) (last : EndRead t next z) where
       -- the numbers of the start line count if the index ends after it

@@ -9,11 +9,11 @@ use Rattle.format.specs.Bytes.{Bytes, text}
 use Rattle.format.specs.Chain.{mostBlocks}
 use Rattle.format.specs.Index.{indexText}
 use Rattle.format.specs.Outcome.{Outcome, accepted, need, _>>_}
-use Rattle.put.specs.Put.{mostJoined}
+use Rattle.put.specs.Put.{mostDecimals}
 
 -- the index of these offsets, if a file may have so many blocks
-unfoldable pub indexOf : LineEnd → List ℕ → Outcome Bytes
-indexOf e offsets = do
+unfoldable pub offsetsIndex : LineEnd → List ℕ → Outcome Bytes
+offsetsIndex e offsets = do
   need (leb (length offsets) mostBlocks) 22 0
   accepted (indexText e offsets)
 
@@ -38,6 +38,6 @@ mostBack = 8
 abbrev pub comma : Bytes
 comma = text ", "
 
--- the most bytes that the index of so many numbers of 64 bits has
-abbrev pub mostText : ℕ → ℕ
-mostText count = mostFront + (mostJoined comma count + mostBack)
+-- the most bytes of an index whose offsets may take all of their 64 bits
+abbrev pub mostText : ℕ
+mostText = mostFront + (mostDecimals comma mostBlocks + mostBack)

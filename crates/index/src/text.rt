@@ -1,24 +1,26 @@
 // The text of an index.
+ghost use Prim.Native.Nat.{_≤_};
 ghost use lib.ListN.{length};
+ghost use Rattle.format.specs.Chain.{mostBlocks};
 ghost use Rattle.format.specs.Index.{indexText};
 ghost use Rattle.format.specs.Written.{Written};
-ghost use Rattle.index.specs.Text.{indexOf, frontText, backText, mostFront, mostBack, mostText};
+ghost use Rattle.index.specs.Text.{offsetsIndex, frontText, backText, mostFront, mostBack, mostText};
 ghost use Rattle.put.specs.Put.{PutAt};
 use format::answer::CountAnswer;
 use format::limits::MOST_BLOCKS;
 use format::line::LineEnd;
 use format::refusal::NO_INDEX_POSSIBLE;
-use put::decimal::put_joined;
+use put::decimal::put_decimals;
 use put::text::put_text;
 use put::text::write_text;
 
-// The most bytes that an index has whose offsets take all of their 64 bits.
+// The most bytes of an index whose offsets may take all of their 64 bits.
 const MOST_TEXT: usize = 1451;
 
 // Writes the index of these offsets at the buffer's start, with this line end, and answers how many bytes it has; or 21 where
 // the buffer is too short, and 22 where a file cannot have so many blocks.
 pub fn write(ending: LineEnd, offsets: &[u64], out: &mut [u8]) -> CountAnswer
-    ensures { λ r. ⌜ Written (indexOf ending (now (offsets .entry))) (now (out .entry)) (now (out .exit)) r ⌝ }
+    ensures { λ r. ⌜ Written (offsetsIndex ending (now (offsets .entry))) (now (out .entry)) (now (out .exit)) r ⌝ }
 {
     if MOST_BLOCKS < offsets.len() {
         return CountAnswer::refuse(NO_INDEX_POSSIBLE, 0);
@@ -29,12 +31,13 @@ pub fn write(ending: LineEnd, offsets: &[u64], out: &mut [u8]) -> CountAnswer
     write_text(&own[..end], out)
 }
 
-// Puts the index of these offsets at the buffer's start, and answers where it ends.
+// Puts the index of at most 64 offsets at the buffer's start, and answers where it ends.
 fn put_index(out: &mut [u8], ending: LineEnd, offsets: &[u64]) -> usize
-    ensures { λ r. ⌜ PutAt (now (out .entry)) (now (out .exit)) 0 (indexText ending (now (offsets .entry))) (mostText (length (now (offsets .entry)))) r ⌝ }
+    requires { ⌜ length (now offsets) ≤ mostBlocks ⌝ }
+    ensures { λ r. ⌜ PutAt (now (out .entry)) (now (out .exit)) 0 (indexText ending (now (offsets .entry))) mostText r ⌝ }
 {
     let from = put_front(out, ending);
-    let to = put_joined(out, from, b", ", offsets);
+    let to = put_decimals(out, from, b", ", offsets);
     put_back(out, to, ending)
 }
 

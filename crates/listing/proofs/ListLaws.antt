@@ -29,7 +29,7 @@ use Rattle.format.proofs.OutlineLaws.{refused-no-rows, accepted-rows, read-back
 use Rattle.format.specs.Written.{Written, OutlineWritten}
 use Rattle.put.proofs.PutLaws.{placed-none, placed-nothing}
 use Rattle.put.specs.Put.{PutWhole, PutAt}
-use Rattle.put.proofs.WrittenLaws.{written-placed, Standing, put-stands, Taken, written-taken}
+use Rattle.put.proofs.WrittenLaws.{written-placed, own-bytes, Taken, written-taken}
 use Rattle.outline.specs.Row.{rowsIn}
 use Rattle.outline.proofs.StoredLaws.{Read, read-stored}
 use Rattle.format.specs.Listed.{outlineBytes, outlineFor, bothFit, BothPut, lentBytes, Listed, ListedLent}
@@ -38,18 +38,10 @@ use Rattle.listing.specs.Text.{mostShort, fileText, mostFile}
 use Rattle.file.proofs.FewLaws.{rows-few}
 
 -- a line was put into a buffer of its own, and is written from there
-module _ (t own after : Bytes) (n : ℕ) (put : PutAt own after 0 t mostShort n) (room : length own ≡ mostShort) where
-  stands : Standing after t n
-  stands = put-stands put (omega arith) (omega arith)
-
-  pub line-inside : n ≤ length after
-  line-inside = stands .inside
-
-  pub line-length : length (take n after) ≡ n
-  line-length = ap length (stands .is) ∙ sym (stands .size)
-
-  pub line-written : (out out-after : Bytes) (x : CountAnswer) → Written (accepted (take n after)) out out-after x → Short t out out-after x
-  line-written out out-after x w = record { written = rw (stands .is) at w; short = omega (arith, put .few) }
+pub line-written : (t own after : Bytes) (n : ℕ) → PutAt own after 0 t mostShort n → length own ≡ mostShort → (out out-after : Bytes) (x : CountAnswer)
+    → Written (accepted (take n after)) out out-after x → Short t out out-after x
+line-written t own after n put room out out-after x w =
+    record { written = rw (own-bytes own after t mostShort n put room (omega arith)) at w; short = omega (arith, put .few) }
 
 -- an outline and a text
 module _ (b t rows out : Bytes) where
@@ -213,9 +205,9 @@ module _ (s : Bytes) (short : length s ≤ mostInput) (a : LayoutAnswer) (w : Co
       outline-is = rw (outlineFor, is-short, is)
 
     -- the outline is not refused, because the buffer is long enough
-    pub own-refused : (r : Refusal) → w ≡ Refused r → (rows out : Bytes) → Listed s rows out rows out (Refused r)
+    pub outline-refused : (r : Refusal) → w ≡ Refused r → (rows out : Bytes) → Listed s rows out rows out (Refused r)
     unfolding outline countAnswer writes
-    own-refused r q rows out =
+    outline-refused r q rows out =
         let whole : outline s ≡ accepted (outlineOf (of .file-rows)) = rw (outline, of .rows-are) in
         let fits = le-leb (length (outlineOf (of .file-rows))) (length (h .before)) (omega (arith, h .room, outline-few (outlineOf (of .file-rows)) whole)) in
         let clash : refused r ≡ accepted (length (outlineOf (of .file-rows))) = rw (q, whole, writes, fits) at (h .outlined .written .answer) in
@@ -224,23 +216,23 @@ module _ (s : Bytes) (short : length s ≤ mostInput) (a : LayoutAnswer) (w : Co
 
     -- it is the first n bytes of the buffer
     module _ (n : ℕ) (q : w ≡ Counted n) where
-      own-taken : Taken (outline s) own n
-      own-taken = written-taken (outline s) (h .before) own n (rw q at (h .outlined .written))
+      outline-taken : Taken (outline s) own n
+      outline-taken = written-taken (outline s) (h .before) own n (rw q at (h .outlined .written))
 
-      pub own-few : n ≤ length own
-      own-few = omega (arith, own-taken .size, length-take n own)
+      pub outline-inside : n ≤ length own
+      outline-inside = omega (arith, outline-taken .size, length-take n own)
 
-      pub own-length : length (take n own) ≡ n
-      own-length = own-taken .size
+      pub outline-length : length (take n own) ≡ n
+      outline-length = outline-taken .size
 
-      pub own-small : length (take n own) ≤ mostOutline
-      own-small = outline-few (take n own) (own-taken .is)
+      pub outline-small : length (take n own) ≤ mostOutline
+      outline-small = outline-few (take n own) (outline-taken .is)
 
-      pub own-listed : (rows out rows-after out-after : Bytes) (r : CountAnswer)
+      pub outline-listed : (rows out rows-after out-after : Bytes) (r : CountAnswer)
           → BothShort (take n own) (fileText (l .tree) (take n own) (l .verdict)) rows out rows-after out-after r
           → Listed s rows out rows-after out-after r
-      own-listed rows out rows-after out-after r =
-          is-listed s _ _ rows out rows-after out-after r (outline-is (take n own) (own-taken .is)) (text-is (take n own) (own-taken .is))
+      outline-listed rows out rows-after out-after r =
+          is-listed s _ _ rows out rows-after out-after r (outline-is (take n own) (outline-taken .is)) (text-is (take n own) (outline-taken .is))
 
 -- what the answer tells
 module _ (s rows out rows-after out-after : Bytes) (x : CountAnswer) (h : Listed s rows out rows-after out-after x) where

@@ -14,7 +14,7 @@ use Rattle.listing.specs.Text.{mostRow}
 use Rattle.format.proofs.NumeralLaws.{decimal-is}
 use Rattle.format.proofs.RowLaws.{RowFits, bit-lt}
 
--- how many bytes numbers take behind a word
+-- how many bytes numbers take after a word
 abbrev digits : List ℕ → ℕ
 digits [] = 0
 digits (n ∷ ns) = 1 + length (decimal n) + digits ns

@@ -9,14 +9,14 @@ use Rattle.format.specs.Numeral.{decimal}
 use Rattle.format.specs.Outline.{rowBytes}
 use Rattle.format.specs.Listing.{sentence, treeText, rowText, verdictWord}
 use Rattle.outline.specs.Row.{rowsIn}
-use Rattle.put.specs.Put.{mostJoined}
+use Rattle.put.specs.Put.{mostDecimals}
 
 -- a line of numbers after some text
 abbrev pub lineText : Bytes → List ℕ → Bytes
 lineText start ns = start ++ sentence (map decimal ns)
 
 abbrev pub mostLine : ℕ → ℕ → ℕ
-mostLine start count = start + (mostJoined (text " ") count + 1)
+mostLine start count = start + (mostDecimals (text " ") count + 1)
 
 -- every line but a row's is shorter
 abbrev pub mostShort : ℕ

@@ -14,7 +14,7 @@ use format::limits::ROW_BYTES;
 use format::refusal::Refusal;
 use format::row::Row;
 use outline::row;
-use put::decimal::put_joined;
+use put::decimal::put_decimals;
 use put::text::put_text;
 
 // A line of numbers after some text.
@@ -22,7 +22,7 @@ fn put_line(out: &mut [u8], at: usize, start: &[u8], numbers: &[u64]) -> usize
     ensures { λ r. ⌜ PutAt (now (out .entry)) (now (out .exit)) at (lineText (now (start .entry)) (now (numbers .entry))) (mostLine (length (now (start .entry))) (length (now (numbers .entry)))) r ⌝ }
 {
     let from = put_text(out, at, start);
-    let to = put_joined(out, from, b" ", numbers);
+    let to = put_decimals(out, from, b" ", numbers);
     put_text(out, to, b"\n")
 }
 

@@ -9,7 +9,7 @@ use lib.Seq.{drop-cons}
 use Rattle.format.specs.Bytes.{Bytes}
 use Rattle.format.specs.Lent.{placed}
 use Rattle.format.specs.Numeral.{decimal}
-use Rattle.put.specs.Put.{PutWhole, PutAt, mostDigits, joined, mostJoined}
+use Rattle.put.specs.Put.{PutWhole, PutAt, mostDigits, decimals, mostDecimals}
 use Rattle.put.proofs.PutLaws.{placed-append, placed-length, placed-nothing, placed-outside, placed-long}
 
 -- n bytes that are put at an offset end at r
@@ -55,15 +55,15 @@ pub put-same : {before after : Bytes} {at r : ℕ} {a b : Bytes} {m k : ℕ} →
 put-same e h put = rw (← e) (record { buffer = put .buffer; size = put .size; end = put .end; few = omega (arith, put .few) })
 
 -- numbers with a text between each two are put
-abbrev PutJoined : Bytes → Bytes → ℕ → Bytes → List ℕ → ℕ → Type 0
-PutJoined before after at between ns r = PutAt before after at (joined between ns) (mostJoined between (length ns)) r
+abbrev PutDecimals : Bytes → Bytes → ℕ → Bytes → List ℕ → ℕ → Type 0
+PutDecimals before after at between ns r = PutAt before after at (decimals between ns) (mostDecimals between (length ns)) r
 
 -- the numbers from i on are left: putting them puts all
 pub record Joining (before : Bytes) (at : ℕ) (between : Bytes) (ns : List ℕ) (out : Bytes) (end i : ℕ) : Type 0 where
   pub inside : i ≤ length ns
   pub size : length out ≡ length before
   pub fits : end < 2 ^ 64
-  pub left : {after : Bytes} {r : ℕ} → PutJoined out after end between (drop i ns) r → PutJoined before after at between ns r
+  pub left : {after : Bytes} {r : ℕ} → PutDecimals out after end between (drop i ns) r → PutDecimals before after at between ns r
 
 module _ (before : Bytes) (at : ℕ) (between : Bytes) (ns : List ℕ) where
   -- all are left
@@ -72,8 +72,8 @@ module _ (before : Bytes) (at : ℕ) (between : Bytes) (ns : List ℕ) where
 
   module _ (out : Bytes) (end i : ℕ) (h : Joining before at between ns out end i) where
     -- none is left
-    pub join-none : length ns ≤ i → PutJoined before out at between ns end
-    unfolding joined
+    pub join-none : length ns ≤ i → PutDecimals before out at between ns end
+    unfolding decimals
     join-none p =
         let nothing : drop i ns ≡ [] = drop-of-length-le ns p in
         h .left (rw nothing (nothing-put (h .fits)))
@@ -81,8 +81,8 @@ module _ (before : Bytes) (at : ℕ) (between : Bytes) (ns : List ℕ) where
     -- the next number is put
     module _ (p : i < length ns) (mid : Bytes) (q : ℕ) (number : PutWhole out mid end (decimal (getD ns i 0)) mostDigits q) where
       -- it is the last
-      pub join-last : i + 1 ≡ length ns → PutJoined before mid at between ns q
-      unfolding joined
+      pub join-last : i + 1 ≡ length ns → PutDecimals before mid at between ns q
+      unfolding decimals
       join-last e =
           let one : drop i ns ≡ getD ns i 0 ∷ [] = drop-cons ns i 0 p ∙ rw (drop-of-length-le ns {i = suc i} (omega arith)) in
           h .left (rw one (put-same refl (omega arith) (whole-put number)))
@@ -90,7 +90,7 @@ module _ (before : Bytes) (at : ℕ) (between : Bytes) (ns : List ℕ) where
       -- it is not, and the text between is put
       pub join-step : (i + 1 ≡ length ns → ⊥) → (next : Bytes) (r : ℕ) → PutWhole mid next q between (length between) r
           → Joining before at between ns next r (i + 1)
-      unfolding joined
+      unfolding decimals
       join-step e next r text = record {
         inside = omega arith;
         size = whole-put text .size ∙ whole-put number .size ∙ h .size;

@@ -50,18 +50,21 @@ start-placed : (out bytes : Bytes) → length bytes ≤ length out → take (len
 unfolding placed
 start-placed out bytes h = rw (placed, le-leb (0 + length bytes) (length out) (omega arith)) (take-append-seam bytes (drop (0 + length bytes) out))
 
--- what was put at a buffer's start, in a buffer that is long enough, is its first n bytes
-pub record Standing (after bytes : Bytes) (n : ℕ) : Type 0 where
-  pub is : take n after ≡ bytes
-  pub size : n ≡ length bytes
-  pub inside : n ≤ length after
+-- at most so many bytes as a buffer has were put at its start, and end at n: they are its first n bytes
+module _ (own after bytes : Bytes) (most n : ℕ) (put : PutAt own after 0 bytes most n) (room : length own ≡ most) (small : most < 2 ^ 64) where
+  own-size : n ≡ length bytes
+  own-size = omega (arith, put .end, put .few)
 
-pub put-stands : {before after bytes : Bytes} {most n : ℕ} → PutAt before after 0 bytes most n → most ≤ length before → most < 2 ^ 64
-    → Standing after bytes n
-put-stands {before} {after} {bytes} {most} {n} put room small =
-    let size : n ≡ length bytes = omega (arith, put .end, put .few) in
-    let all = put .buffer (omega (arith, put .few)) (omega (arith, put .few)) in
-    record { is = rw (size, all) (start-placed before bytes (omega (arith, put .few))); size = size; inside = omega (arith, put .few, put .size) }
+  pub own-inside : n ≤ length after
+  own-inside = omega (arith, own-size, put .few, put .size)
+
+  pub own-bytes : take n after ≡ bytes
+  own-bytes =
+      let all = put .buffer (omega (arith, put .few)) (omega (arith, put .few)) in
+      rw (own-size, all) (start-placed own bytes (omega (arith, put .few)))
+
+  pub own-length : length (take n after) ≡ n
+  own-length = ap length own-bytes ∙ sym own-size
 
 -- the result is what stands in the first n bytes of a buffer
 pub record Taken (result : Outcome Bytes) (after : Bytes) (n : ℕ) : Type 0 where

@@ -8,20 +8,20 @@ use Rattle.format.specs.Lent.{placed}
 use Rattle.format.specs.Numeral.{decimal}
 
 -- where bytes that are put at an offset end, counted in 64 bits
-abbrev pub endOf : ℕ → Bytes → ℕ
-endOf at bytes = (at + length bytes) % 2 ^ 64
+abbrev pub putEnd : ℕ → Bytes → ℕ
+putEnd at bytes = (at + length bytes) % 2 ^ 64
 
 -- at most so many bytes were put at an offset, or nothing changed where they do not fit; they end at r
 pub record PutWhole (before after : Bytes) (at : ℕ) (bytes : Bytes) (most r : ℕ) : Type 0 where
   pub buffer : after ≡ placed before at bytes
-  pub end : r ≡ endOf at bytes
+  pub end : r ≡ putEnd at bytes
   pub few : length bytes ≤ most
 
 -- the same in parts: where they do not all fit, some of them may stand there. No buffer has 2 ^ 64 bytes.
 pub record PutAt (before after : Bytes) (at : ℕ) (bytes : Bytes) (most r : ℕ) : Type 0 where
   pub buffer : at + length bytes ≤ length before → at + length bytes < 2 ^ 64 → after ≡ placed before at bytes
   pub size : length after ≡ length before
-  pub end : r ≡ endOf at bytes
+  pub end : r ≡ putEnd at bytes
   pub few : length bytes ≤ most
 
 -- the most digits of a number of 64 bits
@@ -29,11 +29,11 @@ abbrev pub mostDigits : ℕ
 mostDigits = 20
 
 -- numbers in decimal, with a text between each two
-unfoldable pub joined : Bytes → List ℕ → Bytes
-joined between [] = []
-joined between (n ∷ []) = decimal n
-joined between (n ∷ m ∷ ns) = decimal n ++ between ++ joined between (m ∷ ns)
+unfoldable pub decimals : Bytes → List ℕ → Bytes
+decimals between [] = []
+decimals between (n ∷ []) = decimal n
+decimals between (n ∷ m ∷ ns) = decimal n ++ between ++ decimals between (m ∷ ns)
 
 -- the most bytes that so many numbers have then
-abbrev pub mostJoined : Bytes → ℕ → ℕ
-mostJoined between count = count * (mostDigits + length between)
+abbrev pub mostDecimals : Bytes → ℕ → ℕ
+mostDecimals between count = count * (mostDigits + length between)

@@ -1,6 +1,6 @@
 -- A refused file has one line; an accepted one has an outline, and both are written from it.
 use borrow.Author.Needs.{needs}
-use Rattle.listing.proofs.ListLaws.{listed-refused, own-refused, own-few, own-length, own-small, own-listed}
+use Rattle.listing.proofs.ListLaws.{listed-refused, outline-refused, outline-inside, outline-length, outline-small, outline-listed}
 use Rattle.listing.proofs.list_outlined.Statement.{statement}
 use Rattle.listing.proofs.list_outlined.Tie as tie
 
@@ -13,11 +13,11 @@ list-outlined-spec =
     (λ c. search needs)
     (λ c. search needs)
     (λ c. search needs)
-    (λ c. search (own-few, own-length, needs))
-    (λ c κs. search (own-small, needs))
+    (λ c. search (outline-inside, outline-length, needs))
+    (λ c κs. search (outline-small, needs))
     (λ c. search needs)
     (λ c. search (listed-refused, needs))
-    (λ c. search (own-refused, needs))
+    (λ c. search (outline-refused, needs))
     (λ c. search needs)
     (λ c. search needs)
-    (λ c. search (own-listed, needs)))
+    (λ c. search (outline-listed, needs)))

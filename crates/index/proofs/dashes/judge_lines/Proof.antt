@@ -6,9 +6,9 @@ use lib.ListN.{length, drop}
 use borrow.Author.Needs.{needs}
 use Rattle.format.specs.Line.{lines}
 use Rattle.format.specs.Index.{dashNumbers, atLeastOne, judged}
-use Rattle.scan.proofs.LineLaws.{ended-begin, ended-end, ended-less}
+use Rattle.scan.proofs.LineLaws.{ended-begin, ended-end, ended-next, ended-count, ended-less}
 use Rattle.index.proofs.ListLaws.{judgedFrom, agrees-inside}
-use Rattle.index.proofs.DashLaws.{afterOthers, dashes-begin, lines-inside, lines-count, lines-unended, lines-done, lines-malformed, lines-step}
+use Rattle.index.proofs.DashLaws.{afterOthers, dashes-begin, lines-unended, lines-done, lines-malformed, lines-step}
 use Rattle.index.proofs.dashes.judge_lines.Statement.{statement}
 use Rattle.index.proofs.dashes.judge_lines.Tie as tie
 
@@ -38,8 +38,8 @@ judge-lines-spec =
     (λ c. search (ended-end, needs))
     (λ c. search needs)
     (λ c κs. search needs)
-    (λ c. search (lines-inside, needs))
-    (λ c. search (lines-inside, needs))
+    (λ c. search (ended-next, needs))
+    (λ c. search (ended-next, needs))
     (λ c. search needs)
     (λ c κs. search needs)
     (λ c. search (lines-done, needs))
@@ -51,6 +51,6 @@ judge-lines-spec =
     (λ c. search needs)
     (λ c. search (lines-malformed, needs))
     (λ c κs. search needs)
-    (λ c. search (lines-inside, lines-count, needs))
+    (λ c. search (ended-next, ended-count, needs))
     (λ c. search (ended-less, needs))
-    (λ c. (search (lines-inside, needs), search (lines-count, needs), search (agrees-inside, needs), search (lines-step, needs))))
+    (λ c. (search (ended-next, needs), search (ended-count, needs), search (agrees-inside, needs), search (lines-step, needs))))

@@ -1,6 +1,7 @@
 -- There are too many offsets, or the text is made and copied.
 use borrow.Author.Needs.{needs}
-use Rattle.index.proofs.TextLaws.{index-many, own-inside, own-length, index-own}
+use Rattle.put.proofs.WrittenLaws.{own-inside, own-length}
+use Rattle.index.proofs.TextLaws.{index-many, index-own}
 use Rattle.index.proofs.text.write.Statement.{statement}
 use Rattle.index.proofs.text.write.Tie as tie
 

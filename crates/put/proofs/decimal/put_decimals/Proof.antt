@@ -3,8 +3,8 @@ use Prim.Native.Nat.{_-_}
 use lib.ListN.{length}
 use borrow.Author.Needs.{needs}
 use Rattle.put.proofs.PartLaws.{Joining, join-start, join-none, join-last, join-step}
-use Rattle.put.proofs.decimal.put_joined.Statement.{statement}
-use Rattle.put.proofs.decimal.put_joined.Tie as tie
+use Rattle.put.proofs.decimal.put_decimals.Statement.{statement}
+use Rattle.put.proofs.decimal.put_decimals.Tie as tie
 
 abbrev Inv-loop : tie.InvT-loop
 Inv-loop out₀ at between numbers end₀ i₀ out end i = Joining out₀ at between numbers out end i
@@ -12,8 +12,8 @@ Inv-loop out₀ at between numbers end₀ i₀ out end i = Joining out₀ at bet
 abbrev μ-loop : tie.MeasureT-loop
 μ-loop out₀ at between numbers end₀ i₀ out end i = length numbers - i
 
-pub put-joined-spec : {M : Type 1} → statement M
-put-joined-spec =
+pub put-decimals-spec : {M : Type 1} → statement M
+put-decimals-spec =
     tie.close
     (tie.spec
     Inv-loop
