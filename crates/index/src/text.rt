@@ -14,8 +14,9 @@ use put::decimal::put_decimals;
 use put::text::put_text;
 use put::text::write_text;
 
-// The most bytes of an index whose offsets may take all of their 64 bits.
-const MOST_TEXT: usize = 1451;
+// The most bytes of an index whose offsets may take all of their 64 bits: 43 around the list, and twenty digits, a comma and a
+// space for each.
+const MOST_TEXT: usize = 43 + 22 * MOST_BLOCKS;
 
 // Writes the index of these offsets at the buffer's start, with this line end, and answers how many bytes it has; or 21 where
 // the buffer is too short, and 22 where a file cannot have so many blocks.

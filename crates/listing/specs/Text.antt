@@ -22,7 +22,7 @@ mostLine start count = start + (mostDecimals (text " ") count + 1)
 abbrev pub mostShort : ℕ
 mostShort = 64
 
--- the line of a row that is read from its bytes: its numbers are as short as these are
+-- the line of a row that is read from sixteen bytes, which hold no long numbers
 abbrev pub mostRow : ℕ
 mostRow = 53
 

@@ -17,13 +17,14 @@ use format::refusal::Refusal;
 use put::text::put_text;
 use put::text::write_text;
 
-// The longest file that is listed.
-const MOST_INPUT: usize = 65536;
+// The longest file that is listed, in bytes.
+pub const MOST_INPUT: usize = 65536;
 
 // The bytes of a buffer that is long enough for every listing and every outline.
 pub const LENT_BYTES: usize = 65536;
 
-// The most bytes of the outline of a listed file: a block takes 54 bytes or more of it.
+// The most bytes of the outline of a listed file. A block takes 54 bytes of the file or more: its mark, the size of its header, and
+// the least header.
 const MOST_OUTLINE: usize = MOST_INPUT / 54 * ROW_BYTES;
 
 // Every line but a row's is shorter.
