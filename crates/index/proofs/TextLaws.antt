@@ -1,7 +1,7 @@
 -- The text of an index and its parts.
-use Prim.Native.Nat.{ℕ, _^_, _≤_, _<_}
+use Prim.Native.Nat.{ℕ, _≤_, _<_}
 use native.Mathlib.Omega.{arith}
-use mathlib.Core.Path.{_≡_, refl, sym, ap, _∙_}
+use mathlib.Core.Path.{_≡_, refl, sym, ap}
 use mathlib.Core.List.{List, [], _∷_, _++_, map, append-assoc, append-nil}
 use lib.ListN.{length, take}
 use borrow.Author.Tests.{le-leb, lt-leb}
@@ -15,7 +15,7 @@ use Rattle.format.specs.Line.{lineEnd}
 use Rattle.format.specs.Tree.{endLine}
 use Rattle.format.specs.Numeral.{decimal}
 use Rattle.format.specs.Index.{Entry, entry, entries, styledText, rendering, spaced, indexText}
-use Rattle.format.specs.Outcome.{accepted, refused, refusal}
+use Rattle.format.specs.Outcome.{accepted, refusal}
 use Rattle.format.specs.Written.{Written}
 use Rattle.put.specs.Put.{PutWhole, PutAt, decimals, mostDecimals}
 use Rattle.put.proofs.PartLaws.{whole-put, parts-put, put-same}

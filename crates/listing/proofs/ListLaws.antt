@@ -19,7 +19,7 @@ use Rattle.format.specs.declared.row.Row.{Row}
 use Rattle.format.specs.Answer.{countAnswer, layoutAnswer}
 use Rattle.format.specs.Bytes.{Bytes, IsBytes, text}
 use Rattle.format.specs.File.{File, file, layout, layoutOf}
-use Rattle.format.specs.Lent.{placed, writes, leaves}
+use Rattle.format.specs.Lent.{writes, leaves}
 use Rattle.format.specs.Outcome.{Outcome, accepted, refused, refusal, _>>=_}
 use Rattle.format.specs.Outline.{rowBytes, outlineOf, rows, outline, stored}
 use Rattle.format.specs.Listing.{mostInput, sentence, listed, printed, listing}

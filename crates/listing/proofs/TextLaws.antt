@@ -1,19 +1,17 @@
 -- The lines of a listing: one law for each part that is put.
-use Prim.Native.Nat.{ℕ, zero, suc, _+_, _*_, _-_, _/_, _^_, _≤_, _<_}
-use native.Mathlib.Numerals.{add-one}
+use Prim.Native.Nat.{ℕ, suc, _+_, _*_, _-_, _/_, _^_, _≤_, _<_}
 use native.Mathlib.Omega.{arith}
-use mathlib.Core.Path.{_≡_, refl, sym, ap, _∙_}
+use mathlib.Core.Path.{_≡_, refl, ap, _∙_}
 use mathlib.Core.Option.{none, some}
 use mathlib.Core.List.{List, [], _∷_, _++_, map, flatMap, append-assoc}
-use lib.ListN.{length, take, drop, getD, length-drop}
-use lib.Seq.{length-take-le, take-suc, take-all, drop-drop}
+use lib.ListN.{length, take, drop}
+use lib.Seq.{drop-drop}
 use borrow.Author.Tests.{le-leb}
 use Rattle.format.specs.declared.answer.RowAnswer.{RowAnswer}
 use Rattle.format.specs.declared.answer.RowAnswer.the-variants as RowAnswer·is
 use Rattle.format.specs.declared.layout.Tree.{Tree}
 use Rattle.format.specs.declared.layout.Tree.the-variants.{NoTree, Found}
 use Rattle.format.specs.declared.layout.Verdict.{Verdict}
-use Rattle.format.specs.declared.layout.Verdict.the-variants.{Absent}
 use Rattle.format.specs.declared.offset.Offset.{Offset}
 use Rattle.format.specs.declared.refusal.Refusal.{Refusal}
 use Rattle.format.specs.declared.row.Row.{Row}
@@ -26,7 +24,7 @@ use Rattle.format.specs.Outline.{decodeRow, rowBytes}
 use Rattle.format.specs.Listing.{sentence, treeText, rowText, printed}
 use Rattle.put.specs.Put.{PutWhole, PutAt, decimals, mostDecimals}
 use Rattle.put.proofs.PartLaws.{whole-put, nothing-put, parts-put, put-same}
-use Rattle.outline.specs.Row.{rowAt, rowsIn}
+use Rattle.outline.specs.Row.{rowAt}
 use Rattle.listing.specs.Text.{lineText, mostLine, mostShort, mostRow, rowTexts, verdictText, fileText, mostFile}
 use Rattle.listing.proofs.ShortLaws.{row-short}
 

@@ -12,7 +12,7 @@ use Rattle.put.specs.Decimal.{DecimalLength}
 use Rattle.put.proofs.PutLaws.{sets-last, placed-fits}
 
 -- a number has a digit
-pub decimal-some : (x : ℕ) → 1 ≤ length (decimal x)
+decimal-some : (x : ℕ) → 1 ≤ length (decimal x)
 decimal-some x = decimal-is x .some-digit
 
 -- one below ten has one

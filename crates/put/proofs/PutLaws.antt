@@ -40,7 +40,7 @@ unfolding placed
 placed-sets out n bytes h = rw (placed, le-leb (n + length bytes) (length out) h) (sym (sets-eq bytes out n h))
 
 -- bytes and others after them are put in two steps
-pub sets-append : (out : Bytes) (n : ℕ) (bytes others : Bytes) → sets out n (bytes ++ others) ≡ sets (sets out n bytes) (n + length bytes) others
+sets-append : (out : Bytes) (n : ℕ) (bytes others : Bytes) → sets out n (bytes ++ others) ≡ sets (sets out n bytes) (n + length bytes) others
 sets-append out n [] others = rw (add-zero n)
 sets-append out n (a ∷ bytes) others =
     let e : suc n + length bytes ≡ n + suc (length bytes) = omega arith in
