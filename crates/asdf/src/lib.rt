@@ -81,7 +81,7 @@ pub extern "C" fn asdf_records(file: &[u8], out: &mut [u8]) -> u64
 pub extern "C" fn asdf_index(file: &[u8], out: &mut [u8]) -> u64
     ensures { λ r. ⌜ IndexExported (now (file .entry)) (now (out .entry)) (now (out .exit)) r ⌝ }
 {
-    word::counted(index::write(file, out))
+    word::counted(file::index_writer::write(file, out))
 }
 
 // How many rows a stored outline has.

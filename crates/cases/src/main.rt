@@ -2,6 +2,7 @@
 ghost use mathlib.Core.Path.{_≡_};
 ghost use Rattle.format.specs.Listing.{listing};
 use libc::STDOUT_FILENO;
+use listing::MOST_INPUT;
 
 fn main() {
     let count = os::arg_count();
@@ -28,7 +29,7 @@ fn print_case(i: usize) {
 // Prints the listing of an open file.
 fn print_file(fd: i32) {
     // One byte more than is taken, to see that the file is too long.
-    let mut input = [0u8; 65537];
+    let mut input = [0u8; MOST_INPUT + 1];
     let n = io::read_full(fd, &mut input);
     print_listing(&input[..n]);
 }

@@ -7,3 +7,4 @@ pub mod FewLaws
 pub mod KeptLaws
 pub mod EachLaws
 pub mod LayoutLaws
+pub mod IndexWriterLaws

@@ -187,7 +187,7 @@ fn judge_tail(t: &[u8], offsets: &[u64], count: usize) -> Verdict
     requires { ⌜ count ≤ length (now offsets) ⌝ }
     ensures { λ r. ⌜ r ≡ judged (take count (now (offsets .entry))) (indexed (lines (now (t .entry)))) ⌝ }
 {
-    verdict::judge(t, &offsets[..count])
+    index::verdict::judge(t, &offsets[..count])
 }
 
 fn layout_with(h: Header, n: usize, t: Tree, blocks: usize, v: Verdict) -> Layout

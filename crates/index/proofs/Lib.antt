@@ -1,3 +1,7 @@
--- Laws that the proofs of the index writer cite.
+-- Laws of an index: its text, and the verdict on it.
 pub mod TextLaws
-pub mod WriteLaws
+pub mod TrimLaws
+pub mod ListLaws
+pub mod BracketLaws
+pub mod DashLaws
+pub mod IndexLaws

@@ -1,2 +1,3 @@
--- What the contracts of the index writer cite.
-pub mod Index
+-- What the contracts of the index cite.
+pub mod Text
+pub mod Verdict

@@ -3,10 +3,11 @@ ghost use mathlib.Core.Path.{_≡_};
 ghost use Rattle.format.specs.Listing.{listing};
 use libc::STDIN_FILENO;
 use libc::STDOUT_FILENO;
+use listing::MOST_INPUT;
 
 fn main() {
     // One byte more than is taken, to see that the input is too long.
-    let mut input = [0u8; 65537];
+    let mut input = [0u8; MOST_INPUT + 1];
     let n = io::read_full(STDIN_FILENO, &mut input);
     print_listing(&input[..n]);
 }

@@ -1,5 +1,4 @@
 -- Laws that the proofs of the listing cite.
-pub mod PutLaws
 pub mod ShortLaws
 pub mod TextLaws
 pub mod ListLaws

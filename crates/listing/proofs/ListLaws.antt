@@ -19,51 +19,29 @@ use Rattle.format.specs.declared.row.Row.{Row}
 use Rattle.format.specs.Answer.{countAnswer, layoutAnswer}
 use Rattle.format.specs.Bytes.{Bytes, IsBytes, text}
 use Rattle.format.specs.File.{File, file, layout, layoutOf}
-use Rattle.format.specs.Lent.{placed, writes, leaves}
+use Rattle.format.specs.Lent.{writes, leaves}
 use Rattle.format.specs.Outcome.{Outcome, accepted, refused, refusal, _>>=_}
-use Rattle.format.specs.Outline.{outlineOf, rows, outline, stored}
+use Rattle.format.specs.Outline.{rowBytes, outlineOf, rows, outline, stored}
 use Rattle.format.specs.Listing.{mostInput, sentence, listed, printed, listing}
 use Rattle.format.proofs.ByteLaws.{and-right}
 use Rattle.format.proofs.OutcomeLaws.{accepted-holds, accepts-bind}
 use Rattle.format.proofs.OutlineLaws.{refused-no-rows, accepted-rows, read-back}
 use Rattle.format.specs.Written.{Written, OutlineWritten}
 use Rattle.put.proofs.PutLaws.{placed-none, placed-nothing}
-use Rattle.put.proofs.WrittenLaws.{written-short, written-placed, Taken, written-taken}
+use Rattle.put.specs.Put.{PutWhole, PutAt}
+use Rattle.put.proofs.WrittenLaws.{written-placed, own-bytes, Taken, written-taken}
 use Rattle.outline.specs.Row.{rowsIn}
 use Rattle.outline.proofs.StoredLaws.{Read, read-stored}
 use Rattle.format.specs.Listed.{outlineBytes, outlineFor, bothFit, BothPut, lentBytes, Listed, ListedLent}
-use Rattle.listing.specs.Listing.{mostOutline, BothShort, Short}
-use Rattle.listing.specs.Text.{fileText, PutAt}
+use Rattle.listing.specs.Listing.{mostOutline, Outlined, BothShort, Short}
+use Rattle.listing.specs.Text.{mostShort, fileText, mostFile}
 use Rattle.file.proofs.FewLaws.{rows-few}
 
--- a text alone
-module _ (t out : Bytes) where
-  -- it does not fit
-  pub alone-short : (n : ℕ) → n ≡ length t → n ≤ lentBytes → length out < n → (x : CountAnswer) → x ≡ Refused (refusal 21 0) → Short t out out x
-  alone-short n e few h x is = record { written = written-short (accepted t) out t refl (omega arith) x is; short = omega arith }
-
-  -- it is put
-  pub alone-put : (n : ℕ) → n ≡ length t → n ≤ lentBytes → n ≤ length out → (after : Bytes) (most r : ℕ) → PutAt out after 0 t most r
-      → Short t out after (Counted n)
-  alone-put n e few h after most r put = record {
-    written = written-placed (accepted t) out t refl (omega arith) after (put .buffer (omega (arith, put .end))) n e;
-    short = omega arith;
-  }
-
-  -- the same, of a few words
-  pub words-short : length t ≤ 32 → length out < length t → (x : CountAnswer) → x ≡ Refused (refusal 21 0) → Short t out out x
-  words-short few h = alone-short (length t) refl (omega arith) h
-
-  pub words-put : length t ≤ 32 → length t ≤ length out → (after : Bytes) (r : ℕ) → PutAt out after 0 t 32 r → Short t out after (Counted (length t))
-  words-put few h after r = alone-put (length t) refl (omega arith) h after 32 r
-
-  -- it was measured before
-  module _ (a after : Bytes) (most n : ℕ) (measured : PutAt a after 0 t most n) where
-    pub measured-length : n ≡ length t
-    measured-length = measured .end ∙ omega arith
-
-    pub measured-few : most ≤ lentBytes → n ≤ lentBytes
-    measured-few h = omega (arith, measured-length, measured .few)
+-- a line was put into a buffer of its own, and is written from there
+pub line-written : (t own after : Bytes) (n : ℕ) → PutAt own after 0 t mostShort n → length own ≡ mostShort → (out out-after : Bytes) (x : CountAnswer)
+    → Written (accepted (take n after)) out out-after x → Short t out out-after x
+line-written t own after n put room out out-after x w =
+    record { written = rw (own-bytes own after t mostShort n put room (omega arith)) at w; short = omega (arith, put .few) }
 
 -- an outline and a text
 module _ (b t rows out : Bytes) where
@@ -71,16 +49,19 @@ module _ (b t rows out : Bytes) where
   unfolding countAnswer
   neither e x is = record { answer = rw (is, e); outline-put = rw e; text-put = rw e }
 
-  module _ (small : length b ≤ mostOutline) (a after : Bytes) (most n : ℕ) (near : most ≤ lentBytes) (measured : PutAt a after 0 t most n) where
+  module _ (small : length b ≤ mostOutline) (a after : Bytes) (n : ℕ) (measured : PutAt a after 0 t (mostFile (length b / rowBytes)) n) where
+    text-few : length t ≤ lentBytes
+    text-few = omega (arith, measured .few)
+
     text-length : n ≡ length t
-    text-length = measured .end ∙ omega arith
+    text-length = omega (arith, measured .end, text-few)
 
     -- the outline does not fit
     pub outline-long : length rows < length b → (x : CountAnswer) → x ≡ Refused (refusal 21 0) → BothShort b t rows out rows out x
     outline-long h x is = record {
       put = neither (rw (lt-leb (length b) (length rows) h)) x is;
       outline-short = omega arith;
-      text-short = omega (arith, measured .few);
+      text-short = text-few;
     }
 
     -- the text does not fit
@@ -88,25 +69,25 @@ module _ (b t rows out : Bytes) where
     text-long h x is = record {
       put = neither (rw (lt-leb (length t) (length out) (omega (arith, text-length))) (and-false (leb (length b) (length rows)))) x is;
       outline-short = omega arith;
-      text-short = omega (arith, measured .few);
+      text-short = text-few;
     }
 
     -- both are put
-    pub both-put : length b ≤ length rows → n ≤ length out → (rows-after : Bytes) → rows-after ≡ placed rows 0 b → (out-after : Bytes) (k r : ℕ)
+    pub both-put : length b ≤ length rows → n ≤ length out → (rows-after : Bytes) → (p : ℕ) → PutWhole rows rows-after 0 b (length b) p → (out-after : Bytes) (k r : ℕ)
         → PutAt out out-after 0 t k r
         → BothShort b t rows out rows-after out-after (Counted n)
     unfolding countAnswer
-    both-put h g rows-after e out-after k r put =
+    both-put h g rows-after p e out-after k r put =
         let one = le-leb (length b) (length rows) h in
         let two = le-leb (length t) (length out) (omega (arith, text-length)) in
         record {
           put = record {
             answer = rw (one, two) (ap accepted text-length);
-            outline-put = rw (one, two) e;
-            text-put = rw (one, two) (put .buffer (omega (arith, put .end, text-length)));
+            outline-put = rw (one, two) (e .buffer);
+            text-put = rw (one, two) (put .buffer (omega (arith, text-length)) (omega (arith, text-few)));
           };
           outline-short = omega arith;
-          text-short = omega (arith, measured .few);
+          text-short = text-few;
         }
 
 -- a text alone is one with no outline
@@ -141,11 +122,13 @@ is-listed s b t rows out rows-after out-after r e f h = record {
 }
 
 -- the input is too long
-pub listed-long : (s rows out after : Bytes) (r : CountAnswer) → mostInput < length s → Short (text "too long for this program\n") out after r
+pub listed-long : (s rows out after : Bytes) (r : CountAnswer) → mostInput < length s
+    → Written (accepted (text "too long for this program\n")) out after r
     → Listed s rows out rows after r
 unfolding outlineFor listing sentence
-listed-long s rows out after r h short =
+listed-long s rows out after r h w =
     let e = lt-leb (length s) mostInput h in
+    let short : Short (text "too long for this program\n") out after r = record { written = w; short = omega arith } in
     is-listed s [] (text "too long for this program\n") rows out rows after r (rw (outlineFor, e)) (rw (listing, e)) (no-outline _ rows out after r short)
 
 -- the file that has a layout, and its rows
@@ -157,46 +140,46 @@ record OfLayout (s : Bytes) (l : Layout) : Type 0 where
   file-rows : List Row
   rows-are : rows s ≡ accepted file-rows
 
-module _ (s : Bytes) (short : length s ≤ mostInput) where
+-- the file is read, and its outline written
+pub outlined-by : (s before own : Bytes) (a : LayoutAnswer) (w : CountAnswer) → layoutAnswer a ≡ layout s → OutlineWritten s before own w
+    → length before ≡ mostOutline
+    → Outlined s a w own
+outlined-by s before own a w read outlined room = record { read = read; before = before; room = room; outlined = outlined }
+
+module _ (s : Bytes) (short : length s ≤ mostInput) (a : LayoutAnswer) (w : CountAnswer) (own : Bytes) (h : Outlined s a w own) where
   is-short : leb (length s) mostInput ≡ true
   is-short = le-leb (length s) mostInput short
 
-  -- a file is refused where its layout is
-  module _ (a : LayoutAnswer) (read : layoutAnswer a ≡ layout s) where
-    pub listed-accepted : (l : Layout) → a ≡ LayoutAnswer·is.Accepted l → layout s ≡ accepted l
-    unfolding layoutAnswer
-    listed-accepted l e = sym read ∙ ap layoutAnswer e
-
-    refused-file : (r : Refusal) → a ≡ LayoutAnswer·is.Refused r → file s ≡ refused r
+  -- the file is refused
+  module _ (r : Refusal) (e : a ≡ LayoutAnswer·is.Refused r) where
+    refused-file : file s ≡ refused r
     unfolding layoutAnswer layout
-    refused-file r e = go (file s) refl (sym read ∙ ap layoutAnswer e)
+    refused-file = go (file s) refl (sym (h .read) ∙ ap layoutAnswer e)
       where
         go : (o : Outcome File) → file s ≡ o → _>>=_ o (λ f. accepted (layoutOf f)) ≡ refused r → file s ≡ refused r
         go (accepted f) q c = cc
         go (refused x) q c = cc
 
-    -- the file is refused
-    pub listed-refused : (r : Refusal) → a ≡ LayoutAnswer·is.Refused r → (rows out after : Bytes) (x : CountAnswer)
-        → Short (printed (refused r)) out after x
-        → Listed s rows out rows after x
+    pub listed-refused : (rows out after : Bytes) (x : CountAnswer) → Short (printed (refused r)) out after x → Listed s rows out rows after x
     unfolding outlineFor outlineBytes listing listed outline
-    listed-refused r e rows out after x h =
-        let f = refused-file r e in
-        is-listed s [] (printed (refused r)) rows out rows after x (rw (outlineFor, is-short, outline, refused-no-rows s r f)) (rw (listing, is-short, listed, f))
-        (no-outline _ rows out after x h)
+    listed-refused rows out after x put =
+        is-listed s [] (printed (refused r)) rows out rows after x (rw (outlineFor, is-short, outline, refused-no-rows s r refused-file))
+        (rw (listing, is-short, listed, refused-file))
+        (no-outline _ rows out after x put)
 
-  module _ (l : Layout) (read : layout s ≡ accepted l) (known : (i : ℕ) → Fits w8 (getD s i 0)) where
+  -- the file is accepted
+  module _ (l : Layout) (e : a ≡ LayoutAnswer·is.Accepted l) (known : (i : ℕ) → Fits w8 (getD s i 0)) where
     bytes : IsBytes s
     bytes i = known i .fits
 
     of : OfLayout s l
-    unfolding layout layoutOf
+    unfolding layout layoutOf layoutAnswer
     of =
         accepted-holds (OfLayout s) (layout s) l
         (accepts-bind (OfLayout s) (file s) _ λ f e.
         let rs = accepted-rows s f e in
         record { f = f; is = e; tree = refl; verdict = refl; file-rows = rs .0; rows-are = rs .1 })
-        read
+        (sym (h .read) ∙ ap layoutAnswer e)
 
     -- the outline b of the file
     module _ (b : Bytes) (is : outline s ≡ accepted b) where
@@ -206,9 +189,9 @@ module _ (s : Bytes) (short : length s ≤ mostInput) where
       outline-few : length b ≤ mostOutline
       outline-few = omega (arith, rows-read .size, accepted-holds _ (rows s) (of .file-rows) (rows-few s) (of .rows-are))
 
-      same-rows : rowsIn (length b / 16) b ≡ of .file-rows
+      same-rows : rowsIn (length b / rowBytes) b ≡ of .file-rows
       same-rows =
-          let count : length b / 16 ≡ length (of .file-rows) = omega (arith, rows-read .size) in
+          let count : length b / rowBytes ≡ length (of .file-rows) = omega (arith, rows-read .size) in
           rw count (sym (rows-read .rows))
 
       text-is : listing s ≡ fileText (l .tree) b (l .verdict)
@@ -221,35 +204,35 @@ module _ (s : Bytes) (short : length s ≤ mostInput) where
       unfolding outlineFor outlineBytes
       outline-is = rw (outlineFor, is-short, is)
 
-    -- it is written into a buffer that is long enough
-    module _ (own after : Bytes) (x : CountAnswer) (w : OutlineWritten s own after x) where
-      pub own-refused : length own ≡ 19408 → (r : Refusal) → x ≡ Refused r → (rows out : Bytes) → Listed s rows out rows out (Refused r)
-      unfolding outline countAnswer writes
-      own-refused size r e rows out =
-          let whole : outline s ≡ accepted (outlineOf (of .file-rows)) = rw (outline, of .rows-are) in
-          let fits = le-leb (length (outlineOf (of .file-rows))) (length own) (omega (arith, outline-few (outlineOf (of .file-rows)) whole)) in
-          let clash : refused r ≡ accepted (length (outlineOf (of .file-rows))) = rw (e, whole, writes, fits) at (w .written .answer) in
-          let z : _≡_ {A = ℕ} 0 1 = cc in
-          absurd (omega arith)
+    -- the outline is not refused, because the buffer is long enough
+    pub outline-refused : (r : Refusal) → w ≡ Refused r → (rows out : Bytes) → Listed s rows out rows out (Refused r)
+    unfolding outline countAnswer writes
+    outline-refused r q rows out =
+        let whole : outline s ≡ accepted (outlineOf (of .file-rows)) = rw (outline, of .rows-are) in
+        let fits = le-leb (length (outlineOf (of .file-rows))) (length (h .before)) (omega (arith, h .room, outline-few (outlineOf (of .file-rows)) whole)) in
+        let clash : refused r ≡ accepted (length (outlineOf (of .file-rows))) = rw (q, whole, writes, fits) at (h .outlined .written .answer) in
+        let z : _≡_ {A = ℕ} 0 1 = cc in
+        absurd (omega arith)
 
-      module _ (n : ℕ) (e : x ≡ Counted n) where
-        own-taken : Taken (outline s) after n
-        own-taken = written-taken (outline s) own after n (rw e at (w .written))
+    -- it is the first n bytes of the buffer
+    module _ (n : ℕ) (q : w ≡ Counted n) where
+      outline-taken : Taken (outline s) own n
+      outline-taken = written-taken (outline s) (h .before) own n (rw q at (h .outlined .written))
 
-        pub own-few : n ≤ length after
-        own-few = omega (arith, own-taken .size, length-take n after)
+      pub outline-inside : n ≤ length own
+      outline-inside = omega (arith, outline-taken .size, length-take n own)
 
-        pub own-length : length (take n after) ≡ n
-        own-length = own-taken .size
+      pub outline-length : length (take n own) ≡ n
+      outline-length = outline-taken .size
 
-        pub own-small : length (take n after) ≤ mostOutline
-        own-small = outline-few (take n after) (own-taken .is)
+      pub outline-small : length (take n own) ≤ mostOutline
+      outline-small = outline-few (take n own) (outline-taken .is)
 
-        pub own-listed : (rows out rows-after out-after : Bytes) (r : CountAnswer)
-            → BothShort (take n after) (fileText (l .tree) (take n after) (l .verdict)) rows out rows-after out-after r
-            → Listed s rows out rows-after out-after r
-        own-listed rows out rows-after out-after r =
-            is-listed s _ _ rows out rows-after out-after r (outline-is (take n after) (own-taken .is)) (text-is (take n after) (own-taken .is))
+      pub outline-listed : (rows out rows-after out-after : Bytes) (r : CountAnswer)
+          → BothShort (take n own) (fileText (l .tree) (take n own) (l .verdict)) rows out rows-after out-after r
+          → Listed s rows out rows-after out-after r
+      outline-listed rows out rows-after out-after r =
+          is-listed s _ _ rows out rows-after out-after r (outline-is (take n own) (outline-taken .is)) (text-is (take n own) (outline-taken .is))
 
 -- what the answer tells
 module _ (s rows out rows-after out-after : Bytes) (x : CountAnswer) (h : Listed s rows out rows-after out-after x) where

@@ -10,10 +10,11 @@ use Rattle.format.specs.Bytes.{Bytes, text, bit}
 use Rattle.format.specs.Numeral.{decimal}
 use Rattle.format.specs.Outline.{sum, rowFrom, unpacked, decodeRow}
 use Rattle.format.specs.Listing.{sentence, rowText}
+use Rattle.listing.specs.Text.{mostRow}
 use Rattle.format.proofs.NumeralLaws.{decimal-is}
 use Rattle.format.proofs.RowLaws.{RowFits, bit-lt}
 
--- how many bytes numbers take behind a word
+-- how many bytes numbers take after a word
 abbrev digits : List ℕ → ℕ
 digits [] = 0
 digits (n ∷ ns) = 1 + length (decimal n) + digits ns
@@ -42,7 +43,7 @@ row-fits b = record {
 }
 
 -- a row that fits has short numbers
-fitting-short : (r : Row) → RowFits r → length (rowText r) ≤ 53
+fitting-short : (r : Row) → RowFits r → length (rowText r) ≤ mostRow
 unfolding rowText
 fitting-short r h =
     let flag1 = bit-lt (r .streamed) in
@@ -63,5 +64,5 @@ fitting-short r h =
       few 1 (r .inner) (omega arith) (omega (arith, h .inner)),
     )
 
-pub row-short : (b : Bytes) → length (rowText (decodeRow b)) ≤ 53
+pub row-short : (b : Bytes) → length (rowText (decodeRow b)) ≤ mostRow
 row-short b = fitting-short (decodeRow b) (row-fits b)

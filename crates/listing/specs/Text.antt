@@ -1,28 +1,30 @@
--- Parts of a listing's text, and how they are put.
-use Prim.Native.Nat.{ℕ, _+_, _/_, _≤_}
-use mathlib.Core.Path.{_≡_}
-use mathlib.Core.List.{List, [], _∷_, _++_, flatMap}
+-- Parts of a listing's text, and the most bytes that each can have.
+use Prim.Native.Nat.{ℕ, _+_, _*_, _/_}
+use mathlib.Core.List.{List, [], _∷_, _++_, map, flatMap}
 use lib.ListN.{length}
 use Rattle.format.specs.declared.layout.Tree.{Tree}
 use Rattle.format.specs.declared.layout.Verdict.{Verdict}
 use Rattle.format.specs.Bytes.{Bytes, text}
-use Rattle.format.specs.Lent.{placed}
 use Rattle.format.specs.Numeral.{decimal}
 use Rattle.format.specs.Outline.{rowBytes}
 use Rattle.format.specs.Listing.{sentence, treeText, rowText, verdictWord}
 use Rattle.outline.specs.Row.{rowsIn}
+use Rattle.put.specs.Put.{mostDecimals}
 
--- a number behind another word
-abbrev pub nextText : ℕ → Bytes
-nextText n = text " " ++ decimal n
+-- a line of numbers after some text
+abbrev pub lineText : Bytes → List ℕ → Bytes
+lineText start ns = start ++ sentence (map decimal ns)
 
--- several
-abbrev pub nextTexts : List ℕ → Bytes
-nextTexts ns = flatMap nextText ns
+abbrev pub mostLine : ℕ → ℕ → ℕ
+mostLine start count = start + (mostDecimals (text " ") count + 1)
 
--- several, and a line end
-abbrev pub restText : List ℕ → Bytes
-restText ns = nextTexts ns ++ text "\n"
+-- every line but a row's is shorter
+abbrev pub mostShort : ℕ
+mostShort = 64
+
+-- the line of a row that is read from sixteen bytes, which hold no long numbers
+abbrev pub mostRow : ℕ
+mostRow = 53
 
 -- a line for each of the first n rows of an outline
 abbrev pub rowTexts : ℕ → Bytes → Bytes
@@ -35,9 +37,6 @@ verdictText v = sentence (text "index" ∷ verdictWord v ∷ [])
 abbrev pub fileText : Tree → Bytes → Verdict → Bytes
 fileText t b v = treeText t ++ rowTexts (length b / rowBytes) b ++ verdictText v
 
--- at most so many bytes were put at an offset, if they fit; they end at r, also where they do not fit
-pub record PutAt (before after : Bytes) (at : ℕ) (bytes : Bytes) (most r : ℕ) : Type 0 where
-  pub end : r ≡ at + length bytes
-  pub few : length bytes ≤ most
-  pub size : length after ≡ length before
-  pub buffer : r ≤ length before → after ≡ placed before at bytes
+-- the most bytes that they have where there are so many rows
+abbrev pub mostFile : ℕ → ℕ
+mostFile count = mostShort + mostRow * count + mostShort

@@ -2,20 +2,33 @@
 mod text;
 
 ghost use Prim.Native.Nat.{_≤_};
-ghost use mathlib.Core.Path.{_≡_};
 ghost use lib.ListN.{length};
-ghost use Rattle.format.specs.declared.answer.CountAnswer.the-variants.{Refused};
-ghost use Rattle.format.specs.File.{layout as File·layout};
-ghost use Rattle.format.specs.Listing.{mostInput, printed};
-ghost use Rattle.format.specs.Outcome.{accepted, refused as Outcome·refused, refusal};
 ghost use Rattle.format.specs.Listed.{Listed, ListedLent};
-ghost use Rattle.listing.specs.Listing.{mostOutline, BothShort, Short};
+ghost use Rattle.format.specs.Listing.{mostInput, printed};
+ghost use Rattle.format.specs.Outcome.{refused as Outcome·refused};
+ghost use Rattle.listing.specs.Listing.{mostOutline, BothShort, Outlined, Short};
 ghost use Rattle.listing.specs.Text.{fileText};
 use format::answer::CountAnswer;
 use format::answer::LayoutAnswer;
 use format::layout::Layout;
-use format::offset::Offset;
+use format::limits::ROW_BYTES;
+use format::refusal::BUFFER_TOO_SHORT;
 use format::refusal::Refusal;
+use put::text::put_text;
+use put::text::write_text;
+
+// The longest file that is listed, in bytes.
+pub const MOST_INPUT: usize = 65536;
+
+// The bytes of a buffer that is long enough for every listing and every outline.
+pub const LENT_BYTES: usize = 65536;
+
+// The most bytes of the outline of a listed file. A block takes 54 bytes of the file or more: its mark, the size of its header, and
+// the least header.
+const MOST_OUTLINE: usize = MOST_INPUT / 54 * ROW_BYTES;
+
+// Every line but a row's is shorter.
+const MOST_SHORT: usize = 64;
 
 // Writes the listing of a file at the start of one buffer and the file's outline at the start of another, and answers how
 // many bytes the listing has; or 21 where one of the buffers is too short, and then neither changes. A file that is refused
@@ -23,17 +36,17 @@ use format::refusal::Refusal;
 pub fn list(s: &[u8], rows: &mut [u8], out: &mut [u8]) -> CountAnswer
     ensures { λ r. ⌜ Listed (now (s .entry)) (now (rows .entry)) (now (out .entry)) (now (rows .exit)) (now (out .exit)) r ⌝ }
 {
-    if 65536 < s.len() {
-        return write_words(b"too long for this program\n", out);
+    if MOST_INPUT < s.len() {
+        return write_text(b"too long for this program\n", out);
     }
-    match file::layout::read(s) {
-        LayoutAnswer::Refused(r) => write_refused(r, out),
-        LayoutAnswer::Accepted(l) => list_accepted(s, l, rows, out),
-    }
+    let mut own = [0u8; MOST_OUTLINE];
+    let answer = file::layout::read(s);
+    let written = nest::outline(s, &mut own);
+    list_outlined(s, answer, written, &own, rows, out)
 }
 
 // The same with buffers that are long enough for every file: the first bytes of one are the listing.
-pub fn list_lent(s: &[u8], rows: &mut [u8; 65536], out: &mut [u8; 65536]) -> usize
+pub fn list_lent(s: &[u8], rows: &mut [u8; LENT_BYTES], out: &mut [u8; LENT_BYTES]) -> usize
     ensures { λ r. ⌜ ListedLent (now (s .entry)) (now (rows .entry)) (now (out .entry)) (now (rows .exit)) (now (out .exit)) r ⌝ }
 {
     match list(s, rows, out) {
@@ -42,44 +55,37 @@ pub fn list_lent(s: &[u8], rows: &mut [u8; 65536], out: &mut [u8; 65536]) -> usi
     }
 }
 
-// Writes a text of at most 32 bytes.
-fn write_words(words: &[u8], out: &mut [u8]) -> CountAnswer
-    requires { ⌜ length (now words) ≤ 32 ⌝ }
-    ensures { λ r. ⌜ Short (now (words .entry)) (now (out .entry)) (now (out .exit)) r ⌝ }
-{
-    if out.len() < words.len() {
-        return too_short();
-    }
-    text::put_words(out, 0, words);
-    CountAnswer::Counted(words.len() as u64)
-}
-
-// Writes the line of a refusal, which is measured first.
+// Writes the line of a refusal.
 fn write_refused(r: Refusal, out: &mut [u8]) -> CountAnswer
     ensures { λ x. ⌜ Short (printed (Outcome·refused r)) (now (out .entry)) (now (out .exit)) x ⌝ }
 {
-    let mut nothing = [0u8; 1];
-    let n = text::put_refused(&mut nothing, r);
-    if out.len() < n {
-        return too_short();
-    }
-    text::put_refused(out, r);
-    CountAnswer::Counted(n as u64)
+    let mut own = [0u8; MOST_SHORT];
+    let end = text::put_refused(&mut own, r);
+    write_text(&own[..end], out)
 }
 
-// The listing of an accepted file. The outline is made in a buffer that is long enough for every file of 65,536 bytes.
-fn list_accepted(s: &[u8], l: Layout, rows: &mut [u8], out: &mut [u8]) -> CountAnswer
-    requires { ⌜ File·layout (now s) ≡ accepted l ⌝ }
+// The same for a file of this layout, whose outline was written into a buffer that is long enough.
+fn list_outlined(
+    s: &[u8],
+    answer: LayoutAnswer,
+    written: CountAnswer,
+    own: &[u8],
+    rows: &mut [u8],
+    out: &mut [u8],
+) -> CountAnswer
     requires { ⌜ length (now s) ≤ mostInput ⌝ }
+    requires { ⌜ Outlined (now s) answer written (now own) ⌝ }
     ensures { λ r. ⌜ Listed (now (s .entry)) (now (rows .entry)) (now (out .entry)) (now (rows .exit)) (now (out .exit)) r ⌝ }
 {
-    let mut own = [0u8; 19408];
-    match nest::outline(s, &mut own) {
-        CountAnswer::Refused(r) => CountAnswer::Refused(r),
-        CountAnswer::Counted(n) => {
-            let end = n as usize;
-            write_both(&own[..end], l, rows, out)
-        }
+    match answer {
+        LayoutAnswer::Refused(r) => write_refused(r, out),
+        LayoutAnswer::Accepted(l) => match written {
+            CountAnswer::Refused(r) => CountAnswer::Refused(r),
+            CountAnswer::Counted(n) => {
+                let end = n as usize;
+                write_both(&own[..end], l, rows, out)
+            }
+        },
     }
 }
 
@@ -94,22 +100,12 @@ fn write_both(b: &[u8], l: Layout, rows: &mut [u8], out: &mut [u8]) -> CountAnsw
     let mut nothing = [0u8; 1];
     let n = text::put_file(&mut nothing, tree, b, verdict);
     if rows.len() < b.len() {
-        return too_short();
+        return CountAnswer::refuse(BUFFER_TOO_SHORT, 0);
     }
     if out.len() < n {
-        return too_short();
+        return CountAnswer::refuse(BUFFER_TOO_SHORT, 0);
     }
-    put::text::put_text(rows, 0, b);
+    put_text(rows, 0, b);
     text::put_file(out, tree, b, verdict);
     CountAnswer::Counted(n as u64)
-}
-
-// That a buffer is too short.
-fn too_short() -> CountAnswer
-    ensures { λ r. ⌜ r ≡ Refused (refusal 21 0) ⌝ }
-{
-    CountAnswer::Refused(Refusal {
-        number: 21,
-        place: Offset(0),
-    })
 }

@@ -1,133 +1,70 @@
 // Parts of the text, put at an offset of a buffer. Each function answers where its part ends, also where the buffer is too
-// short: what is put into an empty buffer is only measured. Each promise names the most bytes that the part can have: 21 for a
-// number and the space before it, 32 for words, 53 for the line of a row that is read from sixteen bytes.
-ghost use Prim.Native.Nat.{_+_, _*_, _/_, _^_, _≤_, _<_};
-ghost use mathlib.Core.List.{_∷_, map};
+// short: what is put into an empty buffer is only measured. Each promise names the most bytes that the part can have.
+ghost use Prim.Native.Nat.{_+_, _*_, _/_, _≤_};
 ghost use lib.ListN.{length, take, drop};
-ghost use Rattle.format.specs.Numeral.{decimal as Numeral·decimal};
-ghost use Rattle.format.specs.Listing.{printed, rowText, sentence, treeText};
+ghost use Rattle.format.specs.Listing.{printed, rowText, treeText};
 ghost use Rattle.format.specs.Outcome.{refused};
-ghost use Rattle.format.specs.Outline.{decodeRow};
-ghost use Rattle.listing.specs.Listing.{mostOutline};
-ghost use Rattle.listing.specs.Text.{fileText, nextText, nextTexts, restText, rowTexts, verdictText, PutAt};
+ghost use Rattle.format.specs.Outline.{decodeRow, rowBytes};
+ghost use Rattle.listing.specs.Text.{fileText, lineText, mostFile, mostLine, mostRow, mostShort, rowTexts, verdictText};
+ghost use Rattle.put.specs.Put.{PutAt};
 use format::answer::RowAnswer;
 use format::layout::Tree;
 use format::layout::Verdict;
+use format::limits::ROW_BYTES;
 use format::refusal::Refusal;
 use format::row::Row;
 use outline::row;
-use put::decimal;
-use put::text;
+use put::decimal::put_decimals;
+use put::text::put_text;
 
-// A space and a number.
-fn put_next(out: &mut [u8], at: usize, x: u64) -> usize
-    requires { ⌜ at + 21 < 2 ^ 64 ⌝ }
-    ensures { λ r. ⌜ PutAt (now (out .entry)) (now (out .exit)) at (nextText x) 21 r ⌝ }
+// A line of numbers after some text.
+fn put_line(out: &mut [u8], at: usize, start: &[u8], numbers: &[u64]) -> usize
+    ensures { λ r. ⌜ PutAt (now (out .entry)) (now (out .exit)) at (lineText (now (start .entry)) (now (numbers .entry))) (mostLine (length (now (start .entry))) (length (now (numbers .entry)))) r ⌝ }
 {
-    text::put_text(out, at, b" ");
-    decimal::put_decimal(out, at + 1, x);
-    at + 1 + decimal::decimal_length(x)
-}
-
-// The same for several numbers.
-fn put_nexts(out: &mut [u8], at: usize, numbers: &[u64]) -> usize
-    requires { ⌜ length (now numbers) ≤ 9 ⌝ }
-    requires { ⌜ at + 189 < 2 ^ 64 ⌝ }
-    ensures { λ r. ⌜ PutAt (now (out .entry)) (now (out .exit)) at (nextTexts (now (numbers .entry))) 189 r ⌝ }
-{
-    let mut end = at;
-    let mut i = 0;
-    while i < numbers.len() {
-        end = put_next(out, end, numbers[i]);
-        i += 1;
-    }
-    end
-}
-
-// Any text of at most 32 bytes.
-pub(crate) fn put_words(out: &mut [u8], at: usize, words: &[u8]) -> usize
-    requires { ⌜ length (now words) ≤ 32 ⌝ }
-    requires { ⌜ at + 32 < 2 ^ 64 ⌝ }
-    ensures { λ r. ⌜ PutAt (now (out .entry)) (now (out .exit)) at (now (words .entry)) 32 r ⌝ }
-{
-    text::put_text(out, at, words);
-    at + words.len()
-}
-
-// Numbers, each with a space before it, and a line end.
-fn put_rest(out: &mut [u8], at: usize, numbers: &[u64]) -> usize
-    requires { ⌜ length (now numbers) ≤ 9 ⌝ }
-    requires { ⌜ at + 221 < 2 ^ 64 ⌝ }
-    ensures { λ r. ⌜ PutAt (now (out .entry)) (now (out .exit)) at (restText (now (numbers .entry))) 221 r ⌝ }
-{
-    let end = put_nexts(out, at, numbers);
-    put_words(out, end, b"\n")
-}
-
-// A line of a word and numbers behind it.
-fn put_line(out: &mut [u8], at: usize, word: &[u8], numbers: &[u64]) -> usize
-    requires { ⌜ length (now word) ≤ 32 ⌝ }
-    requires { ⌜ length (now numbers) ≤ 9 ⌝ }
-    requires { ⌜ at + 253 < 2 ^ 64 ⌝ }
-    ensures { λ r. ⌜ PutAt (now (out .entry)) (now (out .exit)) at (sentence (now (word .entry) ∷ map Numeral·decimal (now (numbers .entry)))) 253 r ⌝ }
-{
-    let end = put_words(out, at, word);
-    put_rest(out, end, numbers)
+    let from = put_text(out, at, start);
+    let to = put_decimals(out, from, b" ", numbers);
+    put_text(out, to, b"\n")
 }
 
 // The line of a refusal.
 pub(crate) fn put_refused(out: &mut [u8], r: Refusal) -> usize
-    ensures { λ x. ⌜ PutAt (now (out .entry)) (now (out .exit)) 0 (printed (refused r)) 253 x ⌝ }
+    ensures { λ x. ⌜ PutAt (now (out .entry)) (now (out .exit)) 0 (printed (refused r)) mostShort x ⌝ }
 {
     let numbers = [r.number as u64, r.place.0];
-    put_line(out, 0, b"refused", &numbers)
+    put_line(out, 0, b"refused ", &numbers)
 }
 
 // The line of a tree.
 fn put_tree(out: &mut [u8], t: Tree) -> usize
-    ensures { λ r. ⌜ PutAt (now (out .entry)) (now (out .exit)) 0 (treeText t) 253 r ⌝ }
+    ensures { λ r. ⌜ PutAt (now (out .entry)) (now (out .exit)) 0 (treeText t) mostShort r ⌝ }
 {
     match t {
-        Tree::NoTree => put_words(out, 0, b"tree none\n"),
+        Tree::NoTree => put_text(out, 0, b"tree none\n"),
         Tree::Found {
             start,
             end,
             room_end: _,
         } => {
             let numbers = [start.0, end.0];
-            put_line(out, 0, b"tree", &numbers)
+            put_line(out, 0, b"tree ", &numbers)
         }
     }
 }
 
-// A line of numbers, at least one.
-fn put_numbers(out: &mut [u8], at: usize, numbers: &[u64]) -> usize
-    requires { ⌜ 1 ≤ length (now numbers) ⌝ }
-    requires { ⌜ length (now numbers) ≤ 10 ⌝ }
-    requires { ⌜ at + 253 < 2 ^ 64 ⌝ }
-    ensures { λ r. ⌜ PutAt (now (out .entry)) (now (out .exit)) at (sentence (map Numeral·decimal (now (numbers .entry)))) 253 r ⌝ }
-{
-    let first = numbers[0];
-    decimal::put_decimal(out, at, first);
-    put_rest(out, at + decimal::decimal_length(first), &numbers[1..])
-}
-
-// The line of a row.
+// The line of a row. Its bound is that of any ten numbers: it does not know that the row was read from its bytes.
 fn put_row(out: &mut [u8], at: usize, r: Row) -> usize
-    requires { ⌜ at + 253 < 2 ^ 64 ⌝ }
-    ensures { λ x. ⌜ PutAt (now (out .entry)) (now (out .exit)) at (rowText r) 253 x ⌝ }
+    ensures { λ x. ⌜ PutAt (now (out .entry)) (now (out .exit)) at (rowText r) (mostLine 0 10) x ⌝ }
 {
     let numbers = fields::row_fields(r);
-    put_numbers(out, at, &numbers)
+    put_line(out, at, b"", &numbers)
 }
 
 // The line of row number k of an outline.
 fn put_row_at(out: &mut [u8], at: usize, b: &[u8], k: usize) -> usize
-    requires { ⌜ k * 16 + 16 ≤ length (now b) ⌝ }
-    requires { ⌜ at + 253 < 2 ^ 64 ⌝ }
-    ensures { λ x. ⌜ PutAt (now (out .entry)) (now (out .exit)) at (rowText (decodeRow (take 16 (drop (k * 16) (now (b .entry)))))) 53 x ⌝ }
+    requires { ⌜ k * rowBytes + rowBytes ≤ length (now b) ⌝ }
+    ensures { λ x. ⌜ PutAt (now (out .entry)) (now (out .exit)) at (rowText (decodeRow (take rowBytes (drop (k * rowBytes) (now (b .entry)))))) mostRow x ⌝ }
 {
-    match row::read_row(b, k * 16) {
+    match row::read_row(b, k * ROW_BYTES) {
         RowAnswer::Found(r) => put_row(out, at, r),
         RowAnswer::NoSuchRow => at,
         RowAnswer::Refused(_) => at,
@@ -136,13 +73,11 @@ fn put_row_at(out: &mut [u8], at: usize, b: &[u8], k: usize) -> usize
 
 // The lines of all rows of an outline.
 fn put_rows(out: &mut [u8], at: usize, b: &[u8]) -> usize
-    requires { ⌜ length (now b) ≤ mostOutline ⌝ }
-    requires { ⌜ at ≤ 253 ⌝ }
-    ensures { λ r. ⌜ PutAt (now (out .entry)) (now (out .exit)) at (rowTexts (length (now (b .entry)) / 16) (now (b .entry))) 64289 r ⌝ }
+    ensures { λ r. ⌜ PutAt (now (out .entry)) (now (out .exit)) at (rowTexts (length (now (b .entry)) / rowBytes) (now (b .entry))) (mostRow * (length (now (b .entry)) / rowBytes)) r ⌝ }
 {
     let mut end = at;
     let mut k = 0;
-    while k < b.len() / 16 {
+    while k < b.len() / ROW_BYTES {
         end = put_row_at(out, end, b, k);
         k += 1;
     }
@@ -151,21 +86,19 @@ fn put_rows(out: &mut [u8], at: usize, b: &[u8]) -> usize
 
 // The line of a verdict.
 fn put_verdict(out: &mut [u8], at: usize, v: Verdict) -> usize
-    requires { ⌜ at + 32 < 2 ^ 64 ⌝ }
-    ensures { λ r. ⌜ PutAt (now (out .entry)) (now (out .exit)) at (verdictText v) 32 r ⌝ }
+    ensures { λ r. ⌜ PutAt (now (out .entry)) (now (out .exit)) at (verdictText v) mostShort r ⌝ }
 {
     match v {
-        Verdict::Absent => put_words(out, at, b"index absent\n"),
-        Verdict::Good => put_words(out, at, b"index good\n"),
-        Verdict::IgnoredForm => put_words(out, at, b"index ignored-form\n"),
-        Verdict::IgnoredList => put_words(out, at, b"index ignored-list\n"),
+        Verdict::Absent => put_text(out, at, b"index absent\n"),
+        Verdict::Good => put_text(out, at, b"index good\n"),
+        Verdict::IgnoredForm => put_text(out, at, b"index ignored-form\n"),
+        Verdict::IgnoredList => put_text(out, at, b"index ignored-list\n"),
     }
 }
 
 // All lines of an accepted file, whose outline is b.
 pub(crate) fn put_file(out: &mut [u8], t: Tree, b: &[u8], v: Verdict) -> usize
-    requires { ⌜ length (now b) ≤ mostOutline ⌝ }
-    ensures { λ r. ⌜ PutAt (now (out .entry)) (now (out .exit)) 0 (fileText t (now (b .entry)) v) 64574 r ⌝ }
+    ensures { λ r. ⌜ PutAt (now (out .entry)) (now (out .exit)) 0 (fileText t (now (b .entry)) v) (mostFile (length (now (b .entry)) / rowBytes)) r ⌝ }
 {
     let tree_end = put_tree(out, t);
     let rows_end = put_rows(out, tree_end, b);

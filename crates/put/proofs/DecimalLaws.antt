@@ -9,10 +9,10 @@ use Rattle.format.specs.Lent.{placed}
 use Rattle.format.specs.Numeral.{decimal}
 use Rattle.format.proofs.NumeralLaws.{decimal-is, decimal-one, decimal-more, length-snoc}
 use Rattle.put.specs.Decimal.{DecimalLength}
-use Rattle.put.proofs.PutLaws.{sets-last, placed-long, placed-fits}
+use Rattle.put.proofs.PutLaws.{sets-last, placed-fits}
 
 -- a number has a digit
-pub decimal-some : (x : ℕ) → 1 ≤ length (decimal x)
+decimal-some : (x : ℕ) → 1 ≤ length (decimal x)
 decimal-some x = decimal-is x .some-digit
 
 -- one below ten has one
@@ -85,11 +85,7 @@ module _ (before : Bytes) (at x : ℕ) where
     pub digits-done : rest < 10 → set out at (48 + rest) ≡ sets before at (decimal x)
     digits-done p = rw (decimal-one rest p) at (h .put)
 
-module _ (out : Bytes) (at n x : ℕ) (e : DecimalLength x n) where
-  -- a number that ends behind the buffer
-  pub decimal-long : length out - at < n → out ≡ placed out at (decimal x)
-  decimal-long h = placed-long out at (decimal x) n h (sym (e .is))
-
-  -- one that fits
-  pub decimal-fits : (after : Bytes) → after ≡ sets out at (decimal x) → at ≤ length out → n ≤ length out - at → after ≡ placed out at (decimal x)
-  decimal-fits after f h g = placed-fits out at (decimal x) after n f h g (sym (e .is))
+-- the digits fit
+pub decimal-fits : (out after : Bytes) (at n x : ℕ) → DecimalLength x n → after ≡ sets out at (decimal x) → at ≤ length out → n ≤ length out - at
+    → after ≡ placed out at (decimal x)
+decimal-fits out after at n x e f h g = placed-fits out at (decimal x) after n f h g (sym (e .is))

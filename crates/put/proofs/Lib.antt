@@ -1,5 +1,6 @@
 -- Laws of buffers that bytes are put into.
 pub mod PutLaws
+pub mod PartLaws
 pub mod NumberLaws
 pub mod DecimalLaws
 pub mod TextLaws

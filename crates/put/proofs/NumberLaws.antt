@@ -19,7 +19,7 @@ unfolding numberBytes flatMap
 numbers-length [] = refl
 numbers-length (x ∷ ns) = rw (length-append, to-bytes-length, numbers-length ns) (omega arith)
 
--- the k-th number and those behind it
+-- the k-th number and those after it
 numbers-next : (ns : List ℕ) (k : ℕ) → k < length ns → numberBytes (drop k ns) ≡ toBytes 8 (getD ns k 0) ++ numberBytes (drop (k + 1) ns)
 unfolding numberBytes flatMap
 numbers-next ns k h = rw (drop-cons ns k 0 h, add-one k)

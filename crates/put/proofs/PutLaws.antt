@@ -39,8 +39,8 @@ pub placed-sets : (out : Bytes) (n : ℕ) (bytes : Bytes) → n + length bytes �
 unfolding placed
 placed-sets out n bytes h = rw (placed, le-leb (n + length bytes) (length out) h) (sym (sets-eq bytes out n h))
 
--- bytes and others behind them are put in two steps
-pub sets-append : (out : Bytes) (n : ℕ) (bytes others : Bytes) → sets out n (bytes ++ others) ≡ sets (sets out n bytes) (n + length bytes) others
+-- bytes and others after them are put in two steps
+sets-append : (out : Bytes) (n : ℕ) (bytes others : Bytes) → sets out n (bytes ++ others) ≡ sets (sets out n bytes) (n + length bytes) others
 sets-append out n [] others = rw (add-zero n)
 sets-append out n (a ∷ bytes) others =
     let e : suc n + length bytes ≡ n + suc (length bytes) = omega arith in
@@ -87,7 +87,7 @@ placed-length out n bytes = by-test (leb (n + length bytes) (length out)) refl
     by-test true e = rw (placed-sets out n bytes (leb-true (n + length bytes) (length out) e), length-sets)
     by-test false e = rw (placed, e)
 
--- where both fit, bytes placed directly behind others are placed with them
+-- where both fit, bytes placed directly after others are placed with them
 pub placed-append : (out : Bytes) (n : ℕ) (bytes others : Bytes) → n + length bytes + length others ≤ length out
     → placed (placed out n bytes) (n + length bytes) others ≡ placed out n (bytes ++ others)
 placed-append out n bytes others h =
@@ -109,11 +109,11 @@ module _ (out : Bytes) (at : ℕ) (bytes : Bytes) where
   unfolding placed
   placed-none h = rw (placed, lt-leb (at + length bytes) (length out) h)
 
-  -- they begin behind the buffer
+  -- they begin after the buffer's end
   pub placed-outside : length out < at → out ≡ placed out at bytes
   placed-outside h = placed-none (omega arith)
 
-  -- they end behind the buffer
+  -- they end after the buffer's end
   pub placed-long : (n : ℕ) → length out - at < n → length bytes ≡ n → out ≡ placed out at bytes
   placed-long n h e = placed-none (omega arith)
 
@@ -122,6 +122,6 @@ module _ (out : Bytes) (at : ℕ) (bytes : Bytes) where
       → after ≡ placed out at bytes
   placed-fits after n f h g e = f ∙ sym (placed-sets out at bytes (omega arith))
 
--- a number that ends behind the buffer
+-- a number ends after the buffer's end
 pub number-long : (out : Bytes) (at width x : ℕ) → length out - at < width → out ≡ placed out at (toBytes width x)
 number-long out at width x h = placed-long out at (toBytes width x) width h (to-bytes-length width x)

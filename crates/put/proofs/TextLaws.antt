@@ -1,20 +1,15 @@
 -- Texts put into a buffer.
-use Prim.Native.Nat.{ℕ, _+_, _-_, _≤_, _<_}
+use Prim.Native.Nat.{ℕ, _+_, _-_, _≤_}
 use native.Mathlib.Omega.{arith}
-use mathlib.Core.Path.{_≡_, refl}
+use mathlib.Core.Path.{_≡_}
 use mathlib.Core.List.{_++_, append-nil, append-assoc}
 use lib.ListN.{length, take, drop, length-drop, drop-of-length-le}
 use lib.Seq.{drop-drop, take-all}
 use borrow.Author.Tests.{le-leb}
 use Rattle.format.specs.Bytes.{Bytes}
 use Rattle.format.specs.Lent.{placed}
-use Rattle.put.proofs.PutLaws.{placed-long}
 
 module _ (out text : Bytes) (at : ℕ) where
-  -- a text that ends behind the buffer
-  pub text-long : length out - at < length text → out ≡ placed out at text
-  text-long h = placed-long out at text (length text) h refl
-
   -- a text is copied into the part of the buffer from an offset on
   pub text-copied : (part : Bytes) → part ≡ take (length text) text ++ drop (length text) (take (length out - at) (drop at out)) → at ≤ length out
       → length text ≤ length out - at

@@ -1,5 +1,5 @@
 -- What a writer answers and leaves: a refusal, a buffer that is too short, bytes that fit.
-use Prim.Native.Nat.{ℕ, _+_, _≤_, _<_}
+use Prim.Native.Nat.{ℕ, _+_, _^_, _≤_, _<_}
 use native.Mathlib.Omega.{arith}
 use mathlib.Core.Path.{_≡_, refl, sym, ap, _∙_}
 use mathlib.Core.Bool.{Bool, true, false}
@@ -15,6 +15,7 @@ use Rattle.format.specs.Bytes.{Bytes}
 use Rattle.format.specs.Lent.{placed, writes, leaves}
 use Rattle.format.specs.Outcome.{Outcome, accepted, refused, refusal}
 use Rattle.format.specs.Written.{Written}
+use Rattle.put.specs.Put.{PutWhole, PutAt}
 use Rattle.put.proofs.PutLaws.{placed-none}
 
 module _ (result : Outcome Bytes) (out : Bytes) where
@@ -36,10 +37,34 @@ module _ (result : Outcome Bytes) (out : Bytes) where
     unfolding countAnswer writes leaves
     written-placed p after f n e = rw (h, e) (record { answer = rw (le-leb (length bytes) (length out) p); buffer = f })
 
+-- a text is written, or the buffer is too short
+module _ (t out : Bytes) where
+  pub text-short : length out < length t → (x : CountAnswer) → x ≡ Refused (refusal 21 0) → Written (accepted t) out out x
+  text-short = written-short (accepted t) out t refl
+
+  pub text-written : length t ≤ length out → (after : Bytes) (most r : ℕ) → PutWhole out after 0 t most r → Written (accepted t) out after (Counted (length t))
+  text-written h after most r put = written-placed (accepted t) out t refl h after (put .buffer) (length t) refl
+
 -- bytes that fit at the buffer's start stand there
 start-placed : (out bytes : Bytes) → length bytes ≤ length out → take (length bytes) (placed out 0 bytes) ≡ bytes
 unfolding placed
 start-placed out bytes h = rw (placed, le-leb (0 + length bytes) (length out) (omega arith)) (take-append-seam bytes (drop (0 + length bytes) out))
+
+-- at most so many bytes as a buffer has were put at its start, and end at n: they are its first n bytes
+module _ (own after bytes : Bytes) (most n : ℕ) (put : PutAt own after 0 bytes most n) (room : length own ≡ most) (small : most < 2 ^ 64) where
+  own-size : n ≡ length bytes
+  own-size = omega (arith, put .end, put .few)
+
+  pub own-inside : n ≤ length after
+  own-inside = omega (arith, own-size, put .few, put .size)
+
+  pub own-bytes : take n after ≡ bytes
+  own-bytes =
+      let all = put .buffer (omega (arith, put .few)) (omega (arith, put .few)) in
+      rw (own-size, all) (start-placed own bytes (omega (arith, put .few)))
+
+  pub own-length : length (take n after) ≡ n
+  own-length = ap length own-bytes ∙ sym own-size
 
 -- the result is what stands in the first n bytes of a buffer
 pub record Taken (result : Outcome Bytes) (after : Bytes) (n : ℕ) : Type 0 where

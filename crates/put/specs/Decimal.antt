@@ -3,9 +3,10 @@ use Prim.Native.Nat.{ℕ, _≤_}
 use mathlib.Core.Path.{_≡_}
 use lib.ListN.{length}
 use Rattle.format.specs.Numeral.{decimal}
+use Rattle.put.specs.Put.{mostDigits}
 
 -- n is how many digits x has, a number of 64 bits
 pub record DecimalLength (x n : ℕ) : Type 0 where
   pub is : n ≡ length (decimal x)
   pub some-digit : 1 ≤ n
-  pub few : n ≤ 20
+  pub few : n ≤ mostDigits

@@ -1,2 +1,3 @@
 -- What the contracts of writers cite.
+pub mod Put
 pub mod Decimal

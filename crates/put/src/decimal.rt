@@ -3,12 +3,48 @@ ghost use Prim.Native.Nat.{_+_, _≤_};
 ghost use mathlib.Core.Path.{_≡_};
 ghost use lib.ListN.{length};
 ghost use lib.Seq.{sets};
-ghost use Rattle.format.specs.Lent.{placed};
 ghost use Rattle.format.specs.Numeral.{decimal};
 ghost use Rattle.put.specs.Decimal.{DecimalLength};
+ghost use Rattle.put.specs.Put.{PutAt, PutWhole, decimals, mostDigits, mostDecimals};
+use crate::text::put_text;
+use std::num::wrapping_add_usize;
+
+// Puts numbers in decimal at an offset, with a text between each two, and answers where they end. Each of the parts is put
+// only if it fits: what is put into an empty buffer is measured.
+pub fn put_decimals(out: &mut [u8], at: usize, between: &[u8], numbers: &[u64]) -> usize
+    ensures { λ r. ⌜ PutAt (now (out .entry)) (now (out .exit)) at (decimals (now (between .entry)) (now (numbers .entry))) (mostDecimals (now (between .entry)) (length (now (numbers .entry)))) r ⌝ }
+{
+    let mut end = at;
+    let mut i = 0;
+    while i < numbers.len() {
+        let number_end = put_decimal(out, end, numbers[i]);
+        i += 1;
+        if i == numbers.len() {
+            return number_end;
+        }
+        end = put_text(out, number_end, between);
+    }
+    end
+}
+
+// Puts a number in decimal at an offset, and answers where it ends. Where its digits do not fit, nothing changes.
+pub fn put_decimal(out: &mut [u8], at: usize, x: u64) -> usize
+    ensures { λ r. ⌜ PutWhole (now (out .entry)) (now (out .exit)) at (decimal x) mostDigits r ⌝ }
+{
+    let n = decimal_length(x);
+    let end = wrapping_add_usize(at, n);
+    if out.len() < at {
+        return end;
+    }
+    if out.len() - at < n {
+        return end;
+    }
+    put_digits(out, at, n, x);
+    end
+}
 
 // How many digits a number has in decimal: 1 to 20.
-pub fn decimal_length(x: u64) -> usize
+fn decimal_length(x: u64) -> usize
     ensures { λ r. ⌜ DecimalLength x r ⌝ }
 {
     let mut n = 1;
@@ -20,21 +56,7 @@ pub fn decimal_length(x: u64) -> usize
     n
 }
 
-// Puts a number in decimal at an offset. Where its digits do not fit, nothing changes.
-pub fn put_decimal(out: &mut [u8], at: usize, x: u64)
-    ensures { λ _. ⌜ now (out .exit) ≡ placed (now (out .entry)) at (decimal x) ⌝ }
-{
-    if out.len() < at {
-        return;
-    }
-    let n = decimal_length(x);
-    if out.len() - at < n {
-        return;
-    }
-    put_digits(out, at, n, x);
-}
-
-// The same for its n digits where they fit: the last is put first.
+// Puts the n digits of a number where they fit: the last is put first.
 fn put_digits(out: &mut [u8], at: usize, n: usize, x: u64)
     requires { ⌜ n ≡ length (decimal x) ⌝ }
     requires { ⌜ at + n ≤ length (now out) ⌝ }

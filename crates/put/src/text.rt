@@ -1,16 +1,34 @@
 // Texts put into a lent buffer.
-ghost use mathlib.Core.Path.{_≡_};
-ghost use Rattle.format.specs.Lent.{placed};
+ghost use Rattle.format.specs.Outcome.{accepted};
+ghost use Rattle.format.specs.Written.{Written};
+ghost use Rattle.put.specs.Put.{PutWhole};
+ghost use lib.ListN.{length};
+use format::answer::CountAnswer;
+use format::refusal::BUFFER_TOO_SHORT;
+use std::num::wrapping_add_usize;
 
-// Puts a text at an offset. Where it does not fit, nothing changes.
-pub fn put_text(out: &mut [u8], at: usize, text: &[u8])
-    ensures { λ _. ⌜ now (out .exit) ≡ placed (now (out .entry)) at (now (text .entry)) ⌝ }
+// Puts a text at an offset, and answers where it ends. Where it does not fit, nothing changes.
+pub fn put_text(out: &mut [u8], at: usize, text: &[u8]) -> usize
+    ensures { λ r. ⌜ PutWhole (now (out .entry)) (now (out .exit)) at (now (text .entry)) (length (now (text .entry))) r ⌝ }
 {
+    let end = wrapping_add_usize(at, text.len());
     if out.len() < at {
-        return;
+        return end;
     }
     if out.len() - at < text.len() {
-        return;
+        return end;
     }
     bytes::copy(text, &mut out[at..]);
+    end
+}
+
+// Writes a text at the buffer's start, and answers how many bytes it has; or 21 where the buffer is too short.
+pub fn write_text(text: &[u8], out: &mut [u8]) -> CountAnswer
+    ensures { λ r. ⌜ Written (accepted (now (text .entry))) (now (out .entry)) (now (out .exit)) r ⌝ }
+{
+    if out.len() < text.len() {
+        return CountAnswer::refuse(BUFFER_TOO_SHORT, 0);
+    }
+    put_text(out, 0, text);
+    CountAnswer::Counted(text.len() as u64)
 }

@@ -204,6 +204,14 @@ module _ (s : Bytes) (at : ℕ) (r : Line) (read : LineRead s at r) where
     pub ended-end : m ≤ length s
     ended-end = omega (arith, ended-inside)
 
+    -- the next line begins inside
+    pub ended-next : next ≤ length s
+    ended-next = ended-inside .inside
+
+    -- a line takes at least one byte
+    pub ended-count : (k : ℕ) → k ≤ at → k + 1 ≤ next
+    ended-count k h = omega (arith, ended-inside)
+
     -- less is left behind it
     pub ended-less : length s - next < length s - at
     ended-less = omega (arith, ended-inside)

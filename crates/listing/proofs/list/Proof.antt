@@ -1,6 +1,6 @@
--- One line where the file is too long or refused, and else all lines.
+-- One line where the file is too long, and else what the layout and the outline tell.
 use borrow.Author.Needs.{needs}
-use Rattle.listing.proofs.ListLaws.{listed-long, listed-accepted, listed-refused}
+use Rattle.listing.proofs.ListLaws.{listed-long, outlined-by}
 use Rattle.listing.proofs.list.Statement.{statement}
 use Rattle.listing.proofs.list.Tie as tie
 
@@ -16,9 +16,7 @@ list-spec =
     (λ c. search needs)
     (λ c κs. search needs)
     (λ c. search needs)
-    (λ c κs. search (listed-accepted, needs))
-    (λ c. search needs)
-    (λ c. search (listed-refused, needs))
+    (λ c κs. search (outlined-by, needs))
     (λ c. search needs)
     (λ c. search needs)
     (λ c. search needs))

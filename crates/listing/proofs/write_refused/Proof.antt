@@ -1,6 +1,7 @@
--- The line that was measured does not fit, or it is put.
+-- The line is made in a buffer of its own, and written from there.
 use borrow.Author.Needs.{needs}
-use Rattle.listing.proofs.ListLaws.{alone-short, alone-put, measured-length, measured-few}
+use Rattle.put.proofs.WrittenLaws.{own-inside, own-length}
+use Rattle.listing.proofs.ListLaws.{line-written}
 use Rattle.listing.proofs.write_refused.Statement.{statement}
 use Rattle.listing.proofs.write_refused.Tie as tie
 
@@ -10,8 +11,8 @@ write-refused-spec =
     (tie.spec
     (λ c. search needs)
     (λ c κs. search needs)
-    (λ c κs. search needs)
-    (λ c. search (alone-short, measured-length, measured-few, needs))
+    (λ c. search (own-inside, needs))
+    (λ c. search (own-length, needs))
     (λ c κs. search needs)
     (λ c. search needs)
-    (λ c. search (alone-put, measured-length, measured-few, needs)))
+    (λ c. search (line-written, needs)))

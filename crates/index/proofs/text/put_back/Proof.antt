@@ -1,6 +1,5 @@
 -- The text with this line end is put.
 use borrow.Author.Needs.{needs}
-use Rattle.put.proofs.PutLaws.{placed-length}
 use Rattle.index.proofs.TextLaws.{back-put}
 use Rattle.index.proofs.text.put_back.Statement.{statement}
 use Rattle.index.proofs.text.put_back.Tie as tie
@@ -15,7 +14,7 @@ put-back-spec =
     (λ c. search needs)
     (λ c. search needs)
     (λ c κs. search needs)
-    (λ c. search (placed-length, needs))
+    (λ c. search needs)
     (λ c. search (back-put, needs))
-    (λ c. search (placed-length, needs))
+    (λ c. search needs)
     (λ c. search (back-put, needs)))

@@ -1,6 +1,5 @@
 -- The text with this line end is put.
 use borrow.Author.Needs.{needs}
-use Rattle.put.proofs.PutLaws.{placed-length}
 use Rattle.index.proofs.TextLaws.{front-put}
 use Rattle.index.proofs.text.put_front.Statement.{statement}
 use Rattle.index.proofs.text.put_front.Tie as tie
@@ -15,7 +14,7 @@ put-front-spec =
     (λ c. search needs)
     (λ c. search needs)
     (λ c κs. search needs)
-    (λ c. search (placed-length, needs))
+    (λ c. search needs)
     (λ c. search (front-put, needs))
-    (λ c. search (placed-length, needs))
+    (λ c. search needs)
     (λ c. search (front-put, needs)))

@@ -1,6 +1,6 @@
 -- The list is put after what stands before it, and what stands after it comes last.
 use borrow.Author.Needs.{needs}
-use Rattle.index.proofs.TextLaws.{list-fits, index-put}
+use Rattle.index.proofs.TextLaws.{index-put}
 use Rattle.index.proofs.text.put_index.Statement.{statement}
 use Rattle.index.proofs.text.put_index.Tie as tie
 
@@ -9,7 +9,8 @@ put-index-spec =
     tie.close
     (tie.spec
     (λ c κs. search needs)
-    (λ c κs. search (list-fits, needs))
+    (λ c. search needs)
+    (λ c κs. search needs)
     (λ c κs. search needs)
     (λ c. search needs)
     (λ c. search (index-put, needs)))

@@ -1,4 +1,4 @@
--- The three parts are put one behind another.
+-- The three parts are put one after another.
 use borrow.Author.Needs.{needs}
 use Rattle.listing.proofs.TextLaws.{file-put}
 use Rattle.listing.proofs.text.put_file.Statement.{statement}

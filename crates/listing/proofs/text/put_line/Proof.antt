@@ -1,4 +1,4 @@
--- The numbers are put behind the word.
+-- The numbers are put after the text, and a line end after them.
 use borrow.Author.Needs.{needs}
 use Rattle.listing.proofs.TextLaws.{line-put}
 use Rattle.listing.proofs.text.put_line.Statement.{statement}
@@ -9,6 +9,9 @@ put-line-spec =
     tie.close
     (tie.spec
     (λ c κs. search needs)
+    (λ c. search needs)
+    (λ c κs. search needs)
+    (λ c. search needs)
     (λ c κs. search needs)
     (λ c. search needs)
     (λ c. search (line-put, needs)))

@@ -1,6 +1,6 @@
 -- The numbers of a row are put as a line.
 use borrow.Author.Needs.{needs}
-use Rattle.listing.proofs.TextLaws.{row-put, row-numbers}
+use Rattle.listing.proofs.TextLaws.{row-put}
 use Rattle.listing.proofs.text.put_row.Statement.{statement}
 use Rattle.listing.proofs.text.put_row.Tie as tie
 
@@ -9,7 +9,8 @@ put-row-spec =
     tie.close
     (tie.spec
     (λ c κs. search needs)
-    (λ c. search (row-numbers, needs))
-    (λ c κs. search (row-numbers, needs))
+    (λ c. search needs)
+    (λ c. search needs)
+    (λ c κs. search needs)
     (λ c. search needs)
     (λ c. search (row-put, needs)))

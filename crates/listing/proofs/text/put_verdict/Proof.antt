@@ -1,10 +1,12 @@
 -- One line for each verdict.
 use borrow.Author.Needs.{needs}
-use Rattle.listing.proofs.TextLaws.{absent-put, good-put, form-put, list-put}
+use Rattle.format.specs.Listing.{sentence, verdictWord}
+use Rattle.listing.proofs.TextLaws.{verdict-put}
 use Rattle.listing.proofs.text.put_verdict.Statement.{statement}
 use Rattle.listing.proofs.text.put_verdict.Tie as tie
 
 pub put-verdict-spec : {M : Type 1} → statement M
+unfolding sentence verdictWord
 put-verdict-spec =
     tie.close
     (tie.spec
@@ -21,10 +23,10 @@ put-verdict-spec =
     (λ c. search needs)
     (λ c κs. search needs)
     (λ c. search needs)
-    (λ c. search (absent-put, needs))
+    (λ c. search (verdict-put, needs))
     (λ c. search needs)
-    (λ c. search (good-put, needs))
+    (λ c. search (verdict-put, needs))
     (λ c. search needs)
-    (λ c. search (form-put, needs))
+    (λ c. search (verdict-put, needs))
     (λ c. search needs)
-    (λ c. search (list-put, needs)))
+    (λ c. search (verdict-put, needs)))

@@ -1,7 +1,7 @@
 -- Where the digits do not fit nothing changes, and where they fit they are put.
 use borrow.Author.Needs.{needs}
-use Rattle.put.proofs.PutLaws.{placed-outside}
-use Rattle.put.proofs.DecimalLaws.{decimal-long, decimal-fits}
+use Rattle.put.proofs.PartLaws.{whole-outside, whole-long, whole-placed}
+use Rattle.put.proofs.DecimalLaws.{decimal-fits}
 use Rattle.put.proofs.decimal.put_decimal.Statement.{statement}
 use Rattle.put.proofs.decimal.put_decimal.Tie as tie
 
@@ -9,10 +9,11 @@ pub put-decimal-spec : {M : Type 1} → statement M
 put-decimal-spec =
     tie.close
     (tie.spec
-    (λ c. search (placed-outside, needs))
+    (λ c κs. search needs)
+    (λ c κs. search needs)
+    (λ c. search (whole-outside, needs))
+    (λ c. search needs)
+    (λ c. search (whole-long, needs))
     (λ c κs. search needs)
     (λ c. search needs)
-    (λ c. search (decimal-long, needs))
-    (λ c κs. search needs)
-    (λ c. search needs)
-    (λ c. search (decimal-fits, needs)))
+    (λ c. search (whole-placed, decimal-fits, needs)))

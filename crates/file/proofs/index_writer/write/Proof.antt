@@ -1,0 +1,18 @@
+-- Where the file is accepted its offsets are kept; what is written is a good index.
+use borrow.Author.Needs.{needs}
+use Rattle.file.proofs.LayoutLaws.{accepted-as, blocks-kept}
+use Rattle.file.proofs.IndexWriterLaws.{index-refused, index-written}
+use Rattle.file.proofs.index_writer.write.Statement.{statement}
+use Rattle.file.proofs.index_writer.write.Tie as tie
+
+pub write-spec : {M : Type 1} → statement M
+write-spec =
+    tie.close
+    (tie.spec
+    (λ c κs. search needs)
+    (λ c. search needs)
+    (λ c. search needs)
+    (λ c κs. search (accepted-as, blocks-kept, needs))
+    (λ c. search (index-refused, needs))
+    (λ c. search needs)
+    (λ c. search (index-written, needs)))

@@ -1,0 +1,57 @@
+// The index that is written for a file.
+ghost use mathlib.Core.Path.{_≡_};
+ghost use Rattle.format.specs.File.{layout};
+ghost use Rattle.format.specs.IndexWriter.{indexFor};
+ghost use Rattle.format.specs.Outcome.{accepted};
+ghost use Rattle.file.specs.Layout.{Kept};
+ghost use Rattle.format.specs.Written.{Written, IndexWritten};
+use crate::block::BlockStep;
+use crate::block::read_block;
+use crate::layout::read_with_offsets;
+use format::answer::CountAnswer;
+use format::answer::LayoutAnswer;
+use format::layout::Layout;
+use format::limits::MOST_BLOCKS;
+use format::refusal::NO_INDEX_POSSIBLE;
+
+// Writes the index of a file at the buffer's start, and answers how many bytes it has; or the file's refusal, 22 where no
+// index can be, or 21 where the buffer is too short.
+pub fn write(s: &[u8], out: &mut [u8]) -> CountAnswer
+    ensures { λ r. ⌜ IndexWritten (now (s .entry)) (now (out .entry)) (now (out .exit)) r ⌝ }
+{
+    let found = read_with_offsets(s);
+    let answer = found.layout;
+    match answer {
+        LayoutAnswer::Refused(r) => CountAnswer::Refused(r),
+        LayoutAnswer::Accepted(l) => {
+            let offsets = found.offsets;
+            write_kept(s, offsets, l, out)
+        }
+    }
+}
+
+// The same for an accepted file of this layout, whose blocks begin at these offsets. Reads the last block's header again, to
+// know whether it is streamed.
+fn write_kept(s: &[u8], offsets: [u64; MOST_BLOCKS], l: Layout, out: &mut [u8]) -> CountAnswer
+    requires { ⌜ layout (now s) ≡ accepted l ⌝ }
+    requires { ⌜ Kept (now s) offsets (l .blocks) ⌝ }
+    ensures { λ r. ⌜ Written (indexFor (now (s .entry))) (now (out .entry)) (now (out .exit)) r ⌝ }
+{
+    let header = l.header;
+    let ending = header.line_end;
+    let blocks = l.blocks;
+    if blocks == 0 {
+        return CountAnswer::refuse(NO_INDEX_POSSIBLE, 0);
+    }
+    let count = blocks as usize;
+    let last = offsets[count - 1] as usize;
+    match read_block(&s[last..], blocks - 1, last) {
+        BlockStep::Refused(r) => CountAnswer::Refused(r),
+        BlockStep::Read(b) => {
+            if b.flags % 2 == 1 {
+                return CountAnswer::refuse(NO_INDEX_POSSIBLE, 0);
+            }
+            index::text::write(ending, &offsets[..count], out)
+        }
+    }
+}

@@ -1,8 +1,0 @@
--- One law for each way out.
-use borrow.Author.Needs.{needs}
-use Rattle.verdict.proofs.ListLaws.{agrees-not, agrees-none, agrees-next}
-use Rattle.verdict.proofs.list.agrees.Statement.{statement}
-use Rattle.verdict.proofs.list.agrees.Tie as tie
-
-pub agrees-spec : {M : Type 1} → statement M
-agrees-spec = tie.close (tie.spec (λ c. search (agrees-not, needs)) (λ c. search (agrees-none, needs)) (λ c. search needs) (λ c. search needs) (λ c. search (agrees-next, needs)))

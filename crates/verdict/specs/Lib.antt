@@ -1,2 +1,0 @@
--- What the contracts of the steps cite.
-pub mod Index
