@@ -2,6 +2,5 @@
 pub mod PartLaws
 pub mod BlockLaws
 pub mod ChainLaws
-pub mod FewLaws
 pub mod KeptLaws
 pub mod LayoutLaws

@@ -4,7 +4,7 @@ ghost use mathlib.Core.Path.{_≡_};
 ghost use mathlib.Core.Bool.{_||_};
 ghost use lib.ListN.{length};
 ghost use lib.Dec.{eqb};
-ghost use Rattle.format.specs.Block.{isCompressed, blockWith, soundBlock, Sound};
+ghost use Rattle.format.specs.Block.{leastBlock, isCompressed, blockWith, soundBlock, Sound};
 ghost use Rattle.file.specs.Block.{IsField, FieldRead, HeaderRead, Fault, BlockRead, soundLink};
 use crate::step::LinkStep;
 use format::block::Block;
@@ -118,7 +118,7 @@ pub(crate) fn sound_link(t: &[u8]) -> LinkStep
 }
 
 fn block_with(t: &[u8], ordinal: u8, at: usize, allocated: u64, used: u64, data_size: u64) -> Block
-    requires { ⌜ 54 ≤ length (now t) ⌝ }
+    requires { ⌜ leastBlock ≤ length (now t) ⌝ }
     ensures { λ r. ⌜ r ≡ blockWith ordinal at (now (t .entry)) allocated used data_size ⌝ }
 {
     Block {

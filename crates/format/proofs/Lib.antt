@@ -18,8 +18,11 @@ pub mod IndexLaws
 pub mod ReadLaws
 pub mod LocalLaws
 pub mod NextLaws
+pub mod InductionLaws
 pub mod ChainLaws
 pub mod FileLaws
+pub mod FileBlockLaws
+pub mod FewLaws
 pub mod WriterLaws
 pub mod EditTreeLaws
 pub mod EditWalkLaws

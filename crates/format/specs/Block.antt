@@ -37,6 +37,10 @@ checksumLow t = number 46 8 t
 abbrev pub leastHeader : ℕ
 leastHeader = 48
 
+-- the least bytes of a block: its mark, its header size and the least header
+abbrev pub leastBlock : ℕ
+leastBlock = 6 + leastHeader
+
 -- bit 0 of the flags
 abbrev pub isStreamed : ℕ → Bool
 isStreamed f = eqb (f % 2) 1

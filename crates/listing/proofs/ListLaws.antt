@@ -34,7 +34,7 @@ use Rattle.outline.proofs.StoredLaws.{Read, read-stored}
 use Rattle.format.specs.Listed.{outlineBytes, outlineFor, bothFit, BothPut, lentBytes, Listed, ListedLent}
 use Rattle.listing.specs.Listing.{mostOutline, BothShort, Short}
 use Rattle.listing.specs.Text.{fileText, PutAt}
-use Rattle.file.proofs.FewLaws.{rows-few}
+use Rattle.format.proofs.FewLaws.{rows-few}
 
 -- a text alone
 module _ (t out : Bytes) where

@@ -30,7 +30,7 @@ use Rattle.format.specs.Outline.{rowOf, encodeRow, outlineOf, rows, outline}
 use Rattle.format.proofs.OutcomeLaws.{accepted-holds}
 use Rattle.format.proofs.OutlineLaws.{read-back}
 use Rattle.format.proofs.RowLaws.{encoded-length}
-use Rattle.file.proofs.FewLaws.{Few, records-few}
+use Rattle.format.proofs.FewLaws.{Few, records-few}
 use Rattle.file.proofs.LayoutLaws.{accepted-as}
 use Rattle.format.specs.Written.{Written, OutlineWritten}
 use Rattle.put.proofs.PutLaws.{placed-nothing, placed-none, placed-length, placed-append}
