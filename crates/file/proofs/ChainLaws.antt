@@ -1,5 +1,5 @@
 -- The chain of blocks: one law for each way out of a link and of the walk. The blocks so far, in front of the chain from here on, are the chain.
-use Prim.Native.Nat.{ℕ, zero, suc, _+_, _-_, _^_, _≤_, _<_}
+use Prim.Native.Nat.{ℕ, suc, _+_, _-_, _^_, _≤_, _<_}
 use native.Mathlib.Omega.{arith}
 use mathlib.Core.Path.{_≡_, refl, sym, ap, subst, _∙_}
 use mathlib.Core.Bool.{Bool, true, false}
@@ -20,7 +20,7 @@ use Rattle.format.specs.File.{offsets, table}
 use Rattle.format.proofs.ByteLaws.{begins-true}
 use Rattle.format.proofs.NextLaws.{next-index, next-none, next-mark, next-here}
 use Rattle.format.proofs.BlockLaws.{BlockIs, accepted-block, sound-accepted}
-use Rattle.format.proofs.ChainLaws.{chain-next}
+use Rattle.format.proofs.ChainLaws.{chain-none, chain-many, chain-next}
 use Rattle.mark.specs.Mark.{MarkFound}
 use Rattle.file.specs.declared.step.LinkStep.{LinkStep}
 use Rattle.file.specs.declared.step.LinkStep.the-variants as LinkStep·is
@@ -66,12 +66,7 @@ module _ (s : Bytes) (i n m : ℕ) (next : NextMark s n m) where
   module _ (none : length s ≤ m) where
     -- where none stands, the tail begins
     onward-tail : onward s i n ≡ tail n (drop n s)
-    unfolding chain
-    onward-tail = go (mostBlocks - i)
-      where
-        go : (k : ℕ) → chain k i n (drop n s) ≡ tail n (drop n s)
-        go zero = rw (next .no-block none, chain)
-        go (suc k) = rw (next .no-block none, chain)
+    onward-tail = chain-none (mostBlocks - i) i n (drop n s) (next .no-block none)
 
     module _ (x : Bool) (index-is : x ≡ begins indexLine (drop n s)) where
       -- what begins like an index stands there
@@ -99,8 +94,9 @@ module _ (s : Bytes) (i n m : ℕ) (next : NextMark s n m) where
 module _ (s : Bytes) (i n m : ℕ) (here : Follows s n m) where
   -- no block more is allowed
   pub mark-many : (r : Refusal) → r ≡ refusal 16 m → mostBlocks ≤ i → onward s i n ≡ refused r
-  unfolding chain
-  mark-many r e h = let none : mostBlocks - i ≡ 0 = omega arith in rw (none, here .next, chain, e, here .at)
+  mark-many r e h =
+      let none : mostBlocks - i ≡ 0 = omega arith in
+      rw (none, e, here .at) (chain-many i n (here .gap) (drop n s) (here .next))
 
   module _ (few : i < mostBlocks) where
     -- a block is still allowed

@@ -3,7 +3,7 @@ use Prim.Native.Nat.{ℕ, zero, suc, _+_, _≤_}
 use mathlib.Core.Path.{_≡_, refl, sym, ap, subst, _∙_}
 use mathlib.Core.Bool.{Bool, true, false, not, _&&_, true≢false}
 use mathlib.Core.List.{List, [], _∷_, _++_, append-nil, append-assoc}
-use mathlib.Core.Option.{some}
+use mathlib.Core.Option.{none, some}
 use native.Mathlib.Omega.{arith}
 use lib.ListN.{length, take, drop, length-append, length-drop, take-append-drop}
 use lib.Seq.{length-take-le, take-append-seam, drop-append-seam, take-append-le, drop-append-le, take-at, drop-at, drop-drop}
@@ -11,7 +11,7 @@ use lib.Dec.{eqb, leb}
 use borrow.Author.Tests.{leb-true}
 use Rattle.format.specs.declared.block.Block.{Block}
 use Rattle.format.specs.Bytes.{Bytes, begins}
-use Rattle.format.specs.Outcome.{accepted, _>>=_}
+use Rattle.format.specs.Outcome.{accepted, refused, refusal}
 use Rattle.format.specs.Block.{flags, leastBlock, isStreamed, blockWith, block, soundBlock, Sound}
 use Rattle.format.specs.Comments.{indexLine}
 use Rattle.format.specs.Tree.{mark, freeSpace}
@@ -64,11 +64,26 @@ record ChainFront (k i n : ℕ) (t : Bytes) (c : Chain) : Type 0 where
   local : (b : Block) → mayHaveIndex (b ∷ c .blocks) ≡ true → (y : Bytes) → isTail y ≡ true
       → chain k i n (front ++ y) ≡ accepted (record { blocks = c .blocks; tail = y })
 
+-- where no block follows, the tail begins
+pub chain-none : (k i n : ℕ) (t : Bytes) → nextBlock t ≡ none → chain k i n t ≡ tail n t
+unfolding chain
+chain-none zero i n t h = rw (h, chain)
+chain-none (suc k) i n t h = rw (h, chain)
+
+-- where a block follows and none is allowed, its mark is refused
+pub chain-many : (i n g : ℕ) (t : Bytes) → nextBlock t ≡ some g → chain zero i n t ≡ refused (refusal 16 (n + g))
+unfolding chain
+chain-many i n g t h = rw (h, chain)
+
+-- where a block follows, the chain goes on at its mark
+pub chain-next : (k i n g : ℕ) (t : Bytes) → nextBlock t ≡ some g → chain (suc k) i n t ≡ linkedAt i (n + g) (drop g t) (chain k (i + 1))
+unfolding chain
+chain-next k i n g t h = rw (h, chain)
+
 -- a tail is a chain of no blocks
 no-blocks : (k i n : ℕ) (y : Bytes) → isTail y ≡ true → chain k i n y ≡ accepted (ended y)
-unfolding chain tail
-no-blocks zero i n y h = rw (next-tail y h, chain, tail, h)
-no-blocks (suc k) i n y h = rw (next-tail y h, chain, tail, h)
+unfolding tail
+no-blocks k i n y h = chain-none k i n y (next-tail y h) ∙ rw (tail, h)
 
 -- a tail is the rest of no blocks
 tail-front : (k i n : ℕ) (t : Bytes) → ChainFront k i n t (ended t)
@@ -96,11 +111,6 @@ begins-front : (p s y z : Bytes) → length p ≤ length s → begins p (s ++ y)
 begins-front [] s y z h = refl
 begins-front (a ∷ p) [] y z h = absurd (omega arith)
 begins-front (a ∷ p) (b ∷ s) y z h = ap (λ (x : Bool). eqb a b && x) (begins-front p s y z (omega arith))
-
--- where a block follows, the chain goes on at its mark
-pub chain-next : (k i n g : ℕ) (t : Bytes) → nextBlock t ≡ some g → chain (suc k) i n t ≡ linkedAt i (n + g) (drop g t) (chain k (i + 1))
-unfolding chain
-chain-next k i n g t h = rw (h, chain)
 
 -- after q, in which no mark begins, stands the block b, which is p
 module _ (k i n : ℕ) (q p z : Bytes) (b : Block) (size : length p ≡ extent b) (unindexed : begins indexLine (q ++ (p ++ z)) ≡ false)

@@ -20,6 +20,7 @@ pub mod LocalLaws
 pub mod NextLaws
 pub mod InductionLaws
 pub mod ChainLaws
+pub mod MoveLaws
 pub mod FileLaws
 pub mod FileBlockLaws
 pub mod FewLaws
