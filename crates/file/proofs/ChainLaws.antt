@@ -24,7 +24,7 @@ use Rattle.format.proofs.ChainLaws.{chain-none, chain-many, chain-next}
 use Rattle.mark.specs.Mark.{MarkFound}
 use Rattle.file.specs.declared.step.LinkStep.{LinkStep}
 use Rattle.file.specs.declared.step.LinkStep.the-variants as LinkStep·is
-use Rattle.file.proofs.PartLaws.{part-all}
+use Rattle.format.proofs.PartLaws.{part-all}
 use Rattle.file.specs.Block.{Fault, soundLink}
 use Rattle.file.specs.Chain.{onward, TailBegins, Follows, NextMark, BlockBegins, LinkIs, Chained, WalkedAlone, WalkedTo}
 

@@ -1,10 +1,9 @@
 -- The block of a kept offset is the one that is read there.
-use Prim.Native.Nat.{ℕ, zero, suc, _-_, _≤_, _<_}
+use Prim.Native.Nat.{ℕ, _-_, _≤_, _<_}
 use native.Mathlib.Omega.{arith}
-use mathlib.Core.Path.{_≡_, refl, sym, ap, _∙_}
-use mathlib.Core.List.{List, [], _∷_}
-use mathlib.Core.Option.{none}
-use lib.ListN.{length, take, drop, getD, getElem?, replicate, length-take, length-map}
+use mathlib.Core.Path.{_≡_, sym, ap, _∙_}
+use mathlib.Core.List.{List}
+use lib.ListN.{length, take, drop, getD, replicate, length-take, length-map}
 use lib.Seq.{getD-take, take-at}
 use Rattle.format.specs.declared.answer.BlockAnswer.the-variants as BlockAnswer·is
 use Rattle.format.specs.declared.block.Block.{Block}
@@ -21,13 +20,7 @@ use Rattle.file.specs.declared.block.BlockStep.the-variants as BlockStep
 use Rattle.file.specs.Step.{blockOf}
 use Rattle.file.specs.Block.{BlockRead}
 use Rattle.file.specs.Layout.{Kept}
-use Rattle.file.proofs.PartLaws.{part-all}
-
--- there is none behind the last
-no-element : (bs : List Block) (j : ℕ) → length bs ≤ j → getElem? bs j ≡ none
-no-element [] j h = refl
-no-element (b ∷ bs) zero h = absurd (omega arith)
-no-element (b ∷ bs) (suc j) h = no-element bs j (omega arith)
+use Rattle.format.proofs.PartLaws.{part-all, no-element}
 
 -- a table begins with the offsets of its blocks
 pub table-kept : (k : ℕ) (out : Bytes) (bs : List Block) → length bs ≡ k → out ≡ table bs → take k out ≡ offsets bs

@@ -39,7 +39,7 @@ use Rattle.file.specs.declared.step.ChainStep.the-variants as ChainStep�
 use Rattle.front.specs.Step.{headerOf, endOf, treeOf}
 use Rattle.file.specs.Chain.{Chained, WalkedAlone, WalkedTo, Walked}
 use Rattle.file.specs.Layout.{fileWith, withBlocks, behindTree, behindComments, behindHeader, layoutWith, Judged, Kept}
-use Rattle.file.proofs.PartLaws.{part-all}
+use Rattle.format.proofs.PartLaws.{part-all}
 use Rattle.file.proofs.KeptLaws.{table-kept, enough-kept}
 
 -- a refused file is answered by its refusal

@@ -1,5 +1,4 @@
 -- Laws that the proofs of the steps cite.
-pub mod PartLaws
 pub mod BlockLaws
 pub mod ChainLaws
 pub mod KeptLaws

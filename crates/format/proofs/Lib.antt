@@ -9,6 +9,7 @@ pub mod RowLaws
 pub mod BlockLaws
 pub mod WalkLaws
 pub mod OutlineLaws
+pub mod PartLaws
 pub mod ByteLaws
 pub mod LineLaws
 pub mod NumeralLaws

@@ -5,8 +5,7 @@ use mathlib.Core.Path.{_≡_, refl, sym, ap, _∙_}
 use mathlib.Core.Bool.{Bool, true, false, not, and-false}
 use mathlib.Core.List.{List, [], _∷_, _++_}
 use mathlib.Core.Option.{Option, none, some}
-use lib.ListN.{length, take, drop, length-drop}
-use lib.Seq.{take-all}
+use lib.ListN.{length, take, drop}
 use mir.Syntax.{w16}
 use mir.Val.{Fits}
 use borrow.Author.Tests.{not-true, not-false, eq-eqb, ne-eqb}
@@ -19,6 +18,7 @@ use Rattle.format.specs.Outcome.{refused, refusal}
 use Rattle.format.specs.Line.{lines}
 use Rattle.format.specs.Numeral.{isNumeral, numeral, both, numerals, split}
 use Rattle.format.specs.Header as Header
+use Rattle.format.proofs.PartLaws.{part-all}
 use Rattle.format.proofs.NumeralLaws.{digits-append, joined, AreParts, split-parts}
 use Rattle.scan.specs.declared.line.Line.{Line}
 use Rattle.scan.specs.declared.line.Line.the-variants.{Ended, Unended}
@@ -119,8 +119,7 @@ module _ (t : Bytes) (first : ℕ) (f : first ≡ 0 + indexOf 46 (slice 0 (lengt
           ∷ []))
       unfolding Header.version
       three-parts =
-          let all = take-all (length t - (second + 1)) (drop (second + 1) t) (omega (arith, length-drop (second + 1) t)) in
-          rw (two-parts, others-some 46 t second (omega arith), all) (last-part _ _ _ _ (split-parts 46 _))
+          rw (two-parts, others-some 46 t second (omega arith), part-all t (second + 1)) (last-part _ _ _ _ (split-parts 46 _))
 
       module _ (a : Number) (major : NumeralRead (take first t) 4 a) where
         -- the first part is no number

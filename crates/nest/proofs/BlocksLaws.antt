@@ -26,7 +26,7 @@ use Rattle.file.specs.declared.block.BlockStep.{BlockStep}
 use Rattle.file.specs.declared.block.BlockStep.the-variants as BlockStep·is
 use Rattle.file.specs.Step.{blockOf}
 use Rattle.file.specs.Block.{BlockRead}
-use Rattle.file.proofs.PartLaws.{part-all}
+use Rattle.format.proofs.PartLaws.{part-all}
 use Rattle.nest.specs.Walk.{blocksFrom, BlockAt}
 
 -- the blocks of a chain are those that are read from offset n on, and there are not more than allowed
