@@ -15,10 +15,10 @@ use Rattle.format.specs.File.{offsets, table, blockAt}
 use Rattle.format.specs.Answer.{blockAnswer}
 use Rattle.format.proofs.FileLaws.{blocksStart}
 use Rattle.format.proofs.FileBlockLaws.{BlockAt, file-blocks, element}
-use Rattle.file.specs.declared.block.BlockStep.{BlockStep}
-use Rattle.file.specs.declared.block.BlockStep.the-variants as BlockStep·is
-use Rattle.file.specs.Step.{blockOf}
-use Rattle.file.specs.Block.{BlockRead}
+use Rattle.blocks.specs.declared.block.BlockStep.{BlockStep}
+use Rattle.blocks.specs.declared.block.BlockStep.the-variants as BlockStep·is
+use Rattle.blocks.specs.Step.{blockOf}
+use Rattle.blocks.specs.Block.{BlockRead}
 use Rattle.file.specs.Layout.{Kept}
 use Rattle.format.proofs.PartLaws.{part-all, no-element}
 

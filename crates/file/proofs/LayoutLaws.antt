@@ -34,10 +34,10 @@ use Rattle.front.specs.declared.step.EndStep.{EndStep}
 use Rattle.front.specs.declared.step.EndStep.the-variants as EndStep·is
 use Rattle.front.specs.declared.step.TreeStep.{TreeStep}
 use Rattle.front.specs.declared.step.TreeStep.the-variants as TreeStep·is
-use Rattle.file.specs.declared.step.ChainStep.{ChainStep}
-use Rattle.file.specs.declared.step.ChainStep.the-variants as ChainStep·is
+use Rattle.blocks.specs.declared.step.ChainStep.{ChainStep}
+use Rattle.blocks.specs.declared.step.ChainStep.the-variants as ChainStep·is
 use Rattle.front.specs.Step.{headerOf, endOf, treeOf}
-use Rattle.file.specs.Chain.{Chained, WalkedAlone, WalkedTo, Walked}
+use Rattle.blocks.specs.Chain.{Chained, WalkedAlone, WalkedTo, Walked}
 use Rattle.file.specs.Layout.{fileWith, withBlocks, behindTree, behindComments, behindHeader, layoutWith, Judged, Kept}
 use Rattle.format.proofs.PartLaws.{part-all}
 use Rattle.file.proofs.KeptLaws.{table-kept, enough-kept}
@@ -173,7 +173,7 @@ module _ (s : Bytes) (h : Header) (n : ℕ) (t : Tree) (first : ℕ) (out : Byte
     -- the chain is refused
     pub walk-refused : (r : Refusal) → x ≡ ChainStep·is.Refused r → Judged (withBlocks s h n t first) out (LayoutAnswer·is.Refused r)
     unfolding withBlocks
-    walk-refused r e = step-refused (withBlocks s h n t first) (chain mostBlocks 0 first (drop first s)) _ refl out r (rw e at walked)
+    walk-refused r e = step-refused (withBlocks s h n t first) (chain mostBlocks 0 first (drop first s)) _ refl out r ((rw e at walked) .is)
 
     module _ (k : ℕ) (e : x ≡ ChainStep·is.Walked k) where
       -- the walk ended at zeros, or at the end

@@ -81,7 +81,7 @@ unfolding chain
 chain-next k i n g t h = rw (h, chain)
 
 -- a tail is a chain of no blocks
-no-blocks : (k i n : ℕ) (y : Bytes) → isTail y ≡ true → chain k i n y ≡ accepted (ended y)
+pub no-blocks : (k i n : ℕ) (y : Bytes) → isTail y ≡ true → chain k i n y ≡ accepted (ended y)
 unfolding tail
 no-blocks k i n y h = chain-none k i n y (next-tail y h) ∙ rw (tail, h)
 

@@ -27,9 +27,9 @@ use Rattle.format.specs.File.{layoutOf, layout, blockAt}
 use Rattle.format.specs.IndexWriter.{mayHaveIndex, indexFor}
 use Rattle.format.specs.Lent.{placed}
 use Rattle.format.proofs.WriterLaws.{index-good, index-short}
-use Rattle.file.specs.declared.block.BlockStep.{BlockStep}
-use Rattle.file.specs.declared.block.BlockStep.the-variants as BlockStep·is
-use Rattle.file.specs.Block.{BlockRead}
+use Rattle.blocks.specs.declared.block.BlockStep.{BlockStep}
+use Rattle.blocks.specs.declared.block.BlockStep.the-variants as BlockStep·is
+use Rattle.blocks.specs.Block.{BlockRead}
 use Rattle.file.specs.Layout.{Kept}
 use Rattle.file.proofs.KeptLaws.{kept-room, kept-inside, kept-found, kept-refused}
 use Rattle.file.proofs.LayoutLaws.{file-refused}

@@ -22,10 +22,10 @@ use Rattle.format.proofs.OutcomeLaws.{Accepts, accepted-holds, accepts-bind, ac
 use Rattle.format.proofs.NextLaws.{next-is}
 use Rattle.format.proofs.BlockLaws.{accepted-block}
 use Rattle.mark.specs.Mark.{MarkFound}
-use Rattle.file.specs.declared.block.BlockStep.{BlockStep}
-use Rattle.file.specs.declared.block.BlockStep.the-variants as BlockStep·is
-use Rattle.file.specs.Step.{blockOf}
-use Rattle.file.specs.Block.{BlockRead}
+use Rattle.blocks.specs.declared.block.BlockStep.{BlockStep}
+use Rattle.blocks.specs.declared.block.BlockStep.the-variants as BlockStep·is
+use Rattle.blocks.specs.Step.{blockOf}
+use Rattle.blocks.specs.Block.{BlockRead}
 use Rattle.format.proofs.PartLaws.{part-all}
 use Rattle.nest.specs.Walk.{blocksFrom, BlockAt}
 

@@ -1,0 +1,136 @@
+// A block's header.
+ghost use Prim.Native.Nat.{_≤_};
+ghost use mathlib.Core.Path.{_≡_};
+ghost use mathlib.Core.Bool.{_||_};
+ghost use lib.ListN.{length};
+ghost use lib.Dec.{eqb};
+ghost use Rattle.format.specs.Block.{leastBlock, isCompressed, blockWith, soundBlock, Sound};
+ghost use Rattle.blocks.specs.Block.{IsField, FieldRead, HeaderRead, Fault, BlockRead, soundLink};
+use crate::step::LinkStep;
+use format::block::Block;
+use format::block::is_compressed;
+use format::limits::LEAST_HEADER;
+use format::offset::Offset;
+use format::refusal::Refusal;
+use scan::number;
+
+pub enum BlockStep {
+    Read(Block),
+    Refused(Refusal),
+}
+
+// The block with this ordinal, whose first byte is t's and stands at an offset of its file; t reaches to the file's end.
+// Whoever asks has found the mark there: its four bytes are not looked at, and any others in its place give the same answer.
+pub fn read_block(t: &[u8], ordinal: u8, at: usize) -> BlockStep
+    ensures { λ r. ⌜ BlockRead ordinal at (now (t .entry)) r ⌝ }
+{
+    let number = fault(t);
+    if number != 0 {
+        return BlockStep::Refused(Refusal::new(number, at));
+    }
+    BlockStep::Read(sound_block(t, ordinal, at))
+}
+
+// The number that refuses the block whose first byte is t's, or 0.
+pub(crate) fn fault(t: &[u8]) -> u8
+    ensures { λ r. ⌜ Fault (now (t .entry)) r ⌝ }
+{
+    if t.len() < 6 {
+        return 11;
+    }
+    let header_size = field(t, 4, 6);
+    if header_size < LEAST_HEADER {
+        return 12;
+    }
+    let content = 6 + header_size as usize;
+    if t.len() < content {
+        return 11;
+    }
+    let left = (t.len() - content) as u64;
+    if field(t, 6, 10) % 2 == 1 {
+        return 0;
+    }
+    sizes_fault(t, left)
+}
+
+// The same where the header is whole and not of a streamed block, with so many bytes behind it.
+fn sizes_fault(t: &[u8], left: u64) -> u8
+    requires { ⌜ HeaderRead (now t) left ⌝ }
+    ensures { λ r. ⌜ Fault (now (t .entry)) r ⌝ }
+{
+    let allocated = field(t, 14, 22);
+    let used = field(t, 22, 30);
+    if allocated < used {
+        return 13;
+    }
+    if !is_data_size(field(t, 30, 38), field(t, 10, 14), used) {
+        return 14;
+    }
+    if left < allocated {
+        return 15;
+    }
+    0
+}
+
+// Whether data may have this size: without compression only the used one.
+fn is_data_size(data_size: u64, compression: u64, used: u64) -> bool
+    ensures { λ r. ⌜ r ≡ (isCompressed compression || eqb data_size used) ⌝ }
+{
+    if is_compressed(compression) {
+        return true;
+    }
+    data_size == used
+}
+
+// The number in the bytes from one offset to another, at most eight of them.
+fn field(t: &[u8], from: usize, to: usize) -> u64
+    requires { ⌜ IsField (now t) from to ⌝ }
+    ensures { λ r. ⌜ FieldRead (now (t .entry)) from to r ⌝ }
+{
+    number::big_endian(&t[from..to])
+}
+
+// The block that nothing is wrong with.
+fn sound_block(t: &[u8], ordinal: u8, at: usize) -> Block
+    requires { ⌜ Sound (now t) ⌝ }
+    ensures { λ r. ⌜ r ≡ soundBlock ordinal at (now (t .entry)) ⌝ }
+{
+    if field(t, 6, 10) % 2 == 1 {
+        let content = 6 + field(t, 4, 6) as usize;
+        let left = (t.len() - content) as u64;
+        return block_with(t, ordinal, at, left, left, left);
+    }
+    let allocated = field(t, 14, 22);
+    let used = field(t, 22, 30);
+    block_with(t, ordinal, at, allocated, used, field(t, 30, 38))
+}
+
+// How such a block leads on.
+pub(crate) fn sound_link(t: &[u8]) -> LinkStep
+    requires { ⌜ Sound (now t) ⌝ }
+    ensures { λ r. ⌜ r ≡ soundLink (now (t .entry)) ⌝ }
+{
+    if field(t, 6, 10) % 2 == 1 {
+        return LinkStep::Streamed;
+    }
+    let content = 6 + field(t, 4, 6) as usize;
+    LinkStep::Block(content + field(t, 14, 22) as usize)
+}
+
+fn block_with(t: &[u8], ordinal: u8, at: usize, allocated: u64, used: u64, data_size: u64) -> Block
+    requires { ⌜ leastBlock ≤ length (now t) ⌝ }
+    ensures { λ r. ⌜ r ≡ blockWith ordinal at (now (t .entry)) allocated used data_size ⌝ }
+{
+    Block {
+        ordinal,
+        at: Offset(at as u64),
+        header_size: field(t, 4, 6) as u16,
+        flags: field(t, 6, 10) as u32,
+        compression: field(t, 10, 14) as u32,
+        allocated,
+        used,
+        data_size,
+        checksum_high: field(t, 38, 46),
+        checksum_low: field(t, 46, 54),
+    }
+}

@@ -1,0 +1,4 @@
+// The blocks of a file: a block's header, the chain of blocks, and the tail after the last of them.
+pub mod block;
+pub mod chain;
+pub mod step;
