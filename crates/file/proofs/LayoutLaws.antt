@@ -36,7 +36,7 @@ use Rattle.front.specs.declared.step.TreeStep.{TreeStep}
 use Rattle.front.specs.declared.step.TreeStep.the-variants as TreeStep·is
 use Rattle.blocks.specs.declared.step.ChainStep.{ChainStep}
 use Rattle.blocks.specs.declared.step.ChainStep.the-variants as ChainStep·is
-use Rattle.front.specs.Step.{headerOf, endOf, treeOf}
+use Rattle.front.specs.Step.{headerOutcome, endOutcome, treeOutcome}
 use Rattle.blocks.specs.Chain.{Chained, WalkedAlone, WalkedTo, Walked}
 use Rattle.file.specs.Layout.{fileWith, withBlocks, behindTree, behindComments, behindHeader, layoutWith, Judged, Kept}
 use Rattle.format.proofs.PartLaws.{part-all}
@@ -72,57 +72,57 @@ pub file-long : (s : Bytes) → mostBytes < length s → (r : Refusal) → r ≡
 unfolding file
 file-long s h r e out = refused-judged (file s) out r (rw (lt-leb (length s) mostBytes h, file, e))
 
-module _ (s : Bytes) (x : HeaderStep) (read : headerOf x ≡ header s) where
+module _ (s : Bytes) (x : HeaderStep) (read : headerOutcome x ≡ header s) where
   module _ (few : length s ≤ mostBytes) (out : Bytes) where
     -- the header is refused
     pub header-refused : (r : Refusal) → x ≡ HeaderStep·is.Refused r → Judged (file s) out (LayoutAnswer·is.Refused r)
-    unfolding headerOf
-    header-refused r e = step-refused (file s) (header s) (behindHeader s) (file-begins s few) out r (sym read ∙ ap headerOf e)
+    unfolding headerOutcome
+    header-refused r e = step-refused (file s) (header s) (behindHeader s) (file-begins s few) out r (sym read ∙ ap headerOutcome e)
 
     -- the header is read
     pub header-read : (h : Header) → x ≡ HeaderStep·is.Read h → (a : LayoutAnswer) → Judged (behindHeader s h) out a → Judged (file s) out a
-    unfolding headerOf
-    header-read h e = step-accepted (file s) (header s) (behindHeader s) (file-begins s few) out h (sym read ∙ ap headerOf e)
+    unfolding headerOutcome
+    header-read h e = step-accepted (file s) (header s) (behindHeader s) (file-begins s few) out h (sym read ∙ ap headerOutcome e)
 
   -- it ends inside
   pub header-inside : (h : Header) → x ≡ HeaderStep·is.Read h → h .end .0 ≤ length s
-  unfolding headerOf
-  header-inside h e = header-bounds s h (sym read ∙ ap headerOf e)
+  unfolding headerOutcome
+  header-inside h e = header-bounds s h (sym read ∙ ap headerOutcome e)
 
-module _ (s : Bytes) (h : Header) (x : EndStep) (read : endOf x ≡ comments (h .end .0) (lines (drop (h .end .0) s))) where
+module _ (s : Bytes) (h : Header) (x : EndStep) (read : endOutcome x ≡ comments (h .end .0) (lines (drop (h .end .0) s))) where
   -- the comments are refused
   pub comments-refused : (out : Bytes) (r : Refusal) → x ≡ EndStep·is.Refused r → Judged (behindHeader s h) out (LayoutAnswer·is.Refused r)
-  unfolding endOf behindHeader
-  comments-refused out r e = step-refused (behindHeader s h) _ (behindComments s h) refl out r (sym read ∙ ap endOf e)
+  unfolding endOutcome behindHeader
+  comments-refused out r e = step-refused (behindHeader s h) _ (behindComments s h) refl out r (sym read ∙ ap endOutcome e)
 
   module _ (n : ℕ) (e : x ≡ EndStep·is.At n) where
     -- the comments are read
     pub comments-read : (out : Bytes) (a : LayoutAnswer) → Judged (behindComments s h n) out a → Judged (behindHeader s h) out a
-    unfolding endOf behindHeader
-    comments-read out = step-accepted (behindHeader s h) _ (behindComments s h) refl out n (sym read ∙ ap endOf e)
+    unfolding endOutcome behindHeader
+    comments-read out = step-accepted (behindHeader s h) _ (behindComments s h) refl out n (sym read ∙ ap endOutcome e)
 
     -- they end inside
     pub comments-inside : h .end .0 ≤ length s → n ≤ length s
-    unfolding endOf
+    unfolding endOutcome
     comments-inside q =
-        omega (arith, simp length-drop at (comments-bounds (h .end .0) (drop (h .end .0) s) n (sym read ∙ ap endOf e)))
+        omega (arith, simp length-drop at (comments-bounds (h .end .0) (drop (h .end .0) s) n (sym read ∙ ap endOutcome e)))
 
-module _ (s : Bytes) (h : Header) (n : ℕ) (x : TreeStep) (read : treeOf x ≡ tree n s) where
+module _ (s : Bytes) (h : Header) (n : ℕ) (x : TreeStep) (read : treeOutcome x ≡ tree n s) where
   -- the tree is refused
   pub tree-refused : (out : Bytes) (r : Refusal) → x ≡ TreeStep·is.Refused r → Judged (behindComments s h n) out (LayoutAnswer·is.Refused r)
-  unfolding treeOf behindComments
-  tree-refused out r e = step-refused (behindComments s h n) _ (behindTree s h n) refl out r (sym read ∙ ap treeOf e)
+  unfolding treeOutcome behindComments
+  tree-refused out r e = step-refused (behindComments s h n) _ (behindTree s h n) refl out r (sym read ∙ ap treeOutcome e)
 
   module _ (t : Tree) (e : x ≡ TreeStep·is.Read t) where
     -- the tree is read
     pub tree-read : (out : Bytes) (a : LayoutAnswer) → Judged (behindTree s h n t) out a → Judged (behindComments s h n) out a
-    unfolding treeOf behindComments
-    tree-read out = step-accepted (behindComments s h n) _ (behindTree s h n) refl out t (sym read ∙ ap treeOf e)
+    unfolding treeOutcome behindComments
+    tree-read out = step-accepted (behindComments s h n) _ (behindTree s h n) refl out t (sym read ∙ ap treeOutcome e)
 
     -- the blocks begin inside
     pub tree-inside : n ≤ length s → firstBlock n t ≤ length s
-    unfolding treeOf
-    tree-inside q = omega (arith, first-block-bounds n s t q (sym read ∙ ap treeOf e))
+    unfolding treeOutcome
+    tree-inside q = omega (arith, first-block-bounds n s t q (sym read ∙ ap treeOutcome e))
 
 module _ (s : Bytes) (h : Header) (n : ℕ) (t : Tree) where
   module _ (x y m : Offset) (e : t ≡ Found x y m) where

@@ -39,8 +39,8 @@ verdictWord Good = text "good"
 verdictWord IgnoredForm = text "ignored-form"
 verdictWord IgnoredList = text "ignored-list"
 
-unfoldable pub listed : Bytes → Outcome Bytes
-listed s = do
+unfoldable pub fileListing : Bytes → Outcome Bytes
+fileListing s = do
   f ← file s
   rs ← rows s
   accepted (treeText (f .tree) ++ flatMap rowText rs ++ sentence (text "index" ∷ verdictWord (f .verdict) ∷ []))
@@ -50,4 +50,4 @@ printed (accepted t) = t
 printed (refused r) = sentence (text "refused" ∷ decimal (r .number) ∷ decimal (r .place .0) ∷ [])
 
 unfoldable pub listing : Bytes → Bytes
-listing s = elim (leb (length s) mostInput) [ true ↦ printed (listed s) | false ↦ sentence (text "too long for this program" ∷ []) ]
+listing s = elim (leb (length s) mostInput) [ true ↦ printed (fileListing s) | false ↦ sentence (text "too long for this program" ∷ []) ]

@@ -3,7 +3,7 @@ ghost use mathlib.Core.Path.{_≡_};
 ghost use lib.ListN.{drop};
 ghost use Rattle.format.specs.Line.{lines};
 ghost use Rattle.format.specs.Comments.{comments};
-ghost use Rattle.front.specs.Step.{endOf};
+ghost use Rattle.front.specs.Step.{endOutcome};
 use crate::step::EndStep;
 use format::refusal::Refusal;
 use scan::line;
@@ -12,7 +12,7 @@ use scan::text;
 
 // Where the comments from an offset on end.
 pub fn comments_end(s: &[u8], from: usize) -> EndStep
-    ensures { λ r. ⌜ endOf r ≡ comments from (lines (drop from (now (s .entry)))) ⌝ }
+    ensures { λ r. ⌜ endOutcome r ≡ comments from (lines (drop from (now (s .entry)))) ⌝ }
 {
     let mut at = from;
     while text::begins_at(s, at, b"#") {

@@ -1,7 +1,7 @@
 // The header: `#ASDF`, one space, a version, a line end.
 ghost use mathlib.Core.Path.{_≡_};
 ghost use Rattle.format.specs.Header.{header, version};
-ghost use Rattle.front.specs.Step.{headerOf, versionOf};
+ghost use Rattle.front.specs.Step.{headerOutcome, versionFound};
 use crate::step::HeaderStep;
 use crate::step::VersionStep;
 use format::layout::Header;
@@ -16,7 +16,7 @@ use scan::text;
 
 // The header of a file.
 pub fn read_header(s: &[u8]) -> HeaderStep
-    ensures { λ r. ⌜ headerOf r ≡ header (now (s .entry)) ⌝ }
+    ensures { λ r. ⌜ headerOutcome r ≡ header (now (s .entry)) ⌝ }
 {
     if !text::begins_at(s, 0, b"#ASDF ") {
         return HeaderStep::Refused(Refusal::new(2, 0));
@@ -44,7 +44,7 @@ pub fn read_header(s: &[u8]) -> HeaderStep
 
 // Three numbers of 1 to 4 digits, joined by points.
 fn read_version(t: &[u8]) -> VersionStep
-    ensures { λ r. ⌜ versionOf r ≡ version (now (t .entry)) ⌝ }
+    ensures { λ r. ⌜ versionFound r ≡ version (now (t .entry)) ⌝ }
 {
     let n = t.len();
     let first = bytes::scan::find(t, 0, n, b'.');

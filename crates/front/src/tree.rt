@@ -4,7 +4,7 @@ ghost use lib.ListN.{drop};
 ghost use Rattle.format.specs.Line.{lines};
 ghost use Rattle.format.specs.Tree.{isStart, isDirective, content, directives, tree};
 ghost use Rattle.format.specs.Edit.{isOneTree};
-ghost use Rattle.front.specs.Step.{endOf, treeOf};
+ghost use Rattle.front.specs.Step.{endOutcome, treeOutcome};
 use crate::step::EndStep;
 use crate::step::TreeStep;
 use format::layout::Tree;
@@ -17,7 +17,7 @@ use scan::text;
 
 // What stands at an offset: no tree, or one, with its room.
 pub fn read_tree(s: &[u8], at: usize) -> TreeStep
-    ensures { λ r. ⌜ treeOf r ≡ tree at (now (s .entry)) ⌝ }
+    ensures { λ r. ⌜ treeOutcome r ≡ tree at (now (s .entry)) ⌝ }
 {
     let Exact::Behind(next, _) = line::yaml_line(s, at) else {
         return TreeStep::Read(Tree::NoTree);
@@ -47,7 +47,7 @@ pub fn is_one_tree(t: &[u8]) -> bool
 
 // Where a tree ends, from the line behind its first on.
 fn directives_end(s: &[u8], from: usize) -> EndStep
-    ensures { λ r. ⌜ endOf r ≡ directives from (lines (drop from (now (s .entry)))) ⌝ }
+    ensures { λ r. ⌜ endOutcome r ≡ directives from (lines (drop from (now (s .entry)))) ⌝ }
 {
     let mut at = from;
     loop {
@@ -66,7 +66,7 @@ fn directives_end(s: &[u8], from: usize) -> EndStep
 
 // Where a tree ends, from the line behind its start line on.
 fn content_end(s: &[u8], from: usize) -> EndStep
-    ensures { λ r. ⌜ endOf r ≡ content from (lines (drop from (now (s .entry)))) ⌝ }
+    ensures { λ r. ⌜ endOutcome r ≡ content from (lines (drop from (now (s .entry)))) ⌝ }
 {
     let mut at = from;
     loop {

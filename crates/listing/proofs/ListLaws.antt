@@ -22,7 +22,7 @@ use Rattle.format.specs.File.{File, file, layout, layoutOf}
 use Rattle.format.specs.Lent.{placed, writes, leaves}
 use Rattle.format.specs.Outcome.{Outcome, accepted, refused, refusal, _>>=_}
 use Rattle.format.specs.Outline.{outlineOf, rows, outline, stored}
-use Rattle.format.specs.Listing.{mostInput, sentence, listed, printed, listing}
+use Rattle.format.specs.Listing.{mostInput, sentence, fileListing, printed, listing}
 use Rattle.format.proofs.ByteLaws.{and-right}
 use Rattle.format.proofs.OutcomeLaws.{accepted-holds, accepts-bind}
 use Rattle.format.proofs.OutlineLaws.{refused-no-rows, accepted-rows, read-back}
@@ -179,10 +179,10 @@ module _ (s : Bytes) (short : length s ≤ mostInput) where
     pub listed-refused : (r : Refusal) → a ≡ LayoutAnswer·is.Refused r → (rows out after : Bytes) (x : CountAnswer)
         → Short (printed (refused r)) out after x
         → Listed s rows out rows after x
-    unfolding outlineFor outlineBytes listing listed outline
+    unfolding outlineFor outlineBytes listing fileListing outline
     listed-refused r e rows out after x h =
         let f = refused-file r e in
-        is-listed s [] (printed (refused r)) rows out rows after x (rw (outlineFor, is-short, outline, refused-no-rows s r f)) (rw (listing, is-short, listed, f))
+        is-listed s [] (printed (refused r)) rows out rows after x (rw (outlineFor, is-short, outline, refused-no-rows s r f)) (rw (listing, is-short, fileListing, f))
         (no-outline _ rows out after x h)
 
   module _ (l : Layout) (read : layout s ≡ accepted l) (known : (i : ℕ) → Fits w8 (getD s i 0)) where
@@ -212,9 +212,9 @@ module _ (s : Bytes) (short : length s ≤ mostInput) where
           rw count (sym (rows-read .rows))
 
       text-is : listing s ≡ fileText (l .tree) b (l .verdict)
-      unfolding listing listed printed
+      unfolding listing fileListing printed
       text-is =
-          let found : listing s ≡ fileText (of .f .tree) b (of .f .verdict) = rw (listing, is-short, listed, of .is, of .rows-are, same-rows) in
+          let found : listing s ≡ fileText (of .f .tree) b (of .f .verdict) = rw (listing, is-short, fileListing, of .is, of .rows-are, same-rows) in
           found ∙ ap (λ t. fileText t b (of .f .verdict)) (sym (of .tree)) ∙ ap (fileText (l .tree) b) (sym (of .verdict))
 
       outline-is : outlineFor s ≡ b
