@@ -22,7 +22,7 @@ use Rattle.format.specs.Bytes.{Bytes}
 use Rattle.format.specs.Outcome.{Outcome, accepted, refused, refusal, _>>=_}
 use Rattle.format.specs.File.{File, file, layoutOf, layout}
 use Rattle.format.specs.Edit.{isOneTree, filled, editTree, edit, editLeaves}
-use Rattle.format.specs.Edited.{Done}
+use Rattle.format.specs.Promise.{Done}
 use Rattle.format.proofs.OutcomeLaws.{accepted-holds, accepts-bind}
 use Rattle.format.proofs.EditTreeLaws.{FileRoom, file-room}
 use Rattle.format.proofs.EditLaws.{accepted-editable, editable-accepted, accepted-edited}

@@ -7,7 +7,7 @@ ghost use lib.Seq.{sets};
 ghost use lib.Dec.{leb};
 ghost use Rattle.format.specs.declared.answer.EditAnswer.the-variants as EditAnswer·is;
 ghost use Rattle.format.specs.Outcome.{refusal};
-ghost use Rattle.format.specs.Edited.{Done};
+ghost use Rattle.format.specs.Promise.{Done};
 ghost use Rattle.edit.specs.Tree.{HasTree};
 use file::layout;
 use format::answer::EditAnswer;

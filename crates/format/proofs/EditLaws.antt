@@ -13,7 +13,8 @@ use Rattle.format.specs.Bytes.{Bytes}
 use Rattle.format.specs.Outcome.{accepted}
 use Rattle.format.specs.File.{mostBytes, File, file}
 use Rattle.format.specs.Edit.{isOneTree, filled, editTree, edit}
-use Rattle.format.specs.Edited.{treeAt, Editable, Edited}
+use Rattle.format.specs.Tree.{treeAt}
+use Rattle.format.specs.Promise.{Editable, Edited}
 use Rattle.format.proofs.OutcomeLaws.{Accepts, accepted-holds, accepts-bind, accepts-need}
 use Rattle.format.proofs.FileLaws.{file-parts, parts-file}
 use Rattle.format.proofs.EditTreeLaws.{FileRoom, file-room, treed, withTree, treed-front, treed-text, treed-spaces, treed-rest, treed-parts}

@@ -14,14 +14,13 @@ use Rattle.format.specs.declared.layout.Verdict.the-variants.{Absent, Go
 use Rattle.format.specs.declared.line.LineEnd.the-variants.{Lf}
 use Rattle.format.specs.Bytes.{Bytes, text, toBytes}
 use Rattle.format.specs.Outcome.{Outcome, accepted, refused, refusal, _>>=_}
-use Rattle.format.specs.Tree.{mark}
+use Rattle.format.specs.Tree.{mark, treeAt}
 use Rattle.format.specs.File.{layout}
 use Rattle.format.specs.IndexWriter.{indexFor}
 use Rattle.format.specs.Nest.{records}
 use Rattle.format.specs.Outline.{outline}
 use Rattle.format.specs.Fields.{numberBytes, layoutBytes, recordTable}
 use Rattle.format.specs.Edit.{edit}
-use Rattle.format.specs.Edited.{treeAt}
 use Rattle.format.specs.Listing.{listing}
 
 -- a question with its answer

@@ -8,8 +8,7 @@ use Rattle.format.specs.declared.layout.Verdict.the-variants.{Absent, Go
 use Rattle.format.specs.Bytes.{Bytes, text}
 use Rattle.format.specs.Outcome.{accepted, refused, refusal}
 use Rattle.format.specs.Comments.{indexLine}
-use Rattle.format.specs.Tree.{mark}
-use Rattle.format.specs.Edited.{treeAt}
+use Rattle.format.specs.Tree.{mark, treeAt}
 use Rattle.format.specs.Examples.{Example, Reads, Indexes, Edits, Lists, States, Numbers, Records, fileA, fileB, blockHeader, emptyBlock, indexWith, layoutOfA}
 
 -- n copies, one behind another

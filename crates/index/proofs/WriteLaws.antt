@@ -26,6 +26,7 @@ use Rattle.format.specs.Index.{indexText}
 use Rattle.format.specs.File.{layoutOf, layout, blockAt}
 use Rattle.format.specs.IndexWriter.{mayHaveIndex, indexFor}
 use Rattle.format.specs.Lent.{placed}
+use Rattle.format.specs.Promise.{Written, IndexWritten}
 use Rattle.format.proofs.WriterLaws.{index-good, index-short}
 use Rattle.blocks.specs.declared.block.BlockStep.{BlockStep}
 use Rattle.blocks.specs.declared.block.BlockStep.the-variants as BlockStep·is
@@ -33,7 +34,6 @@ use Rattle.blocks.specs.Block.{BlockRead}
 use Rattle.file.specs.Layout.{Kept}
 use Rattle.file.proofs.KeptLaws.{kept-room, kept-inside, kept-found, kept-refused}
 use Rattle.file.proofs.LayoutLaws.{file-refused}
-use Rattle.format.specs.Written.{Written, IndexWritten}
 use Rattle.put.proofs.WrittenLaws.{written-refused, written-short, written-placed, Taken, written-taken}
 
 -- whether there may be an index is told by the last block

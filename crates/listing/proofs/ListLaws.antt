@@ -19,19 +19,18 @@ use Rattle.format.specs.declared.row.Row.{Row}
 use Rattle.format.specs.Answer.{countAnswer, layoutAnswer}
 use Rattle.format.specs.Bytes.{Bytes, IsBytes, text}
 use Rattle.format.specs.File.{File, file, layout, layoutOf}
-use Rattle.format.specs.Lent.{placed, writes, leaves}
+use Rattle.format.specs.Lent.{placed, writes, leaves, bothFit}
 use Rattle.format.specs.Outcome.{Outcome, accepted, refused, refusal, _>>=_}
 use Rattle.format.specs.Outline.{outlineOf, rows, outline, stored}
-use Rattle.format.specs.Listing.{mostInput, sentence, fileListing, printed, listing}
+use Rattle.format.specs.Listing.{mostInput, sentence, fileListing, printed, listing, outlineBytes, outlineFor, lentBytes}
+use Rattle.format.specs.Promise.{Written, OutlineWritten, BothPut, Listed, ListedLent}
 use Rattle.format.proofs.ByteLaws.{and-right}
 use Rattle.format.proofs.OutcomeLaws.{accepted-holds, accepts-bind}
 use Rattle.format.proofs.OutlineLaws.{refused-no-rows, accepted-rows, read-back}
-use Rattle.format.specs.Written.{Written, OutlineWritten}
 use Rattle.put.proofs.PutLaws.{placed-none, placed-nothing}
 use Rattle.put.proofs.WrittenLaws.{written-short, written-placed, Taken, written-taken}
 use Rattle.outline.specs.Row.{rowsIn}
 use Rattle.outline.proofs.StoredLaws.{Read, read-stored}
-use Rattle.format.specs.Listed.{outlineBytes, outlineFor, bothFit, BothPut, lentBytes, Listed, ListedLent}
 use Rattle.listing.specs.Listing.{mostOutline, BothShort, Short}
 use Rattle.listing.specs.Text.{fileText, PutAt}
 use Rattle.format.proofs.FewLaws.{rows-few}

@@ -4,8 +4,8 @@ use lib.ListN.{length}
 use Rattle.format.specs.declared.answer.CountAnswer.{CountAnswer}
 use Rattle.format.specs.Bytes.{Bytes}
 use Rattle.format.specs.Outcome.{accepted}
-use Rattle.format.specs.Written.{Written}
-use Rattle.format.specs.Listed.{BothPut, lentBytes}
+use Rattle.format.specs.Promise.{Written, BothPut}
+use Rattle.format.specs.Listing.{lentBytes}
 
 -- no outline of 65,536 bytes is longer: a block takes 54 of them or more, and its row 16
 abbrev pub mostOutline : ℕ

@@ -8,7 +8,7 @@ ghost use Rattle.format.specs.declared.answer.CountAnswer.the-variants.{Refused
 ghost use Rattle.format.specs.File.{layout as File·layout};
 ghost use Rattle.format.specs.Listing.{mostInput, printed};
 ghost use Rattle.format.specs.Outcome.{accepted, refused as Outcome·refused, refusal};
-ghost use Rattle.format.specs.Listed.{Listed, ListedLent};
+ghost use Rattle.format.specs.Promise.{Listed, ListedLent};
 ghost use Rattle.listing.specs.Listing.{mostOutline, BothShort, Short};
 ghost use Rattle.listing.specs.Text.{fileText};
 use format::answer::CountAnswer;

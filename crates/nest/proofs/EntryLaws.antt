@@ -27,12 +27,12 @@ use Rattle.format.specs.Nest.{deepest, records, recordCount, recordAt}
 use Rattle.format.specs.Fields.{recordFields, encodeRecord, recordTable, foundNumbers, foundBytes}
 use Rattle.format.specs.Lent.{placed}
 use Rattle.format.specs.Outline.{rowOf, encodeRow, outlineOf, rows, outline}
+use Rattle.format.specs.Promise.{Written, OutlineWritten}
 use Rattle.format.proofs.OutcomeLaws.{accepted-holds}
 use Rattle.format.proofs.OutlineLaws.{read-back}
 use Rattle.format.proofs.RowLaws.{encoded-length}
 use Rattle.format.proofs.FewLaws.{Few, records-few}
 use Rattle.file.proofs.LayoutLaws.{accepted-as}
-use Rattle.format.specs.Written.{Written, OutlineWritten}
 use Rattle.put.proofs.PutLaws.{placed-nothing, placed-none, placed-length, placed-append}
 use Rattle.put.proofs.WrittenLaws.{written-refused, written-short, written-placed, written-taken}
 use Rattle.nest.specs.declared.sink.Form.{Form}

@@ -10,7 +10,7 @@ ghost use Rattle.format.specs.Fields.{recordFields, foundBytes, recordTable};
 ghost use Rattle.format.specs.File.{layout as File·layout};
 ghost use Rattle.format.specs.Nest.{recordCount, recordAt};
 ghost use Rattle.format.specs.Outcome.{accepted, refusal};
-ghost use Rattle.format.specs.Written.{Written, OutlineWritten};
+ghost use Rattle.format.specs.Promise.{Written, OutlineWritten};
 ghost use lib.ListN.{length};
 ghost use Rattle.nest.specs.Walk.{allRecords};
 ghost use Rattle.nest.specs.Sink.{entries, width};

@@ -17,9 +17,9 @@ use Rattle.format.specs.Bytes.{Bytes}
 use Rattle.format.specs.Lent.{placed}
 use Rattle.format.specs.Outcome.{accepted, refusal}
 use Rattle.format.specs.Outline.{encodeRow, decodeRow, storedCount, rewritten}
+use Rattle.format.specs.Promise.{Written, WrittenAgain}
 use Rattle.format.proofs.RowLaws.{encode-decode}
 use Rattle.format.proofs.OutlineLaws.{same-bytes}
-use Rattle.format.specs.Written.{Written, WrittenAgain}
 use Rattle.put.proofs.PutLaws.{placed-sets, placed-length, placed-behind}
 use Rattle.put.proofs.WrittenLaws.{written-refused, written-short, written-placed, written-taken}
 use Rattle.outline.proofs.RowLaws.{part-length, part-bytes}

@@ -7,7 +7,7 @@ ghost use Rattle.format.specs.Answer.{countAnswer, rowAnswer};
 ghost use Rattle.format.specs.Lent.{placed};
 ghost use Rattle.format.specs.Outcome.{refusal};
 ghost use Rattle.format.specs.Outline.{isRow, storedCount, storedAt};
-ghost use Rattle.format.specs.Written.{WrittenAgain};
+ghost use Rattle.format.specs.Promise.{WrittenAgain};
 use crate::row;
 use format::answer::CountAnswer;
 use format::answer::RowAnswer;
