@@ -11,7 +11,12 @@ use format::block::Block;
 use format::block::is_compressed;
 use format::limits::LEAST_HEADER;
 use format::offset::Offset;
+use format::refusal::ALLOCATED_PASSES_END;
+use format::refusal::DATA_SIZE_DIFFERS;
+use format::refusal::HEADER_PASSES_END;
+use format::refusal::HEADER_TOO_SMALL;
 use format::refusal::Refusal;
+use format::refusal::USED_ABOVE_ALLOCATED;
 use scan::number;
 
 pub enum BlockStep {
@@ -36,15 +41,15 @@ pub(crate) fn fault(t: &[u8]) -> u8
     ensures { λ r. ⌜ Fault (now (t .entry)) r ⌝ }
 {
     if t.len() < 6 {
-        return 11;
+        return HEADER_PASSES_END;
     }
     let header_size = field(t, 4, 6);
     if header_size < LEAST_HEADER {
-        return 12;
+        return HEADER_TOO_SMALL;
     }
     let content = 6 + header_size as usize;
     if t.len() < content {
-        return 11;
+        return HEADER_PASSES_END;
     }
     let left = (t.len() - content) as u64;
     if field(t, 6, 10) % 2 == 1 {
@@ -61,13 +66,13 @@ fn sizes_fault(t: &[u8], left: u64) -> u8
     let allocated = field(t, 14, 22);
     let used = field(t, 22, 30);
     if allocated < used {
-        return 13;
+        return USED_ABOVE_ALLOCATED;
     }
     if !is_data_size(field(t, 30, 38), field(t, 10, 14), used) {
-        return 14;
+        return DATA_SIZE_DIFFERS;
     }
     if left < allocated {
-        return 15;
+        return ALLOCATED_PASSES_END;
     }
     0
 }

@@ -11,6 +11,8 @@ use crate::step::ChainStep;
 use crate::step::LinkStep;
 use format::limits::MOST_BLOCKS;
 use format::refusal::Refusal;
+use format::refusal::STRAY_TAIL;
+use format::refusal::TOO_MANY_BLOCKS;
 use scan::text;
 
 // Walks the blocks from an offset on, and keeps where each begins. All other offsets are 0 then, and so are all of a chain that is
@@ -97,7 +99,7 @@ fn link(s: &[u8], at: usize, next: usize, i: usize) -> LinkStep
     if text::only_zeros(&s[at..]) {
         return LinkStep::Zeros;
     }
-    LinkStep::Refused(Refusal::new(17, at))
+    LinkStep::Refused(Refusal::new(STRAY_TAIL, at))
 }
 
 // The same where a block follows at the mark `next`.
@@ -106,7 +108,7 @@ fn link_at_mark(s: &[u8], at: usize, next: usize, i: usize) -> LinkStep
     ensures { λ r. ⌜ LinkIs (now (s .entry)) i at next r ⌝ }
 {
     if MOST_BLOCKS <= i {
-        return LinkStep::Refused(Refusal::new(16, next));
+        return LinkStep::Refused(Refusal::new(TOO_MANY_BLOCKS, next));
     }
     let number = block::fault(&s[next..]);
     if number != 0 {

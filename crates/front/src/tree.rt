@@ -10,6 +10,9 @@ use crate::step::TreeStep;
 use format::layout::Tree;
 use format::offset::Offset;
 use format::refusal::Refusal;
+use format::refusal::SECOND_START_LINE;
+use format::refusal::TREE_NOT_ENDED;
+use format::refusal::WRONG_LINE_BEFORE_START;
 use scan::line;
 use scan::line::Exact;
 use scan::line::Line;
@@ -52,13 +55,13 @@ fn directives_end(s: &[u8], from: usize) -> EndStep
     let mut at = from;
     loop {
         let Line::Ended { text_end, next, .. } = line::line_at(s, at) else {
-            return EndStep::Refused(Refusal::new(10, at));
+            return EndStep::Refused(Refusal::new(TREE_NOT_ENDED, at));
         };
         if is_start(&s[at..text_end]) {
             return content_end(s, next);
         }
         if !is_directive(&s[at..text_end]) {
-            return EndStep::Refused(Refusal::new(8, at));
+            return EndStep::Refused(Refusal::new(WRONG_LINE_BEFORE_START, at));
         }
         at = next;
     }
@@ -71,13 +74,13 @@ fn content_end(s: &[u8], from: usize) -> EndStep
     let mut at = from;
     loop {
         let Line::Ended { text_end, next, .. } = line::line_at(s, at) else {
-            return EndStep::Refused(Refusal::new(10, at));
+            return EndStep::Refused(Refusal::new(TREE_NOT_ENDED, at));
         };
         if text::is(&s[at..text_end], b"...") {
             return EndStep::At(next);
         }
         if is_start(&s[at..text_end]) {
-            return EndStep::Refused(Refusal::new(9, at));
+            return EndStep::Refused(Refusal::new(SECOND_START_LINE, at));
         }
         at = next;
     }
