@@ -16,8 +16,8 @@ use Rattle.format.specs.Outcome.{Outcome, accepted, refused}
 use Rattle.format.specs.File.{layout}
 use Rattle.format.specs.Answer.{layoutAnswer, countAnswer}
 use Rattle.format.specs.Fields.{numberBytes, layoutFields, layoutBytes, foundNumbers, foundBytes}
-use Rattle.format.specs.Written.{Written}
-use Rattle.format.specs.Export.{word, Exported}
+use Rattle.format.specs.Promise.{Written, Exported}
+use Rattle.format.specs.Export.{word}
 use Rattle.format.proofs.NumberedLaws.{Numbered, numbered-layout}
 use Rattle.put.proofs.PutLaws.{placed-nothing}
 use Rattle.put.proofs.WrittenLaws.{written-refused, written-placed}

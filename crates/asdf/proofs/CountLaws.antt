@@ -6,7 +6,7 @@ use Rattle.format.specs.Nest.{deepest, recordsFrom, records, recordCount}
 use Rattle.format.specs.Outline.{stored, storedCount}
 use Rattle.format.proofs.OutcomeLaws.{accepted-holds, accepts-bind}
 use Rattle.format.proofs.WordLaws.{Counts}
-use Rattle.file.proofs.FewLaws.{Few, records-few}
+use Rattle.format.proofs.FewLaws.{Few, records-few}
 use Rattle.outline.proofs.StoredLaws.{Read, read-stored}
 
 -- a record takes 54 bytes of the file or more

@@ -15,9 +15,8 @@ use Rattle.format.specs.Lent.{writes}
 use Rattle.format.specs.Outline.{outline, rewritten}
 use Rattle.format.specs.IndexWriter.{indexFor}
 use Rattle.format.specs.Edit.{edit}
-use Rattle.format.specs.Written.{Written, OutlineWritten, WrittenAgain, IndexWritten}
-use Rattle.format.specs.Edited.{Done}
-use Rattle.format.specs.Export.{leastRefusal, word, Returned, Exported, OutlineExported, RewriteExported, IndexExported, EditExported}
+use Rattle.format.specs.Promise.{Written, OutlineWritten, WrittenAgain, IndexWritten, Done, Returned, Exported, OutlineExported, RewriteExported, IndexExported, EditExported}
+use Rattle.format.specs.Export.{leastRefusal, word}
 use Rattle.format.proofs.NumberedLaws.{Numbered, numbered-more, numbered-writes, numbered-done, numbered-outline, numbered-rewritten, numbered-index, numbered-edit}
 use Rattle.format.proofs.WordLaws.{word-large, Counts, returned, returned-writes}
 

@@ -8,7 +8,6 @@ use lib.ListN.{length, take, drop, replicate, length-drop}
 use lib.Seq.{length-take-le, drop-drop}
 use lib.Dec.{leb}
 use borrow.Author.Tests.{not-true, not-false, leb-true}
-use Rattle.format.specs.declared.answer.EditAnswer.{EditAnswer}
 use Rattle.format.specs.declared.answer.EditAnswer.the-variants as EditAnswer·is
 use Rattle.format.specs.declared.answer.LayoutAnswer.{LayoutAnswer}
 use Rattle.format.specs.declared.answer.LayoutAnswer.the-variants as LayoutAnswer·is
@@ -22,7 +21,7 @@ use Rattle.format.specs.Bytes.{Bytes}
 use Rattle.format.specs.Outcome.{Outcome, accepted, refused, refusal, _>>=_}
 use Rattle.format.specs.File.{File, file, layoutOf, layout}
 use Rattle.format.specs.Edit.{isOneTree, filled, editTree, edit, editLeaves}
-use Rattle.format.specs.Edited.{Done}
+use Rattle.format.specs.Promise.{Done}
 use Rattle.format.proofs.OutcomeLaws.{accepted-holds, accepts-bind}
 use Rattle.format.proofs.EditTreeLaws.{FileRoom, file-room}
 use Rattle.format.proofs.EditLaws.{accepted-editable, editable-accepted, accepted-edited}
@@ -86,7 +85,7 @@ module _ (s t : Bytes) (x : Tree) (h : HasTree s x) where
   edit-tree = rw (h .read, h .is)
 
   -- there is none
-  pub tree-none : (r : EditAnswer) → x ≡ NoTree → r ≡ EditAnswer·is.Refused (refusal 18 0) → Done s t s r
+  pub tree-none : (r : Refusal) → x ≡ NoTree → r ≡ refusal 18 0 → Done s t s (EditAnswer·is.Refused r)
   unfolding editTree
   tree-none r q e = rw e (refused-done s t _ (rw (edit-tree, q)))
 
@@ -104,13 +103,13 @@ module _ (s t : Bytes) (x : Tree) (h : HasTree s x) where
 
     module _ (b : Bool) (one : b ≡ isOneTree t) where
       -- the text is no tree
-      pub text-other : (r : EditAnswer) → not b ≡ true → r ≡ EditAnswer·is.Refused (refusal 19 0) → Done s t s r
+      pub text-other : (r : Refusal) → not b ≡ true → r ≡ refusal 19 0 → Done s t s (EditAnswer·is.Refused r)
       unfolding editTree
       text-other r p f = rw f (refused-done s t _ (rw (edit-tree, q, sym one ∙ not-true b p)))
 
       module _ (p : not b ≡ false) (d : Bool) (fit : d ≡ leb (length t) (m .0 - n .0)) where
         -- the text is longer than the room
-        pub text-long : (r : EditAnswer) → not d ≡ true → r ≡ EditAnswer·is.Refused (refusal 20 0) → Done s t s r
+        pub text-long : (r : Refusal) → not d ≡ true → r ≡ refusal 20 0 → Done s t s (EditAnswer·is.Refused r)
         unfolding editTree
         text-long r l f = rw f (refused-done s t _ (rw (edit-tree, q, sym one ∙ not-false b p, sym fit ∙ not-true d l)))
 

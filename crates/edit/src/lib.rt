@@ -5,16 +5,16 @@ ghost use mathlib.Core.Path.{_≡_};
 ghost use lib.ListN.{length, replicate};
 ghost use lib.Seq.{sets};
 ghost use lib.Dec.{leb};
-ghost use Rattle.format.specs.declared.answer.EditAnswer.the-variants as EditAnswer·is;
-ghost use Rattle.format.specs.Outcome.{refusal};
-ghost use Rattle.format.specs.Edited.{Done};
+ghost use Rattle.format.specs.Promise.{Done};
 ghost use Rattle.edit.specs.Tree.{HasTree};
 use file::layout;
 use format::answer::EditAnswer;
 use format::answer::LayoutAnswer;
 use format::layout::Tree;
-use format::offset::Offset;
+use format::refusal::EDIT_WITHOUT_TREE;
 use format::refusal::Refusal;
+use format::refusal::TEXT_LONGER_THAN_ROOM;
+use format::refusal::TEXT_NOT_ONE_TREE;
 use front::tree::is_one_tree;
 
 // Replaces a file's tree by a text that is exactly one tree, and the rest of the tree's room by spaces.
@@ -30,40 +30,30 @@ pub fn edit(file: &mut [u8], text: &[u8]) -> EditAnswer
     }
 }
 
-// The same for an accepted file whose tree is known.
+// The same for an accepted file whose tree is known. A refusal here has no place in the file to name, and so the place 0.
 fn edit_tree(file: &mut [u8], text: &[u8], tree: Tree) -> EditAnswer
     requires { ⌜ HasTree (now file) tree ⌝ }
     ensures { λ r. ⌜ Done (now (file .entry)) (now (text .entry)) (now (file .exit)) r ⌝ }
 {
     match tree {
-        Tree::NoTree => refused(18),
+        Tree::NoTree => EditAnswer::Refused(Refusal::new(EDIT_WITHOUT_TREE, 0)),
         Tree::Found {
             start,
             end: _,
             room_end,
         } => {
             if !is_one_tree(text) {
-                return refused(19);
+                return EditAnswer::Refused(Refusal::new(TEXT_NOT_ONE_TREE, 0));
             }
             let from = start.0 as usize;
             let to = room_end.0 as usize;
             if !fits(text, from, to) {
-                return refused(20);
+                return EditAnswer::Refused(Refusal::new(TEXT_LONGER_THAN_ROOM, 0));
             }
             fill(&mut file[from..to], text);
             EditAnswer::Edited
         }
     }
-}
-
-// A refusal of this number. An edit has no place in the file to name.
-fn refused(number: u8) -> EditAnswer
-    ensures { λ r. ⌜ r ≡ EditAnswer·is.Refused (refusal number 0) ⌝ }
-{
-    EditAnswer::Refused(Refusal {
-        number,
-        place: Offset(0),
-    })
 }
 
 // Whether a text is no longer than a room.

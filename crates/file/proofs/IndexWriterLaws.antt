@@ -1,7 +1,7 @@
 -- The index that is written: one law for each way out.
 use Prim.Native.Nat.{ℕ, zero, suc, _-_, _%_, _≤_, _<_}
 use native.Mathlib.Omega.{arith}
-use mathlib.Core.Path.{_≡_, refl, _∙_}
+use mathlib.Core.Path.{_≡_, refl, sym, ap, _∙_}
 use mathlib.Core.Bool.{Bool, true, false, not}
 use mathlib.Core.List.{List, [], _∷_}
 use mathlib.Core.Option.{some}
@@ -29,13 +29,14 @@ use Rattle.format.specs.IndexWriter.{mayHaveIndex, indexFor}
 use Rattle.format.proofs.ChainLaws.{blocks-few}
 use Rattle.format.proofs.FileLaws.{blocksStart, file-parts}
 use Rattle.format.proofs.WriterLaws.{index-good, index-short}
-use Rattle.file.specs.declared.block.BlockStep.{BlockStep}
-use Rattle.file.specs.declared.block.BlockStep.the-variants as BlockStep·is
-use Rattle.file.specs.Block.{BlockRead}
+use Rattle.format.proofs.PartLaws.{part-all}
+use Rattle.blocks.specs.declared.again.Summary.{Summary}
+use Rattle.blocks.specs.Again.{summaryAgain}
+use Rattle.blocks.proofs.AgainLaws.{summary-streamed}
 use Rattle.file.specs.Layout.{Kept}
-use Rattle.file.proofs.KeptLaws.{kept-room, kept-inside, kept-found, kept-refused}
+use Rattle.file.proofs.KeptLaws.{Each, kept-each, kept-room}
 use Rattle.file.proofs.LayoutLaws.{file-refused}
-use Rattle.format.specs.Written.{Written, IndexWritten}
+use Rattle.format.specs.Promise.{Written, IndexWritten}
 use Rattle.put.proofs.WrittenLaws.{written-refused, Taken, written-taken}
 use Rattle.index.specs.Text.{offsetsIndex}
 
@@ -48,7 +49,7 @@ last-decides (a ∷ []) (suc j) b n h = absurd (omega arith)
 last-decides (a ∷ c ∷ bs) zero b n h = absurd (omega arith)
 last-decides (a ∷ c ∷ bs) (suc j) b n h = last-decides (c ∷ bs) j b (omega arith) h
 
-module _ (s kept : Bytes) (count : ℕ) (h : Kept s kept count) where
+module _ (s : Bytes) (kept : List ℕ) (count : ℕ) (h : Kept s kept count) where
   -- the index of a file whose last block may have one after it or not
   index-is : (b : Bool) → mayHaveIndex (h .f .blocks) ≡ b
       → indexFor s ≡ elim b [ true ↦ accepted (indexText (h .f .header .«line_end») (take count kept)) | false ↦ refused (refusal 22 0) ]
@@ -72,20 +73,23 @@ module _ (s kept : Bytes) (count : ℕ) (h : Kept s kept count) where
 
   module _ (p : count ≡ 0 → ⊥) where
     -- where the last block begins is kept
-    pub last-room : (n : ℕ) → length kept ≡ n → count - 1 < n
-    last-room = kept-room s kept count h (count - 1) (omega arith)
+    last-each : Each s (h .f .blocks) (count - 1) (getD kept (count - 1) 0)
+    last-each = kept-each h (omega arith)
+
+    pub last-room : count - 1 < length kept
+    last-room = kept-room h (omega arith)
 
     -- it begins inside
     pub last-inside : getD kept (count - 1) 0 ≤ length s
-    last-inside = kept-inside s kept count h (count - 1) (omega arith)
+    last-inside = last-each .inside
 
     -- where all of them begin is kept
-    pub all-kept : (n : ℕ) → length kept ≡ n → count ≤ n
-    all-kept n e = omega (arith, last-room n e)
+    pub all-kept : count ≤ length kept
+    all-kept = omega (arith, last-room)
 
     -- so many offsets are taken, and a file may have so many
     pub part-length : length (take count kept) ≡ count
-    part-length = length-take-le count kept (all-kept (length kept) refl)
+    part-length = length-take-le count kept all-kept
 
     part-index : (k : LineEnd) → offsetsIndex k (take count kept) ≡ accepted (indexText k (take count kept))
     unfolding offsetsIndex
@@ -93,35 +97,22 @@ module _ (s kept : Bytes) (count : ℕ) (h : Kept s kept count) where
         let few = blocks-few mostBlocks 0 (blocksStart (h .f)) _ (drop (blocksStart (h .f)) s) (file-parts s (h .f) (h .is) .chain-read) in
         rw (offsetsIndex, le-leb (length (take count kept)) mostBlocks (omega (arith, part-length, h .count)))
 
-    module _ (x : BlockStep)
-        (read : BlockRead (count - 1) (getD kept (count - 1) 0) (take (length s - getD kept (count - 1) 0) (drop (getD kept (count - 1) 0) s)) x) where
-      -- the last block is not refused where it begins
-      pub last-refused : (r : Refusal) → x ≡ BlockStep·is.Refused r → (out : Bytes) → Written (indexFor s) out out (Refused r)
-      unfolding blockAnswer blockAt
-      last-refused r e out =
-          let clash : refused r ≡ accepted (getElem? (h .f .blocks) (count - 1))
-          = rw (h .is, blockAt) at (kept-refused s kept count h (count - 1) (omega arith) x read r e) in
-          let z : _≡_ {A = ℕ} 0 1 = cc in
-          absurd (omega arith)
+    module _ (x : Summary) (read : x ≡ summaryAgain (take (length s - getD kept (count - 1) 0) (drop (getD kept (count - 1) 0) s))) where
+      -- the last block tells whether there may be an index
+      last-may : (t : Bool) → not (x .streamed) ≡ t → mayHaveIndex (h .f .blocks) ≡ t
+      last-may t q =
+          let told : x .streamed ≡ isStreamed (last-each .b .flags)
+          = rw (read, part-all) (summary-streamed _ (last-each .is .sound)) ∙ ap isStreamed (sym (last-each .is .same-flags)) in
+          last-decides (h .f .blocks) (count - 1) (last-each .b) (omega (arith, h .count)) (last-each .found) ∙ ap not (sym told) ∙ q
 
-      module _ (b : Block) (e : x ≡ BlockStep·is.Read b) where
-        -- it tells whether there may be an index
-        last-may : (t : Bool) → not (isStreamed (b .flags)) ≡ t → mayHaveIndex (h .f .blocks) ≡ t
-        unfolding blockAnswer blockAt
-        last-may t q =
-            let found : accepted (some b) ≡ accepted (getElem? (h .f .blocks) (count - 1))
-            = rw (h .is, blockAt) at (kept-found s kept count h (count - 1) (omega arith) x read b e) in
-            last-decides (h .f .blocks) (count - 1) b (omega (arith, h .count)) (cc) ∙ q
+      -- it is streamed
+      pub last-streamed : x .streamed ≡ true → (out : Bytes) (y : CountAnswer) → y ≡ Refused (refusal 22 0) → Written (indexFor s) out out y
+      last-streamed q out = written-refused (indexFor s) out (refusal 22 0) (index-is false (last-may false (rw q)))
 
-        -- it is streamed
-        pub last-streamed : b .flags % 2 ≡ 1 → (out : Bytes) (y : CountAnswer) → y ≡ Refused (refusal 22 0) → Written (indexFor s) out out y
-        last-streamed q out = written-refused (indexFor s) out (refusal 22 0) (index-is false (last-may false (rw q)))
-
-        -- it is not
-        pub last-plain : (b .flags % 2 ≡ 1 → ⊥) → (l : Layout) → layout s ≡ accepted l → (k : LineEnd) → k ≡ l .header .«line_end»
-            → (out after : Bytes) (y : CountAnswer) → Written (offsetsIndex k (take count kept)) out after y → Written (indexFor s) out after y
-        last-plain q l told k e out after y w =
-            rw (index-is true (last-may true (rw (ne-eqb (b .flags % 2) 1 q))), same-header l told, ← e) (rw (part-index k) at w)
+      -- it is not
+      pub last-plain : x .streamed ≡ false → (l : Layout) → layout s ≡ accepted l → (k : LineEnd) → k ≡ l .header .«line_end»
+          → (out after : Bytes) (y : CountAnswer) → Written (offsetsIndex k (take count kept)) out after y → Written (indexFor s) out after y
+      last-plain q l told k e out after y w = rw (index-is true (last-may true (rw q)), same-header l told, ← e) (rw (part-index k) at w)
 
 -- what is written is a good index, and short
 module _ (s : Bytes) (known : (i : ℕ) → Fits w8 (getD s i 0)) where

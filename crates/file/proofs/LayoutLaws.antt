@@ -37,12 +37,12 @@ use Rattle.front.specs.declared.step.EndStep.{EndStep}
 use Rattle.front.specs.declared.step.EndStep.the-variants as EndStep·is
 use Rattle.front.specs.declared.step.TreeStep.{TreeStep}
 use Rattle.front.specs.declared.step.TreeStep.the-variants as TreeStep·is
-use Rattle.file.specs.declared.step.ChainStep.{ChainStep}
-use Rattle.file.specs.declared.step.ChainStep.the-variants as ChainStep·is
-use Rattle.front.specs.Step.{headerOf, endOf, treeOf}
-use Rattle.file.specs.Chain.{Chained, WalkedAlone, WalkedTo, Walked}
+use Rattle.blocks.specs.declared.step.ChainStep.{ChainStep}
+use Rattle.blocks.specs.declared.step.ChainStep.the-variants as ChainStep·is
+use Rattle.front.specs.Step.{headerOutcome, endOutcome, treeOutcome}
+use Rattle.blocks.specs.Chain.{Chained, WalkedAlone, WalkedTo, Walked}
 use Rattle.file.specs.Layout.{fileWith, withBlocks, behindTree, behindComments, behindHeader, layoutWith, Judged, Kept}
-use Rattle.file.proofs.PartLaws.{part-all}
+use Rattle.format.proofs.PartLaws.{part-all}
 use Rattle.file.proofs.KeptLaws.{table-kept, enough-kept}
 
 -- a refused file is answered by its refusal
@@ -75,57 +75,57 @@ pub file-long : (s : Bytes) → mostBytes < length s → (r : Refusal) → r ≡
 unfolding file
 file-long s h r e before out = refused-judged (file s) before out r (rw (lt-leb (length s) mostBytes h, file, e))
 
-module _ (s : Bytes) (x : HeaderStep) (read : headerOf x ≡ header s) where
+module _ (s : Bytes) (x : HeaderStep) (read : headerOutcome x ≡ header s) where
   module _ (few : length s ≤ mostBytes) (before out : List ℕ) where
     -- the header is refused
     pub header-refused : (r : Refusal) → x ≡ HeaderStep·is.Refused r → Judged (file s) before out (LayoutAnswer·is.Refused r)
-    unfolding headerOf
-    header-refused r e = step-refused (file s) (header s) (behindHeader s) (file-begins s few) before out r (sym read ∙ ap headerOf e)
+    unfolding headerOutcome
+    header-refused r e = step-refused (file s) (header s) (behindHeader s) (file-begins s few) before out r (sym read ∙ ap headerOutcome e)
 
     -- the header is read
     pub header-read : (h : Header) → x ≡ HeaderStep·is.Read h → (a : LayoutAnswer) → Judged (behindHeader s h) before out a → Judged (file s) before out a
-    unfolding headerOf
-    header-read h e = step-accepted (file s) (header s) (behindHeader s) (file-begins s few) before out h (sym read ∙ ap headerOf e)
+    unfolding headerOutcome
+    header-read h e = step-accepted (file s) (header s) (behindHeader s) (file-begins s few) before out h (sym read ∙ ap headerOutcome e)
 
   -- it ends inside
   pub header-inside : (h : Header) → x ≡ HeaderStep·is.Read h → h .end .0 ≤ length s
-  unfolding headerOf
-  header-inside h e = header-bounds s h (sym read ∙ ap headerOf e)
+  unfolding headerOutcome
+  header-inside h e = header-bounds s h (sym read ∙ ap headerOutcome e)
 
-module _ (s : Bytes) (h : Header) (x : EndStep) (read : endOf x ≡ comments (h .end .0) (lines (drop (h .end .0) s))) where
+module _ (s : Bytes) (h : Header) (x : EndStep) (read : endOutcome x ≡ comments (h .end .0) (lines (drop (h .end .0) s))) where
   -- the comments are refused
   pub comments-refused : (before out : List ℕ) (r : Refusal) → x ≡ EndStep·is.Refused r → Judged (behindHeader s h) before out (LayoutAnswer·is.Refused r)
-  unfolding endOf behindHeader
-  comments-refused before out r e = step-refused (behindHeader s h) _ (behindComments s h) refl before out r (sym read ∙ ap endOf e)
+  unfolding endOutcome behindHeader
+  comments-refused before out r e = step-refused (behindHeader s h) _ (behindComments s h) refl before out r (sym read ∙ ap endOutcome e)
 
   module _ (n : ℕ) (e : x ≡ EndStep·is.At n) where
     -- the comments are read
     pub comments-read : (before out : List ℕ) (a : LayoutAnswer) → Judged (behindComments s h n) before out a → Judged (behindHeader s h) before out a
-    unfolding endOf behindHeader
-    comments-read before out = step-accepted (behindHeader s h) _ (behindComments s h) refl before out n (sym read ∙ ap endOf e)
+    unfolding endOutcome behindHeader
+    comments-read before out = step-accepted (behindHeader s h) _ (behindComments s h) refl before out n (sym read ∙ ap endOutcome e)
 
     -- they end inside
     pub comments-inside : h .end .0 ≤ length s → n ≤ length s
-    unfolding endOf
+    unfolding endOutcome
     comments-inside q =
-        omega (arith, simp length-drop at (comments-bounds (h .end .0) (drop (h .end .0) s) n (sym read ∙ ap endOf e)))
+        omega (arith, simp length-drop at (comments-bounds (h .end .0) (drop (h .end .0) s) n (sym read ∙ ap endOutcome e)))
 
-module _ (s : Bytes) (h : Header) (n : ℕ) (x : TreeStep) (read : treeOf x ≡ tree n s) where
+module _ (s : Bytes) (h : Header) (n : ℕ) (x : TreeStep) (read : treeOutcome x ≡ tree n s) where
   -- the tree is refused
   pub tree-refused : (before out : List ℕ) (r : Refusal) → x ≡ TreeStep·is.Refused r → Judged (behindComments s h n) before out (LayoutAnswer·is.Refused r)
-  unfolding treeOf behindComments
-  tree-refused before out r e = step-refused (behindComments s h n) _ (behindTree s h n) refl before out r (sym read ∙ ap treeOf e)
+  unfolding treeOutcome behindComments
+  tree-refused before out r e = step-refused (behindComments s h n) _ (behindTree s h n) refl before out r (sym read ∙ ap treeOutcome e)
 
   module _ (t : Tree) (e : x ≡ TreeStep·is.Read t) where
     -- the tree is read
     pub tree-read : (before out : List ℕ) (a : LayoutAnswer) → Judged (behindTree s h n t) before out a → Judged (behindComments s h n) before out a
-    unfolding treeOf behindComments
-    tree-read before out = step-accepted (behindComments s h n) _ (behindTree s h n) refl before out t (sym read ∙ ap treeOf e)
+    unfolding treeOutcome behindComments
+    tree-read before out = step-accepted (behindComments s h n) _ (behindTree s h n) refl before out t (sym read ∙ ap treeOutcome e)
 
     -- the blocks begin inside
     pub tree-inside : n ≤ length s → firstBlock n t ≤ length s
-    unfolding treeOf
-    tree-inside q = omega (arith, first-block-bounds n s t q (sym read ∙ ap treeOf e))
+    unfolding treeOutcome
+    tree-inside q = omega (arith, first-block-bounds n s t q (sym read ∙ ap treeOutcome e))
 
 module _ (s : Bytes) (h : Header) (n : ℕ) (t : Tree) where
   module _ (x y m : Offset) (e : t ≡ Found x y m) where
@@ -176,7 +176,7 @@ module _ (s : Bytes) (h : Header) (n : ℕ) (t : Tree) (first : ℕ) (before out
     -- the chain is refused
     pub walk-refused : (r : Refusal) → x ≡ ChainStep·is.Refused r → Judged (withBlocks s h n t first) before out (LayoutAnswer·is.Refused r)
     unfolding withBlocks
-    walk-refused r e = step-refused (withBlocks s h n t first) (chain mostBlocks 0 first (drop first s)) _ refl before out r (rw e at walked)
+    walk-refused r e = step-refused (withBlocks s h n t first) (chain mostBlocks 0 first (drop first s)) _ refl before out r ((rw e at walked) .is)
 
     module _ (k : ℕ) (e : x ≡ ChainStep·is.Walked k) where
       -- the walk ended at zeros, or at the end
@@ -280,10 +280,9 @@ module _ (s : Bytes) (before out : List ℕ) (a : LayoutAnswer) (judged : Judged
           absurd (omega arith)
 
   -- that of a refused one has only zeros
-  pub table-refused : (r : Refusal) → a ≡ LayoutAnswer·is.Refused r → (x after : List ℕ) → after ≡ replicate (length x) 0 → length x ≡ mostBlocks
-      → after ≡ offsetTable before (file s)
+  pub table-refused : (r : Refusal) → a ≡ LayoutAnswer·is.Refused r → replicate mostBlocks 0 ≡ offsetTable before (file s)
   unfolding offsetTable
-  table-refused r e x after cleared size = rw (file-refused s a (layout-judged s before out a judged) r e, cleared, size)
+  table-refused r e = rw (file-refused s a (layout-judged s before out a judged) r e)
 
 -- a table keeps its length
 pub table-size : (s : Bytes) (before out : List ℕ) → out ≡ offsetTable before (file s) → length before ≡ mostBlocks → length out ≡ mostBlocks

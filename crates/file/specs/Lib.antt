@@ -1,6 +1,2 @@
 -- What the contracts of the steps cite.
-pub mod Step
-pub mod Block
-pub mod Again
-pub mod Chain
 pub mod Layout

@@ -4,10 +4,9 @@ ghost use Rattle.format.specs.File.{layout};
 ghost use Rattle.format.specs.IndexWriter.{indexFor};
 ghost use Rattle.format.specs.Outcome.{accepted};
 ghost use Rattle.file.specs.Layout.{Kept};
-ghost use Rattle.format.specs.Written.{Written, IndexWritten};
-use crate::block::BlockStep;
-use crate::block::read_block;
-use crate::layout::read_with_offsets;
+ghost use Rattle.format.specs.Promise.{Written, IndexWritten};
+use crate::layout::read_into;
+use blocks::again;
 use format::answer::CountAnswer;
 use format::answer::LayoutAnswer;
 use format::layout::Layout;
@@ -19,22 +18,18 @@ use format::refusal::NO_INDEX_POSSIBLE;
 pub fn write(s: &[u8], out: &mut [u8]) -> CountAnswer
     ensures { λ r. ⌜ IndexWritten (now (s .entry)) (now (out .entry)) (now (out .exit)) r ⌝ }
 {
-    let found = read_with_offsets(s);
-    let answer = found.layout;
-    match answer {
+    let mut offsets = [0u64; MOST_BLOCKS];
+    match read_into(s, &mut offsets) {
         LayoutAnswer::Refused(r) => CountAnswer::Refused(r),
-        LayoutAnswer::Accepted(l) => {
-            let offsets = found.offsets;
-            write_kept(s, offsets, l, out)
-        }
+        LayoutAnswer::Accepted(l) => write_kept(s, &offsets, l, out),
     }
 }
 
 // The same for an accepted file of this layout, whose blocks begin at these offsets. Reads the last block's header again, to
 // know whether it is streamed.
-fn write_kept(s: &[u8], offsets: [u64; MOST_BLOCKS], l: Layout, out: &mut [u8]) -> CountAnswer
+fn write_kept(s: &[u8], offsets: &[u64], l: Layout, out: &mut [u8]) -> CountAnswer
     requires { ⌜ layout (now s) ≡ accepted l ⌝ }
-    requires { ⌜ Kept (now s) offsets (l .blocks) ⌝ }
+    requires { ⌜ Kept (now s) (now offsets) (l .blocks) ⌝ }
     ensures { λ r. ⌜ Written (indexFor (now (s .entry))) (now (out .entry)) (now (out .exit)) r ⌝ }
 {
     let header = l.header;
@@ -45,13 +40,9 @@ fn write_kept(s: &[u8], offsets: [u64; MOST_BLOCKS], l: Layout, out: &mut [u8]) 
     }
     let count = blocks as usize;
     let last = offsets[count - 1] as usize;
-    match read_block(&s[last..], blocks - 1, last) {
-        BlockStep::Refused(r) => CountAnswer::Refused(r),
-        BlockStep::Read(b) => {
-            if b.flags % 2 == 1 {
-                return CountAnswer::refuse(NO_INDEX_POSSIBLE, 0);
-            }
-            index::text::write(ending, &offsets[..count], out)
-        }
+    let b = again::summary_of(&s[last..]);
+    if b.streamed {
+        return CountAnswer::refuse(NO_INDEX_POSSIBLE, 0);
     }
+    index::text::write(ending, &offsets[..count], out)
 }

@@ -9,9 +9,9 @@ ghost use Rattle.format.specs.Chain.{mostBlocks};
 ghost use Rattle.format.specs.Index.{judged, indexed};
 ghost use Rattle.format.specs.declared.layout.Tree.the-variants.{NoTree};
 ghost use Rattle.file.specs.Layout.{behindHeader, behindComments, behindTree, withBlocks, layoutWith, Judged, Kept};
-use crate::again;
-use crate::chain;
-use crate::step::ChainStep;
+use blocks::again;
+use blocks::chain;
+use blocks::step::ChainStep;
 use format::answer::BlockAnswer;
 use format::answer::LayoutAnswer;
 use format::layout::Header;
@@ -21,6 +21,8 @@ use format::layout::Verdict;
 use format::limits::MOST_BLOCKS;
 use format::limits::MOST_BYTES;
 use format::offset::Offset;
+use format::refusal::FILE_TOO_LONG;
+use format::refusal::NEITHER_TREE_NOR_BLOCK;
 use format::refusal::Refusal;
 use front::comments;
 use front::header;
@@ -46,20 +48,9 @@ pub fn read_into(s: &[u8], offsets: &mut [u64; MOST_BLOCKS]) -> LayoutAnswer
     match judge(s, offsets) {
         LayoutAnswer::Accepted(l) => LayoutAnswer::Accepted(l),
         LayoutAnswer::Refused(r) => {
-            clear(offsets);
+            *offsets = [0u64; MOST_BLOCKS];
             LayoutAnswer::Refused(r)
         }
-    }
-}
-
-// Sets every offset to 0.
-fn clear(offsets: &mut [u64])
-    ensures { λ _. ⌜ now (offsets .exit) ≡ replicate (length (now (offsets .entry))) 0 ⌝ }
-{
-    let mut i = 0;
-    while i < offsets.len() {
-        offsets[i] = 0;
-        i += 1;
     }
 }
 
@@ -86,14 +77,12 @@ fn kept_block(s: &[u8], offsets: &[u64], blocks: u8, ordinal: u64) -> BlockAnswe
     BlockAnswer::Found(again::block_of(&s[at..], ordinal as u8, at))
 }
 
-// Judges a file. An accepted file's offsets come first in the table then. It comes as a slice here and below, since a
-// reference to an array says nothing of the array's length in a proof.
-fn judge(s: &[u8], offsets: &mut [u64]) -> LayoutAnswer
-    requires { ⌜ length (now offsets) ≡ mostBlocks ⌝ }
+// Judges a file. An accepted file's offsets come first in the table then.
+fn judge(s: &[u8], offsets: &mut [u64; MOST_BLOCKS]) -> LayoutAnswer
     ensures { λ r. ⌜ Judged (file (now (s .entry))) (now (offsets .entry)) (now (offsets .exit)) r ⌝ }
 {
     if MOST_BYTES < s.len() {
-        return LayoutAnswer::Refused(Refusal::new(1, 0));
+        return LayoutAnswer::Refused(Refusal::new(FILE_TOO_LONG, 0));
     }
     match header::read_header(s) {
         HeaderStep::Refused(r) => LayoutAnswer::Refused(r),
@@ -101,9 +90,8 @@ fn judge(s: &[u8], offsets: &mut [u64]) -> LayoutAnswer
     }
 }
 
-fn behind_header(s: &[u8], h: Header, offsets: &mut [u64]) -> LayoutAnswer
+fn behind_header(s: &[u8], h: Header, offsets: &mut [u64; MOST_BLOCKS]) -> LayoutAnswer
     requires { ⌜ h .end .0 ≤ length (now s) ⌝ }
-    requires { ⌜ length (now offsets) ≡ mostBlocks ⌝ }
     ensures { λ r. ⌜ Judged (behindHeader (now (s .entry)) h) (now (offsets .entry)) (now (offsets .exit)) r ⌝ }
 {
     match comments::comments_end(s, h.end.0 as usize) {
@@ -112,9 +100,8 @@ fn behind_header(s: &[u8], h: Header, offsets: &mut [u64]) -> LayoutAnswer
     }
 }
 
-fn behind_comments(s: &[u8], h: Header, n: usize, offsets: &mut [u64]) -> LayoutAnswer
+fn behind_comments(s: &[u8], h: Header, n: usize, offsets: &mut [u64; MOST_BLOCKS]) -> LayoutAnswer
     requires { ⌜ n ≤ length (now s) ⌝ }
-    requires { ⌜ length (now offsets) ≡ mostBlocks ⌝ }
     ensures { λ r. ⌜ Judged (behindComments (now (s .entry)) h n) (now (offsets .entry)) (now (offsets .exit)) r ⌝ }
 {
     match tree::read_tree(s, n) {
@@ -123,9 +110,14 @@ fn behind_comments(s: &[u8], h: Header, n: usize, offsets: &mut [u64]) -> Layout
     }
 }
 
-fn behind_tree(s: &[u8], h: Header, n: usize, t: Tree, offsets: &mut [u64]) -> LayoutAnswer
+fn behind_tree(
+    s: &[u8],
+    h: Header,
+    n: usize,
+    t: Tree,
+    offsets: &mut [u64; MOST_BLOCKS],
+) -> LayoutAnswer
     requires { ⌜ firstBlock n t ≤ length (now s) ⌝ }
-    requires { ⌜ length (now offsets) ≡ mostBlocks ⌝ }
     ensures { λ r. ⌜ Judged (behindTree (now (s .entry)) h n t) (now (offsets .entry)) (now (offsets .exit)) r ⌝ }
 {
     match t {
@@ -136,7 +128,7 @@ fn behind_tree(s: &[u8], h: Header, n: usize, t: Tree, offsets: &mut [u64]) -> L
         } => with_blocks(s, h, n, t, room_end.0 as usize, offsets),
         Tree::NoTree => {
             if !goes_on(s, n) {
-                return LayoutAnswer::Refused(Refusal::new(7, n));
+                return LayoutAnswer::Refused(Refusal::new(NEITHER_TREE_NOR_BLOCK, n));
             }
             with_blocks(s, h, n, t, n, offsets)
         }
@@ -159,10 +151,9 @@ fn with_blocks(
     n: usize,
     t: Tree,
     first: usize,
-    offsets: &mut [u64],
+    offsets: &mut [u64; MOST_BLOCKS],
 ) -> LayoutAnswer
     requires { ⌜ first ≤ length (now s) ⌝ }
-    requires { ⌜ length (now offsets) ≡ mostBlocks ⌝ }
     ensures { λ r. ⌜ Judged (withBlocks (now (s .entry)) h n t first) (now (offsets .entry)) (now (offsets .exit)) r ⌝ }
 {
     match chain::walk(s, first, offsets) {

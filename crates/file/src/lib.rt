@@ -1,7 +1,3 @@
 // One file by itself: its layout, its blocks one by one, and the index written for it.
-pub mod again;
-pub mod block;
-mod chain;
 pub mod index_writer;
 pub mod layout;
-mod step;

@@ -3,7 +3,7 @@ use Prim.Native.Nat.{ℕ, zero, suc, _+_, _≤_}
 use mathlib.Core.Path.{_≡_, refl, sym, ap, subst, _∙_}
 use mathlib.Core.Bool.{Bool, true, false, not, _&&_, true≢false}
 use mathlib.Core.List.{List, [], _∷_, _++_, append-nil, append-assoc}
-use mathlib.Core.Option.{some}
+use mathlib.Core.Option.{none, some}
 use native.Mathlib.Omega.{arith}
 use lib.ListN.{length, take, drop, length-append, length-drop, take-append-drop}
 use lib.Seq.{length-take-le, take-append-seam, drop-append-seam, take-append-le, drop-append-le, take-at, drop-at, drop-drop}
@@ -11,22 +11,22 @@ use lib.Dec.{eqb, leb}
 use borrow.Author.Tests.{leb-true}
 use Rattle.format.specs.declared.block.Block.{Block}
 use Rattle.format.specs.Bytes.{Bytes, begins}
-use Rattle.format.specs.Outcome.{Outcome, accepted, refused, _>>=_}
-use Rattle.format.specs.Block.{flags, isStreamed, blockWith, block, soundBlock, Sound}
+use Rattle.format.specs.Outcome.{accepted, refused, refusal}
+use Rattle.format.specs.Block.{flags, leastBlock, isStreamed, blockWith, block, soundBlock, Sound}
 use Rattle.format.specs.Comments.{indexLine}
 use Rattle.format.specs.Tree.{mark, freeSpace}
 use Rattle.format.specs.Chain.{Chain, extent, isTail, ended, linked, nextBlock, tail, linkedAt, chain, blocksEnd}
 use Rattle.format.specs.IndexWriter.{mayHaveIndex}
-use Rattle.format.proofs.OutcomeLaws.{Accepts, accepted-holds, accepts-bind, accepts-need, found-choice}
 use Rattle.format.proofs.ReadLaws.{Between}
 use Rattle.format.proofs.LocalLaws.{free-space-again}
 use Rattle.format.proofs.BlockLaws.{BlockIs, accepted-block, sound-accepted}
-use Rattle.format.proofs.NextLaws.{Next, next-is, next-tail, next-mark}
+use Rattle.format.proofs.InductionLaws.{accepted-chain}
+use Rattle.format.proofs.NextLaws.{Next, next-tail, next-mark}
 
--- a field in the first 54 bytes is the same with anything behind them
-header-field : (p y z : Bytes) → 54 ≤ length p → (n w : ℕ) → leb (n + w) 54 ≡ true → take w (drop n (p ++ y)) ≡ take w (drop n (p ++ z))
+-- a field in the least bytes of a block is the same with anything after them
+header-field : (p y z : Bytes) → leastBlock ≤ length p → (n w : ℕ) → leb (n + w) leastBlock ≡ true → take w (drop n (p ++ y)) ≡ take w (drop n (p ++ z))
 header-field p y z h n w q =
-    let inside : n + w ≤ 54 = leb-true _ _ q in
+    let inside : n + w ≤ leastBlock = leb-true _ _ q in
     let before : n ≤ length p = omega arith in
     let room : w ≤ length (drop n p) = simp length-drop (omega arith) in
     rw (drop-append-le n p y, drop-append-le n p z, take-append-le w (drop n p) y, take-append-le w (drop n p) z)
@@ -64,30 +64,43 @@ record ChainFront (k i n : ℕ) (t : Bytes) (c : Chain) : Type 0 where
   local : (b : Block) → mayHaveIndex (b ∷ c .blocks) ≡ true → (y : Bytes) → isTail y ≡ true
       → chain k i n (front ++ y) ≡ accepted (record { blocks = c .blocks; tail = y })
 
+-- where no block follows, the tail begins
+pub chain-none : (k i n : ℕ) (t : Bytes) → nextBlock t ≡ none → chain k i n t ≡ tail n t
+unfolding chain
+chain-none zero i n t h = rw (h, chain)
+chain-none (suc k) i n t h = rw (h, chain)
+
+-- where a block follows and none is allowed, its mark is refused
+pub chain-many : (i n g : ℕ) (t : Bytes) → nextBlock t ≡ some g → chain zero i n t ≡ refused (refusal 16 (n + g))
+unfolding chain
+chain-many i n g t h = rw (h, chain)
+
+-- where a block follows, the chain goes on at its mark
+pub chain-next : (k i n g : ℕ) (t : Bytes) → nextBlock t ≡ some g → chain (suc k) i n t ≡ linkedAt i (n + g) (drop g t) (chain k (i + 1))
+unfolding chain
+chain-next k i n g t h = rw (h, chain)
+
 -- a tail is a chain of no blocks
-no-blocks : (k i n : ℕ) (y : Bytes) → isTail y ≡ true → chain k i n y ≡ accepted (ended y)
-unfolding chain tail
-no-blocks zero i n y h = rw (next-tail y h, chain, tail, h)
-no-blocks (suc k) i n y h = rw (next-tail y h, chain, tail, h)
+pub no-blocks : (k i n : ℕ) (y : Bytes) → isTail y ≡ true → chain k i n y ≡ accepted (ended y)
+unfolding tail
+no-blocks k i n y h = chain-none k i n y (next-tail y h) ∙ rw (tail, h)
 
 -- a tail is the rest of no blocks
-tail-front : (k i n : ℕ) (t : Bytes) → Accepts (ChainFront k i n t) (tail n t)
-unfolding tail blocksEnd mayHaveIndex
-tail-front k i n t = search (accepts-need, nothing)
-  where
-    nothing : ChainFront k i n t (ended t)
-    nothing = record { front = []; whole = refl; end = omega arith; few = omega arith; marked = λ h. absurd (true≢false (sym h)); local = λ b h. no-blocks k i n }
+tail-front : (k i n : ℕ) (t : Bytes) → ChainFront k i n t (ended t)
+unfolding blocksEnd mayHaveIndex
+tail-front k i n t =
+    record { front = []; whole = refl; end = omega arith; few = omega arith; marked = λ h. absurd (true≢false (sym h)); local = λ b h. no-blocks k i n }
 
 -- a streamed block, after g bytes, is all that is left
-streamed-front : (k i n g : ℕ) (t : Bytes) (b : Block) → g ≤ length t → block i (n + g) (drop g t) ≡ accepted b → isStreamed (b .flags) ≡ true
+streamed-front : (k i n g : ℕ) (t : Bytes) (b : Block) → Next t g → block i (n + g) (drop g t) ≡ accepted b → isStreamed (b .flags) ≡ true
     → ChainFront (suc k) i n t (linked b (ended []))
 unfolding blocksEnd mayHaveIndex
-streamed-front k i n g t b l read s =
+streamed-front k i n g t b next read s =
     let known = accepted-block read in
     record {
       front = t;
       whole = sym (append-nil t);
-      end = omega (arith, known .at, known .streamed (rw (← known .same-flags) s), length-drop g t);
+      end = omega (arith, known .at, known .streamed (rw (← known .same-flags) s), length-drop g t, next .inside);
       few = omega arith;
       marked = λ q. absurd (true≢false (sym q ∙ ap not s));
       local = λ a q. absurd (true≢false (sym q ∙ ap not s));
@@ -98,11 +111,6 @@ begins-front : (p s y z : Bytes) → length p ≤ length s → begins p (s ++ y)
 begins-front [] s y z h = refl
 begins-front (a ∷ p) [] y z h = absurd (omega arith)
 begins-front (a ∷ p) (b ∷ s) y z h = ap (λ (x : Bool). eqb a b && x) (begins-front p s y z (omega arith))
-
--- where a block follows, the chain goes on at its mark
-pub chain-next : (k i n g : ℕ) (t : Bytes) → nextBlock t ≡ some g → chain (suc k) i n t ≡ linkedAt i (n + g) (drop g t) (chain k (i + 1))
-unfolding chain
-chain-next k i n g t h = rw (h, chain)
 
 -- after q, in which no mark begins, stands the block b, which is p
 module _ (k i n : ℕ) (q p z : Bytes) (b : Block) (size : length p ≡ extent b) (unindexed : begins indexLine (q ++ (p ++ z)) ≡ false)
@@ -152,34 +160,19 @@ module _ (k i n : ℕ) (q p z : Bytes) (b : Block) (size : length p ≡ extent b
       no-gap [] e y = rw (append-assoc p (f .front) y) (marked-again (f .front ++ y))
       no-gap (a ∷ q) e y = absurd (omega arith)
 
--- a block is a front part: alone where it is streamed, and else with those behind it
-block-front : (k i n g : ℕ) (t : Bytes) (b : Block) → Next t g → block i (n + g) (drop g t) ≡ accepted b → (streamed : Bool) → isStreamed (b .flags) ≡ streamed
-    → (o : Outcome Chain) → Accepts (ChainFront k (i + 1) (n + g + extent b) (drop (extent b) (drop g t))) o
-    → Accepts (ChainFront (suc k) i n t) (_>>=_ (elim streamed [ true ↦ accepted (ended []) | false ↦ o ]) (λ c. accepted (linked b c)))
-block-front k i n g t b m h true e o f = streamed-front k i n g t b (omega (arith, m .inside)) h e
-block-front k i n g t b m h false e (refused r) f = tt
-block-front k i n g t b m h false e (accepted c) f =
+-- a block that is not streamed, after g bytes, is a front part with those after it
+plain-front : (k i n g : ℕ) (t : Bytes) (b : Block) (c : Chain) → Next t g → block i (n + g) (drop g t) ≡ accepted b → isStreamed (b .flags) ≡ false
+    → ChainFront k (i + 1) (n + g + extent b) (drop (extent b) (drop g t)) c → ChainFront (suc k) i n t (linked b c)
+plain-front k i n g t b c next read e f =
     let u = drop g t in
     let outer : take g t ++ u ≡ t = take-append-drop g t in
     let inner : take (extent b) u ++ drop (extent b) u ≡ u = take-append-drop (extent b) u in
-    let gap : length (take g t) ≡ g = length-take-le g t (omega (arith, m .inside)) in
-    let size = length-take-le (extent b) u (accepted-block h .inside) in
+    let gap : length (take g t) ≡ g = length-take-le g t (omega (arith, next .inside)) in
+    let size = length-take-le (extent b) u (accepted-block read .inside) in
     subst (λ (s : Bytes). ChainFront (suc k) i n s (linked b c)) (ap (λ (v : Bytes). take g t ++ v) inner ∙ outer)
     (linked-front k i n (take g t) (take (extent b) u) (drop (extent b) u) b size
-    (rw (inner, outer) (m .unindexed)) (rw (inner, outer, gap) (m .free)) (rw inner (m .marked))
-    (rw (inner, gap) h) e c (rw gap f))
-
--- the blocks of a chain are a front part
-chain-front : (k i n : ℕ) (t : Bytes) → Accepts (ChainFront k i n t) (chain k i n t)
-unfolding chain linkedAt
-chain-front zero i n t = found-choice (Accepts (ChainFront zero i n t)) (nextBlock t) _ _ (λ e. tail-front zero i n t) (λ g e. tt)
-chain-front (suc k) i n t =
-    found-choice (Accepts (ChainFront (suc k) i n t)) (nextBlock t) _ _ (λ e. tail-front (suc k) i n t)
-    λ g e.
-    let j = n + g in
-    let u = drop g t in
-    accepts-bind _ (block i j u) _ λ b q. block-front k i n g t b (next-is t g e) q (isStreamed (b .flags)) refl
-    (chain k (i + 1) (j + extent b) (drop (extent b) u)) (chain-front k (i + 1) (j + extent b) (drop (extent b) u))
+    (rw (inner, outer) (next .unindexed)) (rw (inner, outer, gap) (next .free)) (rw inner (next .marked))
+    (rw (inner, gap) read) e c (rw gap f))
 
 -- where the last block is not streamed, a block may stand in front
 with-first : (bs : List Block) → mayHaveIndex bs ≡ true → (b : Block) × (mayHaveIndex (b ∷ bs) ≡ true)
@@ -190,7 +183,8 @@ with-first (b ∷ bs) h = (b, h)
 module _ (k i n : ℕ) (c : Chain) where
   -- the blocks of an accepted chain are a front part
   accepted-front : (t : Bytes) → chain k i n t ≡ accepted c → ChainFront k i n t c
-  accepted-front t = accepted-holds (ChainFront k i n t) (chain k i n t) c (chain-front k i n t)
+  accepted-front t =
+      accepted-chain {P = ChainFront} (record { no-block = λ k i n t h. tail-front k i n t; streamed-block = streamed-front; plain-block = plain-front })
 
   -- there are no more than are allowed
   pub blocks-few : (t : Bytes) → chain k i n t ≡ accepted c → length (c .blocks) ≤ k

@@ -13,11 +13,13 @@ use Rattle.format.specs.Bytes.{Bytes}
 use Rattle.format.specs.Outcome.{accepted}
 use Rattle.format.specs.File.{mostBytes, File, file}
 use Rattle.format.specs.Edit.{isOneTree, filled, editTree, edit}
-use Rattle.format.specs.Edited.{treeAt, Editable, Edited}
+use Rattle.format.specs.Tree.{treeAt}
+use Rattle.format.specs.Promise.{Editable, Edited}
 use Rattle.format.proofs.OutcomeLaws.{Accepts, accepted-holds, accepts-bind, accepts-need}
 use Rattle.format.proofs.FileLaws.{file-parts, parts-file}
 use Rattle.format.proofs.EditTreeLaws.{FileRoom, file-room, treed, withTree, treed-front, treed-text, treed-spaces, treed-rest, treed-parts}
-use Rattle.format.proofs.EditWalkLaws.{file-from, records-again, outline-again}
+use Rattle.format.proofs.EditWalkLaws.{records-again, outline-again}
+use Rattle.format.proofs.FileBlockLaws.{file-from}
 
 module _ (s t : Bytes) where
   -- what is accepted can be edited
@@ -91,7 +93,7 @@ module _ (s t : Bytes) (h : Editable s t) where
       let n = h .start in
       let m = h .room-end in
       let rest : drop m refilled ≡ drop m s = rw room-size at (treed-rest n (take n s) t left (drop m s) front-size) in
-      let behind = rw (room .first) at (file-from s f (file-parts s f (h .read-before))) in
+      let behind = rw (room .first) at (file-from s f (h .read-before)) in
       record {
         before = f;
         read-before = h .read-before;

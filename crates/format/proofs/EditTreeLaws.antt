@@ -16,12 +16,11 @@ use Rattle.format.specs.declared.layout.Verdict.{Verdict}
 use Rattle.format.specs.Bytes.{Bytes}
 use Rattle.format.specs.Outcome.{Outcome, accepted, refused}
 use Rattle.format.specs.Line.{lines}
-use Rattle.format.specs.Tree.{treeEnd, freeSpace, withRoom, tree}
+use Rattle.format.specs.Tree.{treeEnd, freeSpace, withRoom, tree, treeAt}
 use Rattle.format.specs.Chain.{mostBlocks, chain}
 use Rattle.format.specs.Index.{verdict}
 use Rattle.format.specs.File.{mostBytes, File, firstBlock, goesOn, offsets, file}
 use Rattle.format.specs.Edit.{endsAt, isOneTree}
-use Rattle.format.specs.Edited.{treeAt}
 use Rattle.format.proofs.OutcomeLaws.{accepted-holds, accepts-bind}
 use Rattle.format.proofs.LocalLaws.{header-again, comments-kept, tree-anywhere, free-space-spaces, goes-on-no-comment, start-free}
 use Rattle.format.proofs.FileLaws.{blocksStart, Parts, file-parts, in-order}

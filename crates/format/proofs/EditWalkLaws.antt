@@ -3,7 +3,6 @@ use Prim.Native.Nat.{ℕ, _+_, _-_, _≤_}
 use mathlib.Core.Path.{_≡_, refl, sym, ap, subst, _∙_}
 use mathlib.Core.Bool.{true, false}
 use mathlib.Core.List.{List, [], _∷_}
-use native.Mathlib.Nat.{le-refl}
 use native.Mathlib.Omega.{arith}
 use lib.ListN.{take, drop}
 use lib.Seq.{drop-drop}
@@ -11,28 +10,10 @@ use Rattle.format.specs.declared.block.Block.{Block}
 use Rattle.format.specs.declared.block.Inner.the-variants.{Plain}
 use Rattle.format.specs.Bytes.{Bytes}
 use Rattle.format.specs.Outcome.{accepted}
-use Rattle.format.specs.Block.{block}
-use Rattle.format.specs.Chain.{mostBlocks, extent}
 use Rattle.format.specs.File.{File, file}
 use Rattle.format.specs.Nest.{contentAt, contentOf, isFile, Inside, closed, inside, walk, walkFile, recordsFrom, records}
 use Rattle.format.specs.Outline.{rows, outline}
-use Rattle.format.proofs.OutcomeLaws.{accepted-holds}
-use Rattle.format.proofs.BlockLaws.{accepted-block, AllBlocks, AllOfChain, chain-all}
-use Rattle.format.proofs.FileLaws.{Parts, blocksStart}
-
--- a block begins at offset m or behind
-abbrev From : ℕ → Block → Type 0
-From m b = m ≤ b .at .0
-
--- the blocks of a file begin where its first block does or behind
-pub file-from : (s : Bytes) (f : File) → Parts s f → AllBlocks (From (blocksStart f)) (f .blocks)
-file-from s f h =
-    let m = blocksStart f in
-    accepted-holds (AllOfChain (From m)) _ _ (chain-all (From m) (λ k i n t. m ≤ n) (λ k i n g t h. omega arith) step mostBlocks 0 m _ (le-refl m)) (h .chain-read)
-  where
-    step : (k i n : ℕ) (t : Bytes) (b : Block) → blocksStart f ≤ n → block i n t ≡ accepted b
-        → (blocksStart f ≤ b .at .0) × (blocksStart f ≤ n + extent b)
-    step k i n t b le q = (omega (arith, accepted-block q .at), omega arith)
+use Rattle.format.proofs.FileBlockLaws.{AllBlocks, From}
 
 module _ (m : ℕ) (u s : Bytes) (rest : drop m u ≡ drop m s) where
   -- what stands at m or behind is the same

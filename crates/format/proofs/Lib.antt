@@ -1,7 +1,6 @@
 -- Laws over the definitions of the format.
 pub mod Meaning
 pub mod Examples
-pub mod FillLaws
 pub mod OutcomeLaws
 pub mod NumberedLaws
 pub mod WordLaws
@@ -10,6 +9,7 @@ pub mod RowLaws
 pub mod BlockLaws
 pub mod WalkLaws
 pub mod OutlineLaws
+pub mod PartLaws
 pub mod ByteLaws
 pub mod LineLaws
 pub mod NumeralLaws
@@ -19,8 +19,12 @@ pub mod IndexLaws
 pub mod ReadLaws
 pub mod LocalLaws
 pub mod NextLaws
+pub mod InductionLaws
 pub mod ChainLaws
+pub mod MoveLaws
 pub mod FileLaws
+pub mod FileBlockLaws
+pub mod FewLaws
 pub mod WriterLaws
 pub mod EditTreeLaws
 pub mod EditWalkLaws

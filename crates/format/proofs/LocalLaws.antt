@@ -7,7 +7,7 @@ use mathlib.Core.Option.{Option, none, some}
 use native.Mathlib.Nat.{zero-add, add-zero, le-refl}
 use native.Mathlib.Omega.{arith}
 use lib.ListN.{length, take, drop, replicate, length-replicate, length-drop, take-append-drop}
-use lib.Seq.{take-at, drop-at, take-append-le, drop-append-le, length-take-le, drop-length, drop-drop}
+use lib.Seq.{take-at, take-append-le, drop-append-le, length-take-le, drop-drop}
 use lib.Dec.{eqb}
 use borrow.Author.Tests.{eqb-false, ne-eqb}
 use Rattle.format.specs.declared.layout.Header.{Header}
@@ -32,11 +32,6 @@ module _ {Next : Bytes → Type 0} {reads : Reading} {n m : ℕ} (l : ℕ) (p z 
   front-part =
       sym (take-at (f .front) (f .rest) l (omega (arith, f .end))) ∙ ap (take l) (sym (f .whole)) ∙ take-append-le l p z inside
 
-  -- the other bytes of p, and then z, may come next
-  front-next : Next (drop l p ++ z)
-  front-next =
-      subst Next (sym (drop-at (f .front) (f .rest) l (omega (arith, f .end))) ∙ ap (drop l) (sym (f .whole)) ∙ drop-append-le l p z inside) (f .next)
-
   -- what is read reads the same from any offset with anything behind p that may come next
   front-again : (k : ℕ) (y : Bytes) → Next (drop l p ++ y) → reads k (p ++ y) (k + l)
   front-again k y h =
@@ -54,16 +49,6 @@ front-within {reads} {n} {m} p z f inside y next =
 pub header-again : (p z y : Bytes) (h : Header) → header (p ++ z) ≡ accepted h → h .end .0 ≤ length p → header (p ++ y) ≡ accepted h
 header-again p z y h q inside = front-within p z (header-front (p ++ z) h q) (omega arith) y tt
 
-module _ (n : ℕ) (p z : Bytes) (q : comments n (lines (p ++ z)) ≡ accepted (n + length p)) where
-  -- comments are the same where no `#` comes next
-  pub comments-again : (y : Bytes) → begins (text "#") y ≡ false → comments n (lines (p ++ y)) ≡ accepted (n + length p)
-  comments-again y h =
-      front-again (length p) p z (comments-front n (p ++ z) (n + length p) q) refl (le-refl (length p)) n y (rw drop-length h)
-
-  -- behind comments no `#` comes
-  pub comments-next : begins (text "#") z ≡ false
-  comments-next = rw drop-length at (front-next (length p) p z (comments-front n (p ++ z) (n + length p) q) refl (le-refl (length p)))
-
 -- a tree is the same at any offset with anything behind it
 tree-again : (n : ℕ) (t z : Bytes) → treeEnd n (lines (t ++ z)) ≡ accepted (some (n + length t)) → (k : ℕ) (y : Bytes)
     → treeEnd k (lines (t ++ y)) ≡ accepted (some (k + length t))
@@ -73,11 +58,6 @@ tree-again n t z q k y = front-again (length t) t z (tree-front n (t ++ z) (n + 
 pub tree-anywhere : (t : Bytes) → treeEnd 0 (lines t) ≡ accepted (some (length t)) → (n : ℕ) (z : Bytes)
     → treeEnd n (lines (t ++ z)) ≡ accepted (some (n + length t))
 tree-anywhere t q = tree-again 0 t [] (rw (append-nil, zero-add) q)
-
--- a tree in a file is one by itself
-pub tree-alone : (n : ℕ) (t z : Bytes) → treeEnd n (lines (t ++ z)) ≡ accepted (some (n + length t))
-    → treeEnd 0 (lines t) ≡ accepted (some (length t))
-tree-alone n t z q = rw (append-nil, zero-add) at (tree-again n t z q 0 [])
 
 -- where `%YAML 1.1` does not stand no tree begins
 pub no-tree : (n : ℕ) (s : Bytes) → begins yamlLine s ≡ false → treeEnd n (lines s) ≡ accepted none
@@ -95,10 +75,6 @@ no-tree n s h = on-lines (lines s) (rw join-lines h)
 -- no tree begins where a block begins
 pub no-tree-mark : (n : ℕ) (s : Bytes) → begins mark s ≡ true → treeEnd n (lines s) ≡ accepted none
 no-tree-mark n s h = no-tree n s (ap (begins yamlLine) (begins-true mark s h))
-
--- no tree begins at the end
-pub no-tree-end : (n : ℕ) → treeEnd n (lines []) ≡ accepted none
-no-tree-end n = no-tree n [] refl
 
 -- free space goes on over bytes with no D3
 pub free-space-lacks : (p z : Bytes) → lacks 0xD3 p ≡ true → freeSpace (p ++ z) ≡ length p + freeSpace z

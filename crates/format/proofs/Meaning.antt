@@ -17,5 +17,5 @@ use Rattle.format.specs.Edit
 use Rattle.format.specs.Listing
 
 unfoldable pub meaning : Unit {0}
-unfolding Numeral.numerals Numeral.numeral Numeral.both Numeral.split Numeral.leadFirst Numeral.digitsOf Line.lines Line.lead Header.header Header.versionLine Header.headerOf Header.version Header.versionOf Comments.comments Tree.tree Tree.treeEnd Tree.directives Tree.content Tree.withRoom Tree.freeSpace Block.block Block.blockWith Chain.chain Chain.linkedAt Chain.tail Chain.nextBlock Chain.markAhead Index.verdict Index.judged Index.indexed Index.styled Index.atLeastOne Index.dashNumbers Index.dashed Index.withZeros Index.afterWord Index.listed Index.inBrackets Index.trimStart Index.without Index.entry Index.entries Index.rendering Index.styledText Index.spaced Index.indexText File.layoutOf File.file File.body File.firstBlock File.goesOn File.layout IndexWriter.mayHaveIndex IndexWriter.indexFor Nest.opened Nest.inside Nest.walked Nest.walk Nest.recordsFrom Nest.records Nest.walkFile Outline.rowOf Outline.innerNumber Outline.fieldsOf Outline.sum Outline.packed Outline.encodeRow Outline.outlineOf Outline.rows Outline.outline Fields.numberBytes Fields.layoutFields Fields.layoutBytes Fields.recordFields Fields.encodeRecord Fields.recordTable Edit.endsAt Edit.isOneTree Edit.filled Edit.editTree Edit.edit Listing.sentence Listing.treeText Listing.rowText Listing.verdictWord Listing.listed Listing.printed Listing.listing List.flatMap
+unfolding Numeral.numerals Numeral.numeral Numeral.both Numeral.split Numeral.leadFirst Numeral.digitsOf Line.lines Line.lead Header.header Header.versionLine Header.headerOf Header.version Header.versionOf Comments.comments Tree.tree Tree.treeEnd Tree.directives Tree.content Tree.withRoom Tree.freeSpace Block.block Block.blockWith Chain.chain Chain.linkedAt Chain.tail Chain.nextBlock Chain.markAhead Index.verdict Index.judged Index.indexed Index.styled Index.atLeastOne Index.dashNumbers Index.dashed Index.withZeros Index.afterWord Index.listed Index.inBrackets Index.trimStart Index.without Index.entry Index.entries Index.rendering Index.styledText Index.spaced Index.indexText File.layoutOf File.file File.body File.firstBlock File.goesOn File.layout IndexWriter.mayHaveIndex IndexWriter.indexFor Nest.opened Nest.inside Nest.walked Nest.walk Nest.recordsFrom Nest.records Nest.walkFile Outline.rowOf Outline.innerNumber Outline.fieldsOf Outline.sum Outline.packed Outline.encodeRow Outline.outlineOf Outline.rows Outline.outline Fields.numberBytes Fields.layoutFields Fields.layoutBytes Fields.recordFields Fields.encodeRecord Fields.recordTable Edit.endsAt Edit.isOneTree Edit.filled Edit.editTree Edit.edit Listing.sentence Listing.treeText Listing.rowText Listing.verdictWord Listing.fileListing Listing.printed Listing.listing List.flatMap
 meaning = tt

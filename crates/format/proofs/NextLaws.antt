@@ -56,6 +56,7 @@ module _ (t : Bytes) where
 
 -- after g bytes of t stands the next block
 pub record Next (t : Bytes) (g : ℕ) : Type 0 where
+  pub is : nextBlock t ≡ some g
   pub unindexed : begins indexLine t ≡ false
   pub free : freeSpace t ≡ g
   pub inside : g < length t
@@ -72,7 +73,7 @@ next-is t g h = go (begins indexLine t) refl (ltb (freeSpace t) (length t)) refl
         let room = ltb-true (freeSpace t) (length t) q in
         let same : some (freeSpace t) ≡ some g = sym (next-mark t e room) ∙ h in
         let free : freeSpace t ≡ g = cc in
-        record { unindexed = e; free = free; inside = rw free at room; marked = rw free at (free-space-stops t room) }
+        record { is = h; unindexed = e; free = free; inside = rw free at room; marked = rw free at (free-space-stops t room) }
     go false e false q =
         let clash : none ≡ some g = rw (e, nextBlock, q, markAhead) at h in
         let z : _≡_ {A = ℕ} 0 1 = cc in

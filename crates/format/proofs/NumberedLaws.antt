@@ -3,7 +3,7 @@
 use Prim.Native.Nat.{ℕ, zero, suc, _+_, _*_, _/_, _≤_}
 use mathlib.Core.Path.{_≡_, refl, ap}
 use mathlib.Core.Bool.{Bool, true, false}
-use mathlib.Core.List.{List, []}
+use mathlib.Core.List.{List}
 use mathlib.Core.Option.{Option, none, some}
 use native.Mathlib.Omega.{arith}
 use lib.ListN.{length, take, drop, length-append, length-drop}
@@ -24,7 +24,7 @@ use Rattle.format.specs.Header.{token, headerOf, versionLine, header}
 use Rattle.format.specs.Comments.{comments, indexLine}
 use Rattle.format.specs.Tree.{endLine, yamlLine, isStart, isDirective, content, directives, treeEnd, tree}
 use Rattle.format.specs.Block.{block, isStreamed, flags}
-use Rattle.format.specs.Chain.{Chain, mostBlocks, extent, ended, linked, nextBlock, tail, linkedAt, chain}
+use Rattle.format.specs.Chain.{mostBlocks, linked, tail, chain}
 use Rattle.format.specs.File.{mostBytes, firstBlock, goesOn, body, file, layout, blockAt}
 use Rattle.format.specs.Nest.{walkFile, recordsFrom, records, recordCount, recordAt}
 use Rattle.format.specs.Outline.{rowBytes, decodeRow, rows, outline, storedFrom, stored, storedCount, storedAt, rewritten}
@@ -32,12 +32,12 @@ use Rattle.format.specs.Fields.{layoutBytes, recordTable, storedRows, fo
 use Rattle.format.specs.Lent.{writes}
 use Rattle.format.specs.IndexWriter.{indexFor}
 use Rattle.format.specs.Edit.{editTree, edit}
-use Rattle.format.proofs.OutcomeLaws.{choice, found-choice}
+use Rattle.format.proofs.OutcomeLaws.{choice}
 use Rattle.format.proofs.ByteLaws.{begins-true}
 use Rattle.format.proofs.LineLaws.{joinLines, join-lines}
 use Rattle.format.proofs.ReadLaws.{header-bounds, comments-bounds, first-block-bounds}
-use Rattle.format.proofs.NextLaws.{next-is}
 use Rattle.format.proofs.BlockLaws.{accepted-block}
+use Rattle.format.proofs.InductionLaws.{chain-induction}
 
 -- the refusal's number is not 0, and its place is at most so far
 pub record Proper (most : ℕ) (r : Refusal) : Type 0 where
@@ -141,27 +141,15 @@ module _ (most : ℕ) where
   unfolding tail
   numbered-tail n t h = search numbered-need
 
-  -- a block in front of others, or of none where it is streamed
-  numbered-linked : (b : Block) (streamed : Bool) (o : Outcome Chain) → Numbered most o
-      → Numbered most (_>>=_ (elim streamed [ true ↦ accepted (ended []) | false ↦ o ]) (λ c. accepted (linked b c)))
-  numbered-linked b true o h = tt
-  numbered-linked b false o h = numbered-value o (linked b) h
-
   numbered-chain : (k i n : ℕ) (t : Bytes) → n + length t ≤ most → Numbered most (chain k i n t)
-  unfolding chain linkedAt
-  numbered-chain zero i n t h =
-      found-choice (Numbered most) (nextBlock t) _ _ (λ e. numbered-tail n t (omega arith)) (λ g e. omega (arith, next-is t g e .inside))
-  numbered-chain (suc k) i n t h =
-      found-choice (Numbered most) (nextBlock t) _ _ (λ e. numbered-tail n t (omega arith))
-      λ g e.
-      let m = n + g in
-      let u = drop g t in
-      let there : m + length u ≤ most = simp length-drop (omega (arith, next-is t g e .inside)) in
-      numbered-bind (block i m u) _ (numbered-block i m u (omega arith))
-      λ b q.
-      let inside = accepted-block q .inside in
-      numbered-linked b (isStreamed (b .flags)) (chain k (i + 1) (m + extent b) (drop (extent b) u))
-      (numbered-chain k (i + 1) (m + extent b) (drop (extent b) u) (simp length-drop (omega arith)))
+  numbered-chain = chain-induction {P = λ k i n t o. n + length t ≤ most → Numbered most o} (record {
+    no-block = λ k i n t e h. numbered-tail n t (omega arith);
+    too-many = λ i n g t next h. omega (arith, next .inside);
+    refused-block = λ k i n g t r next read h. rw read at (numbered-block i (n + g) (drop g t) (omega (arith, next .inside)));
+    streamed-block = λ k i n g t b next read e h. tt;
+    plain-block = λ k i n g t b o next read e others h.
+        numbered-value o (linked b) (others (simp length-drop (omega (arith, next .inside, accepted-block read .inside, length-drop g t))));
+  })
 
   numbered-stored-from : (k n deep : ℕ) (b : Bytes) → n + k * rowBytes ≤ most → Numbered most (storedFrom k n deep b)
   unfolding storedFrom

@@ -4,7 +4,7 @@ use mathlib.Core.Path.{_≡_, refl, sym, ap, ap₂, _∙_}
 use mathlib.Core.Bool.{Bool, true, false, _&&_, _||_, not, and-assoc, and-true, or-true, true≢false}
 use mathlib.Core.List.{List, [], _∷_, _++_, append-nil}
 use mathlib.Core.Option.{Option, none, some, Option·none-ne-some}
-use native.Mathlib.Nat.{pow-suc, pow-succ', one-le-mul, one-le-pow, lt-of-lt-of-le, pow-le-pow-right}
+use native.Mathlib.Nat.{pow-suc, pow-succ', one-le-mul, one-le-pow}
 use native.Mathlib.Omega.{arith}
 use lib.ListN.{length, length-append}
 use lib.Seq.{append-snoc}
@@ -235,12 +235,6 @@ module _ (most : ℕ) (t : Bytes) (n : ℕ) (h : numeral most t ≡ some n) wher
   numeral-text =
       let back = reads-back t (leb-true 1 (length t) (and-left _ _ numeral-sized)) numeral-digits numeral-lead in
       sym (rw (numeral-value .1) at (back (suc n) (omega (arith, numeral-value .1))))
-
-  -- what is read as a number of at most so many digits is below that power of ten
-  pub numeral-below : n < 10 ^ most
-  numeral-below =
-      let few = leb-true (length t) most (and-right (leb 1 (length t)) _ numeral-sized) in
-      lt-of-lt-of-le (rw (numeral-value .1) at (value-below t numeral-digits)) (pow-le-pow-right (omega arith) few)
 
 -- numbers that are read together are read one by one
 pub both-some : (x : Option ℕ) (y : Option (List ℕ)) (ns : List ℕ) → both x y ≡ some ns

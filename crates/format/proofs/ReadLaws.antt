@@ -179,14 +179,6 @@ module _ (n : ℕ) (s : Bytes) (m : ℕ) where
       → reader n (lines s) ≡ accepted m → Front Next (Ends reader) n s m
   of-lines Next reader h = accepted-holds (Front Next (Ends reader) n s) (reader n (lines s)) m (rw join-lines at h)
 
-  -- content of a tree is a front part
-  pub content-front : content n (lines s) ≡ accepted m → Front Any (Ends content) n s m
-  content-front = of-lines Any content (content-lines n (lines s) (are-lines s))
-
-  -- directives and content of a tree are a front part
-  pub directives-front : directives n (lines s) ≡ accepted m → Front Any (Ends directives) n s m
-  directives-front = of-lines Any directives (directives-lines n (lines s) (are-lines s))
-
   -- comments are a front part, and no comment comes next
   pub comments-front : comments n (lines s) ≡ accepted m → Front NoComment (Ends comments) n s m
   comments-front = of-lines NoComment comments (comments-lines n (lines s) (are-lines s))

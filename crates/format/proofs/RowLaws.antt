@@ -9,7 +9,7 @@ use lib.Dec.{eqb}
 use Rattle.format.specs.declared.row.Row.{Row}
 use Rattle.format.specs.Bytes.{Bytes, IsBytes, bigEndian, toBytes, bit}
 use Rattle.format.specs.Outline.{rowWidths, fieldsOf, rowFrom, sum, packed, unpacked, encodeRow, decodeRow}
-use Rattle.format.proofs.PackLaws.{to-bytes-length, to-bytes-are-bytes, big-endian-to-bytes, big-endian-lt, to-bytes-big-endian}
+use Rattle.format.proofs.PackLaws.{to-bytes-length, big-endian-to-bytes, big-endian-lt, to-bytes-big-endian}
 use Rattle.format.proofs.PackLaws.{Fits, packed-lt, unpacked-packed, packed-unpacked}
 
 -- each field of a row fits its bits
@@ -26,11 +26,6 @@ pub record RowFits (r : Row) : Type 0 where
 pub encoded-length : (r : Row) → length (encodeRow r) ≡ 16
 unfolding encodeRow
 encoded-length r = to-bytes-length 16 (packed rowWidths (fieldsOf r))
-
--- and each is a byte
-pub encoded-bytes : (r : Row) → IsBytes (encodeRow r)
-unfolding encodeRow
-encoded-bytes r = to-bytes-are-bytes 16 (packed rowWidths (fieldsOf r))
 
 -- a flag is one bit
 pub bit-lt : (t : Bool) → bit t < 2

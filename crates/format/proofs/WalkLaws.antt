@@ -19,10 +19,10 @@ use Rattle.format.specs.Chain.{mostBlocks}
 use Rattle.format.specs.File.{mostBytes, file}
 use Rattle.format.specs.Nest.{contentAt, contentOf, isFile, Inside, opened, inside, walked, walk, walkFile, recordsFrom, deepest}
 use Rattle.format.specs.Outline.{innerNumber, rowOf, isRow}
-use Rattle.format.proofs.OutcomeLaws.{Accepts, accepted-holds, accepts-bind, choice}
+use Rattle.format.proofs.OutcomeLaws.{Accepts, accepts-bind, choice}
 use Rattle.format.proofs.PackLaws.{is-bytes-take, is-bytes-drop}
 use Rattle.format.proofs.RowLaws.{RowFits}
-use Rattle.format.proofs.BlockLaws.{FileBlock, AllSound, SoundFile, file-sound}
+use Rattle.format.proofs.FileBlockLaws.{FileBlock, AllBlocks, file-bounds}
 
 -- a row that fits its bytes and keeps the rules of a stored row, at most so deep
 pub record RowKept (most : ℕ) (r : Row) : Type 0 where
@@ -59,13 +59,13 @@ is-row most r o h u d = simp le-leb
 
 module _ (reads : ℕ → Bytes → Inside) (depth start : ℕ) (s : Bytes) (bytes : IsBytes s) (room : start + length s ≤ mostBytes) (deep : depth ≤ deepest)
     (inner : (n : ℕ) (t : Bytes) → IsBytes t → n + length t ≤ mostBytes → Leads (depth + 1) (reads n t .records)) where
-  -- a sound block's row is kept
+  -- the row of a block of the file is kept
   row-kept : (b : Block) (i : Inner) (m : ℕ) → FileBlock (length s) b → depth ≤ m
       → RowKept m (rowOf (record { depth = depth; at = record { 0 = start + b .at .0 }; block = b; inner = i }))
   unfolding rowOf
   row-kept b i m h le = record { fits = omega (arith, inner-lt i); rule = is-row m _ (h .ordinal) (h .header-least) (h .used) le }
 
-  -- what is found inside a sound block leads
+  -- what is found inside such a block leads
   inside-leads : (b : Block) → FileBlock (length s) b → Leads (depth + 1) (inside reads start s b .records)
   unfolding inside
   inside-leads b h =
@@ -74,8 +74,8 @@ module _ (reads : ℕ → Bytes → Inside) (depth start : ℕ) (s : Bytes) (byt
       (simp (length-take, length-drop) (omega arith)))
       (none-lead (depth + 1))
 
-  -- the records of sound blocks lead: a block's row, what is inside it, and the blocks behind it
-  walk-leads : (bs : List Block) → AllSound (length s) bs → Leads depth (walk reads depth start s bs)
+  -- the records of such blocks lead: a block's row, what is inside it, and the blocks behind it
+  walk-leads : (bs : List Block) → AllBlocks (FileBlock (length s)) bs → Leads depth (walk reads depth start s bs)
   unfolding walk walked rowOf
   walk-leads [] hs zs h m le = h m le
   walk-leads (b ∷ bs) hs zs h m le = (
@@ -89,7 +89,7 @@ module _ (reads : ℕ → Bytes → Inside) (depth start : ℕ) (s : Bytes) (byt
   unfolding walkFile
   walk-file-leads =
       accepts-bind (Leads depth) (file s) _
-      λ f e. walk-leads (f .blocks) (accepted-holds (SoundFile s) (file s) f (file-sound s bytes) e)
+      λ f e. walk-leads (f .blocks) (file-bounds s f bytes e)
 
 -- what is found in an opened block leads
 opened-leads : (depth : ℕ) (o : Outcome (List Record)) → Accepts (Leads depth) o → Leads depth (opened o .records)

@@ -9,7 +9,8 @@ use Rattle.format.specs.declared.refusal.Refusal.{Refusal}
 use Rattle.format.specs.Bytes.{Bytes}
 use Rattle.format.specs.Outcome.{Outcome, accepted, refused, refusal}
 use Rattle.format.specs.Lent.{writes}
-use Rattle.format.specs.Export.{leastRefusal, word, said, Returned}
+use Rattle.format.specs.Export.{leastRefusal, word, said}
+use Rattle.format.specs.Promise.{Returned}
 use Rattle.format.proofs.OutcomeLaws.{Accepts, accepts-bind, accepts-need}
 use Rattle.format.proofs.NumberedLaws.{Proper, Numbered, numbered-more, numbered-writes}
 

@@ -21,7 +21,7 @@ use Rattle.format.specs.Index.{verdict, rendering, indexText, IsIndex}
 use Rattle.format.specs.File.{mostBytes, File, firstBlock, goesOn, offsets, file}
 use Rattle.format.specs.IndexWriter.{mayHaveIndex, indexFor, mostIndex, tailStart, judgedAs, GoodBehind}
 use Rattle.format.proofs.OutcomeLaws.{accepted-holds, accepts-bind, accepts-need}
-use Rattle.format.proofs.BlockLaws.{AllSound, SoundFile, file-sound}
+use Rattle.format.proofs.FileBlockLaws.{FileBlock, AllBlocks, file-bounds}
 use Rattle.format.proofs.IndexLaws.{good-is-index, index-is-good, text-is-index, text-at-most}
 use Rattle.format.proofs.LocalLaws.{header-again, comments-kept, tree-kept, goes-on-no-comment, start-free}
 use Rattle.format.proofs.ChainLaws.{blocks-begin, blocks-few, chain-again}
@@ -75,7 +75,7 @@ file-again s f e m y t short =
     parts-file (p ++ y) _ (parts-again p (drop (tailStart f) s) y f (rw take-append-drop parts) size m t short)
 
 -- offsets of blocks that lie inside a file are not behind its end
-offsets-below : (size : ℕ) (bs : List Block) → AllSound size bs → (i : ℕ) → getD (offsets bs) i 0 ≤ size
+offsets-below : (size : ℕ) (bs : List Block) → AllBlocks (FileBlock size) bs → (i : ℕ) → getD (offsets bs) i 0 ≤ size
 offsets-below size [] h i = omega arith
 offsets-below size (b ∷ bs) h zero = omega (arith, h .0 .end)
 offsets-below size (b ∷ bs) h (suc i) = offsets-below size bs (h .1) i
@@ -86,7 +86,7 @@ offsets-small s f bytes e i =
     omega (
       arith,
       leb-true (length s) mostBytes (file-parts s f e .short),
-      offsets-below (length s) (f .blocks) (accepted-holds (SoundFile s) (file s) f (file-sound s bytes) e) i,
+      offsets-below (length s) (f .blocks) (file-bounds s f bytes e) i,
     )
 
 -- they have at most ten digits

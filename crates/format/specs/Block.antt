@@ -37,7 +37,7 @@ checksumLow t = number 46 8 t
 abbrev pub leastHeader : ℕ
 leastHeader = 48
 
--- the least bytes of a block: the mark and the header size stand before what it counts
+-- the least bytes of a block: its mark, its header size and the least header
 abbrev pub leastBlock : ℕ
 leastBlock = 6 + leastHeader
 

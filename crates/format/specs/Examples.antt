@@ -14,14 +14,13 @@ use Rattle.format.specs.declared.layout.Verdict.the-variants.{Absent, Go
 use Rattle.format.specs.declared.line.LineEnd.the-variants.{Lf}
 use Rattle.format.specs.Bytes.{Bytes, text, toBytes}
 use Rattle.format.specs.Outcome.{Outcome, accepted, refused, refusal, _>>=_}
-use Rattle.format.specs.Tree.{mark}
+use Rattle.format.specs.Tree.{mark, treeAt}
 use Rattle.format.specs.File.{layout}
 use Rattle.format.specs.IndexWriter.{indexFor}
 use Rattle.format.specs.Nest.{records}
 use Rattle.format.specs.Outline.{outline}
 use Rattle.format.specs.Fields.{numberBytes, layoutBytes, recordTable}
 use Rattle.format.specs.Edit.{edit}
-use Rattle.format.specs.Edited.{treeAt}
 use Rattle.format.specs.Listing.{listing}
 
 -- a question with its answer
@@ -78,8 +77,8 @@ abbrev pub indexWith : Bytes → Bytes
 indexWith ns = text "#ASDF BLOCK INDEX\n%YAML 1.1\n--- [" ++ ns ++ text "]\n...\n"
 
 -- what is reported of a file headed as A, with no comments
-abbrev pub layoutWith : Tree → ℕ → Verdict → Outcome Layout
-layoutWith t blocks v =
+abbrev pub layoutOfA : Tree → ℕ → Verdict → Outcome Layout
+layoutOfA t blocks v =
     accepted
     (record {
       header = record { version = record { major = 1; minor = 0; patch = 0 }; «line_end» = Lf; end = record { 0 = 12 } };
@@ -93,20 +92,20 @@ layoutWith t blocks v =
 abbrev pub fileBInside : Bytes
 fileBInside = fileA ++ blockHeader 48 66 66 66 ++ fileB
 
-abbrev pub table : List Example
-table =
+abbrev pub examples : List Example
+examples =
     -- P1 to P3
     Reads [] (refused (refusal 2 0))
-    ∷ Reads fileA (layoutWith NoTree 0 Absent)
+    ∷ Reads fileA (layoutOfA NoTree 0 Absent)
     ∷ Reads (take 11 fileA) (refused (refusal 3 6))
     -- P4
-    ∷ Reads fileB (layoutWith NoTree 1 Absent)
+    ∷ Reads fileB (layoutOfA NoTree 1 Absent)
     ∷ Outlines fileB (accepted (0x00 ∷ 0x00 ∷ 0x00 ∷ 0x30 ∷ 0x00 ∷ 0x00 ∷ 0x00 ∷ 0x0C ∷ replicate 8 0x00))
     -- P5 to P7
     ∷ Indexes fileB (accepted (indexWith (text "12")))
-    ∷ Reads (fileB ++ indexWith (text "12")) (layoutWith NoTree 1 Good)
-    ∷ Reads (fileB ++ indexWith (text "012")) (layoutWith NoTree 1 IgnoredForm)
-    ∷ Reads (fileB ++ indexWith (text "13")) (layoutWith NoTree 1 IgnoredList)
+    ∷ Reads (fileB ++ indexWith (text "12")) (layoutOfA NoTree 1 Good)
+    ∷ Reads (fileB ++ indexWith (text "012")) (layoutOfA NoTree 1 IgnoredForm)
+    ∷ Reads (fileB ++ indexWith (text "13")) (layoutOfA NoTree 1 IgnoredList)
     -- the same three as numbers: version, ends of header and comments, tree, number of blocks, verdict, line end
     ∷ Numbers (fileB ++ indexWith (text "12")) (1 ∷ 0 ∷ 0 ∷ 12 ∷ 12 ∷ 0 ∷ 0 ∷ 0 ∷ 0 ∷ 1 ∷ 1 ∷ 0 ∷ [])
     ∷ Numbers (fileB ++ indexWith (text "012")) (1 ∷ 0 ∷ 0 ∷ 12 ∷ 12 ∷ 0 ∷ 0 ∷ 0 ∷ 0 ∷ 1 ∷ 2 ∷ 0 ∷ [])
@@ -124,7 +123,7 @@ table =
     ∷ Records fileBInside
     ((0 ∷ 12 ∷ 1 ∷ 0 ∷ 0 ∷ 0 ∷ 12 ∷ 48 ∷ 0 ∷ 0 ∷ 66 ∷ 66 ∷ 66 ∷ 0 ∷ 0 ∷ []) ∷ (1 ∷ 78 ∷ 0 ∷ 0 ∷ 0 ∷ 0 ∷ 12 ∷ 48 ∷ 0 ∷ 0 ∷ 0 ∷ 0 ∷ 0 ∷ 0 ∷ 0 ∷ []) ∷ [])
     -- P11
-    ∷ Reads fileT (layoutWith (treeAt 12 30 40) 1 Absent)
+    ∷ Reads fileT (layoutOfA (treeAt 12 30 40) 1 Absent)
     ∷ Numbers fileT (1 ∷ 0 ∷ 0 ∷ 12 ∷ 12 ∷ 1 ∷ 12 ∷ 30 ∷ 40 ∷ 1 ∷ 0 ∷ 0 ∷ [])
     ∷ Outlines fileT (accepted (0x00 ∷ 0x00 ∷ 0x00 ∷ 0x30 ∷ 0x00 ∷ 0x00 ∷ 0x00 ∷ 0x28 ∷ replicate 8 0x00))
     -- P12, P13

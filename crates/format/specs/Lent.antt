@@ -1,6 +1,6 @@
 -- What a writer answers, and what it leaves in the buffer that it was lent.
 use Prim.Native.Nat.{ℕ, _+_}
-use mathlib.Core.Bool.{true, false}
+use mathlib.Core.Bool.{Bool, true, false, _&&_}
 use mathlib.Core.List.{_++_}
 use lib.ListN.{length, take, drop}
 use lib.Dec.{leb}
@@ -23,3 +23,11 @@ placed out n bytes =
 unfoldable pub leaves : Outcome Bytes → Bytes → Bytes
 leaves (accepted bytes) out = placed out 0 bytes
 leaves (refused r) out = out
+
+-- whether an outline b and a text t fit the two buffers
+abbrev pub bothFit : Bytes → Bytes → Bytes → Bytes → Bool
+bothFit b t rows out = leb (length b) (length rows) && leb (length t) (length out)
+
+-- these bytes at the start of a buffer, or the buffer as it was
+abbrev pub putIf : Bool → Bytes → Bytes → Bytes
+putIf fit buffer bytes = elim fit [ true ↦ placed buffer 0 bytes | false ↦ buffer ]

@@ -18,9 +18,7 @@ pub mod Lent
 pub mod Edit
 pub mod Listing
 pub mod Answer
-pub mod Written
-pub mod Edited
-pub mod Listed
 pub mod Export
+pub mod Promise
 pub mod Examples
 pub mod Misreadings

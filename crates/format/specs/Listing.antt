@@ -1,4 +1,4 @@
--- What the program prints.
+-- What the program prints, and the outline that it writes beside it.
 use Prim.Native.Nat.{ℕ}
 use mathlib.Core.Bool.{true, false}
 use mathlib.Core.List.{List, [], _∷_, _++_, map, flatMap}
@@ -14,7 +14,7 @@ use Rattle.format.specs.Outcome.{Outcome, accepted, refused, _>>=_}
 use Rattle.format.specs.Numeral.{decimal}
 use Rattle.format.specs.File.{file}
 use Rattle.format.specs.Fields.{rowFields}
-use Rattle.format.specs.Outline.{rows}
+use Rattle.format.specs.Outline.{rows, outline}
 
 -- the longest input that the program takes
 abbrev pub mostInput : ℕ
@@ -39,8 +39,8 @@ verdictWord Good = text "good"
 verdictWord IgnoredForm = text "ignored-form"
 verdictWord IgnoredList = text "ignored-list"
 
-unfoldable pub listed : Bytes → Outcome Bytes
-listed s = do
+unfoldable pub fileListing : Bytes → Outcome Bytes
+fileListing s = do
   f ← file s
   rs ← rows s
   accepted (treeText (f .tree) ++ flatMap rowText rs ++ sentence (text "index" ∷ verdictWord (f .verdict) ∷ []))
@@ -50,4 +50,16 @@ printed (accepted t) = t
 printed (refused r) = sentence (text "refused" ∷ decimal (r .number) ∷ decimal (r .place .0) ∷ [])
 
 unfoldable pub listing : Bytes → Bytes
-listing s = elim (leb (length s) mostInput) [ true ↦ printed (listed s) | false ↦ sentence (text "too long for this program" ∷ []) ]
+listing s = elim (leb (length s) mostInput) [ true ↦ printed (fileListing s) | false ↦ sentence (text "too long for this program" ∷ []) ]
+
+unfoldable pub outlineBytes : Outcome Bytes → Bytes
+outlineBytes (accepted b) = b
+outlineBytes (refused r) = []
+
+-- the outline that is written beside the text: none of a file that is refused or longer than the program takes
+unfoldable pub outlineFor : Bytes → Bytes
+outlineFor s = elim (leb (length s) mostInput) [ true ↦ outlineBytes (outline s) | false ↦ [] ]
+
+-- as many bytes as the program lends for each
+abbrev pub lentBytes : ℕ
+lentBytes = 65536

@@ -8,9 +8,8 @@ use Rattle.format.specs.declared.layout.Verdict.the-variants.{Absent, Go
 use Rattle.format.specs.Bytes.{Bytes, text}
 use Rattle.format.specs.Outcome.{accepted, refused, refusal}
 use Rattle.format.specs.Comments.{indexLine}
-use Rattle.format.specs.Tree.{mark}
-use Rattle.format.specs.Edited.{treeAt}
-use Rattle.format.specs.Examples.{Example, Reads, Indexes, Edits, Lists, States, Numbers, Records, fileA, fileB, blockHeader, emptyBlock, indexWith, layoutWith}
+use Rattle.format.specs.Tree.{mark, treeAt}
+use Rattle.format.specs.Examples.{Example, Reads, Indexes, Edits, Lists, States, Numbers, Records, fileA, fileB, blockHeader, emptyBlock, indexWith, layoutOfA}
 
 -- n copies, one behind another
 abbrev pub copies : ℕ → Bytes → Bytes
@@ -18,13 +17,13 @@ copies zero t = []
 copies (suc n) t = t ++ copies n t
 
 -- a block that holds these bytes
-abbrev pub blockOf : Bytes → Bytes
-blockOf t = blockHeader 48 (length t) (length t) (length t) ++ t
+abbrev pub blockHolding : Bytes → Bytes
+blockHolding t = blockHeader 48 (length t) (length t) (length t) ++ t
 
 -- B inside so many files
 abbrev pub nested : ℕ → Bytes
 nested zero = fileB
-nested (suc n) = fileA ++ blockOf (nested n)
+nested (suc n) = fileA ++ blockHolding (nested n)
 
 -- an index with these lines for its list
 abbrev pub indexOfLines : Bytes → Bytes
@@ -41,18 +40,18 @@ dosIndex ns = text "#ASDF BLOCK INDEX\r\n%YAML 1.1\r\n--- [" ++ ns ++ text "]\r\
 abbrev pub misreadings : List Example
 misreadings =
     -- the mark inside a tree begins no block
-    Reads (fileA ++ text "%YAML 1.1\n---\n" ++ mark ++ text "\n...\n") (layoutWith (treeAt 12 35 35) 0 Absent)
+    Reads (fileA ++ text "%YAML 1.1\n---\n" ++ mark ++ text "\n...\n") (layoutOfA (treeAt 12 35 35) 0 Absent)
     -- three characters on a line are not the tree's end, and neither is `...` with two 0D behind it
-    ∷ Reads (fileA ++ text "%YAML 1.1\n---\nabc\n...\r\r\n...\r\n ") (layoutWith (treeAt 12 41 42) 0 Absent)
+    ∷ Reads (fileA ++ text "%YAML 1.1\n---\nabc\n...\r\r\n...\r\n ") (layoutOfA (treeAt 12 41 42) 0 Absent)
     -- a size of all FF does not wrap around
     ∷ Reads (fileA ++ blockHeader 48 0xFFFF_FFFF_FFFF_FFFF 0 0) (refused (refusal 15 12))
     -- used equal to allocated, and one above
-    ∷ Reads (fileA ++ blockOf (text "x")) (layoutWith NoTree 1 Absent)
+    ∷ Reads (fileA ++ blockHolding (text "x")) (layoutOfA NoTree 1 Absent)
     ∷ Reads (fileA ++ blockHeader 48 1 2 2 ++ text "xy") (refused (refusal 13 12))
     -- a refused inner file does not refuse the outer one, and its place counts from its own first byte
-    ∷ States (fileA ++ blockOf (text "#ASDF ") ++ emptyBlock) (accepted (Refused (refusal 3 6) ∷ Plain ∷ []))
+    ∷ States (fileA ++ blockHolding (text "#ASDF ") ++ emptyBlock) (accepted (Refused (refusal 3 6) ∷ Plain ∷ []))
     -- and stands in its block's record, behind the inner state 2
-    ∷ Records (fileA ++ blockOf (text "#ASDF ")) ((0 ∷ 12 ∷ 2 ∷ 3 ∷ 6 ∷ 0 ∷ 12 ∷ 48 ∷ 0 ∷ 0 ∷ 6 ∷ 6 ∷ 6 ∷ 0 ∷ 0 ∷ []) ∷ [])
+    ∷ Records (fileA ++ blockHolding (text "#ASDF ")) ((0 ∷ 12 ∷ 2 ∷ 3 ∷ 6 ∷ 0 ∷ 12 ∷ 48 ∷ 0 ∷ 0 ∷ 6 ∷ 6 ∷ 6 ∷ 0 ∷ 0 ∷ []) ∷ [])
     -- eight files deep, and nine
     ∷ States (nested 7) (accepted (replicate 7 Opened ++ (Plain ∷ [])))
     ∷ States (nested 8) (accepted (replicate 7 Opened ++ (TooDeep ∷ [])))
@@ -71,36 +70,36 @@ misreadings =
     -- an index line among the comments is no comment
     ∷ Reads (fileA ++ text "#ASDF BLOCK INDEX\n%YAML 1.1\n--- [12]\n...\n") (refused (refusal 6 12))
     -- an index of nothing, and a number above 2^32
-    ∷ Reads (fileB ++ indexWith []) (layoutWith NoTree 1 IgnoredForm)
-    ∷ Reads (fileB ++ indexWith (text "4294967308")) (layoutWith NoTree 1 IgnoredList)
+    ∷ Reads (fileB ++ indexWith []) (layoutOfA NoTree 1 IgnoredForm)
+    ∷ Reads (fileB ++ indexWith (text "4294967308")) (layoutOfA NoTree 1 IgnoredList)
     -- an index with dashes: spaces only after a number, also before a line end of two bytes, and zeros after all
-    ∷ Reads (fileB ++ indexOfLines (text "---\n- 12\n")) (layoutWith NoTree 1 Good)
-    ∷ Reads (fileB ++ indexOfLines (text "---\r\n- 12  \r\n") ++ (0 ∷ [])) (layoutWith NoTree 1 Good)
-    ∷ Reads (fileB ++ indexOfLines (text "---\n-  12\n")) (layoutWith NoTree 1 IgnoredForm)
-    ∷ Reads (fileB ++ indexOfLines (text "---\n - 12\n")) (layoutWith NoTree 1 IgnoredForm)
-    ∷ Reads (fileB ++ indexOfLines (text "---\n- 12\n") ++ text "x") (layoutWith NoTree 1 IgnoredForm)
+    ∷ Reads (fileB ++ indexOfLines (text "---\n- 12\n")) (layoutOfA NoTree 1 Good)
+    ∷ Reads (fileB ++ indexOfLines (text "---\r\n- 12  \r\n") ++ (0 ∷ [])) (layoutOfA NoTree 1 Good)
+    ∷ Reads (fileB ++ indexOfLines (text "---\n-  12\n")) (layoutOfA NoTree 1 IgnoredForm)
+    ∷ Reads (fileB ++ indexOfLines (text "---\n - 12\n")) (layoutOfA NoTree 1 IgnoredForm)
+    ∷ Reads (fileB ++ indexOfLines (text "---\n- 12\n") ++ text "x") (layoutOfA NoTree 1 IgnoredForm)
     -- its numbers are the offsets in their order, and its form comes first
-    ∷ Reads (fileB ++ emptyBlock ++ indexOfLines (text "---\n- 12\n- 66\n")) (layoutWith NoTree 2 Good)
-    ∷ Reads (fileB ++ emptyBlock ++ indexOfLines (text "---\n- 66\n- 12\n")) (layoutWith NoTree 2 IgnoredList)
-    ∷ Reads (fileB ++ indexOfLines (text "---\n- 12\n- 66\n")) (layoutWith NoTree 1 IgnoredList)
-    ∷ Reads (fileB ++ indexOfLines (text "---\n- 4294967308\n")) (layoutWith NoTree 1 IgnoredList)
-    ∷ Reads (fileB ++ indexOfLines (text "---\n- 13\n- 012\n")) (layoutWith NoTree 1 IgnoredForm)
+    ∷ Reads (fileB ++ emptyBlock ++ indexOfLines (text "---\n- 12\n- 66\n")) (layoutOfA NoTree 2 Good)
+    ∷ Reads (fileB ++ emptyBlock ++ indexOfLines (text "---\n- 66\n- 12\n")) (layoutOfA NoTree 2 IgnoredList)
+    ∷ Reads (fileB ++ indexOfLines (text "---\n- 12\n- 66\n")) (layoutOfA NoTree 1 IgnoredList)
+    ∷ Reads (fileB ++ indexOfLines (text "---\n- 4294967308\n")) (layoutOfA NoTree 1 IgnoredList)
+    ∷ Reads (fileB ++ indexOfLines (text "---\n- 13\n- 012\n")) (layoutOfA NoTree 1 IgnoredForm)
     -- there is a number, and no empty line; `--- ` is another start line; and the two styles are not mixed
-    ∷ Reads (fileB ++ indexOfLines (text "---\n")) (layoutWith NoTree 1 IgnoredForm)
-    ∷ Reads (fileB ++ indexOfLines (text "---\n- 12\n\n")) (layoutWith NoTree 1 IgnoredForm)
-    ∷ Reads (fileB ++ indexOfLines (text "--- \n- 12\n")) (layoutWith NoTree 1 IgnoredForm)
-    ∷ Reads (fileB ++ indexOfLines (text "--- [12]\n- 12\n")) (layoutWith NoTree 1 IgnoredForm)
-    ∷ Reads (fileB ++ indexOfLines (text "---\n[12]\n")) (layoutWith NoTree 1 IgnoredForm)
+    ∷ Reads (fileB ++ indexOfLines (text "---\n")) (layoutOfA NoTree 1 IgnoredForm)
+    ∷ Reads (fileB ++ indexOfLines (text "---\n- 12\n\n")) (layoutOfA NoTree 1 IgnoredForm)
+    ∷ Reads (fileB ++ indexOfLines (text "--- \n- 12\n")) (layoutOfA NoTree 1 IgnoredForm)
+    ∷ Reads (fileB ++ indexOfLines (text "--- [12]\n- 12\n")) (layoutOfA NoTree 1 IgnoredForm)
+    ∷ Reads (fileB ++ indexOfLines (text "---\n[12]\n")) (layoutOfA NoTree 1 IgnoredForm)
     -- 64 blocks, and the mark of one more
-    ∷ Reads (fileA ++ copies 64 emptyBlock) (layoutWith NoTree 64 Absent)
+    ∷ Reads (fileA ++ copies 64 emptyBlock) (layoutOfA NoTree 64 Absent)
     ∷ Reads (fileA ++ copies 64 emptyBlock ++ mark) (refused (refusal 16 3468))
     -- the next block is at the first mark: zeros, a part of a mark or the end of the block before belong to no mark
     ∷ Lists (fileB ++ (0 ∷ []) ++ emptyBlock) (text "tree none\n0 0 12 48 0 0 0 0 0 0\n0 1 67 48 0 0 0 0 0 0\nindex absent\n")
     ∷ Lists (fileB ++ (0xD3 ∷ 0x42 ∷ 0x4C ∷ []) ++ emptyBlock) (text "tree none\n0 0 12 48 0 0 0 0 0 0\n0 1 69 48 0 0 0 0 0 0\nindex absent\n")
-    ∷ Lists (fileA ++ blockOf (0xD3 ∷ 0x42 ∷ []) ++ (0x4C ∷ 0x4B ∷ []) ++ emptyBlock)
+    ∷ Lists (fileA ++ blockHolding (0xD3 ∷ 0x42 ∷ []) ++ (0x4C ∷ 0x4B ∷ []) ++ emptyBlock)
     (text "tree none\n0 0 12 48 2 2 0 0 0 0\n0 1 70 48 0 0 0 0 0 0\nindex absent\n")
     -- also in a file inside a block
-    ∷ Lists (fileA ++ blockOf (fileB ++ text "x" ++ emptyBlock))
+    ∷ Lists (fileA ++ blockHolding (fileB ++ text "x" ++ emptyBlock))
     (text "tree none\n0 0 12 48 121 121 0 0 0 1\n1 0 78 48 0 0 0 0 0 0\n1 1 133 48 0 0 0 0 0 0\nindex absent\n")
     -- a malformed block there is refused at its mark, also where a good one follows, and a 65th too; 17 comes only where no mark follows,
     -- at the end of the last block
@@ -109,14 +108,14 @@ misreadings =
     ∷ Reads (fileA ++ copies 64 emptyBlock ++ text "x" ++ mark) (refused (refusal 16 3469))
     ∷ Reads (fileB ++ (0 ∷ []) ++ text "x") (refused (refusal 17 66))
     -- an index is tried first, directly after the block, and ends the chain whatever follows
-    ∷ Reads (fileB ++ indexLine ++ emptyBlock) (layoutWith NoTree 1 IgnoredForm)
-    ∷ Reads (fileA ++ copies 64 emptyBlock ++ indexLine ++ mark) (layoutWith NoTree 64 IgnoredForm)
-    ∷ Reads (fileB ++ text "#ASDF BLOCK INDE" ++ emptyBlock) (layoutWith NoTree 2 Absent)
+    ∷ Reads (fileB ++ indexLine ++ emptyBlock) (layoutOfA NoTree 1 IgnoredForm)
+    ∷ Reads (fileA ++ copies 64 emptyBlock ++ indexLine ++ mark) (layoutOfA NoTree 64 IgnoredForm)
+    ∷ Reads (fileB ++ text "#ASDF BLOCK INDE" ++ emptyBlock) (layoutOfA NoTree 2 Absent)
     ∷ Reads (fileB ++ (0 ∷ []) ++ indexWith (text "12")) (refused (refusal 17 66))
-    ∷ Reads (fileB ++ (0 ∷ []) ++ indexWith (text "12") ++ emptyBlock) (layoutWith NoTree 2 Absent)
+    ∷ Reads (fileB ++ (0 ∷ []) ++ indexWith (text "12") ++ emptyBlock) (layoutOfA NoTree 2 Absent)
     -- it lists where the marks are, and not where the blocks before them end
-    ∷ Reads (fileB ++ text "x" ++ emptyBlock ++ indexWith (text "12, 67")) (layoutWith NoTree 2 Good)
-    ∷ Reads (fileB ++ text "x" ++ emptyBlock ++ indexWith (text "12, 66")) (layoutWith NoTree 2 IgnoredList)
+    ∷ Reads (fileB ++ text "x" ++ emptyBlock ++ indexWith (text "12, 67")) (layoutOfA NoTree 2 Good)
+    ∷ Reads (fileB ++ text "x" ++ emptyBlock ++ indexWith (text "12, 66")) (layoutOfA NoTree 2 IgnoredList)
     -- the lines of a written index end as the header does, and it is good after the last block
     ∷ Numbers (dosA ++ emptyBlock) (1 ∷ 0 ∷ 0 ∷ 13 ∷ 13 ∷ 0 ∷ 0 ∷ 0 ∷ 0 ∷ 1 ∷ 0 ∷ 1 ∷ [])
     ∷ Indexes (dosA ++ emptyBlock) (accepted (dosIndex (text "13")))
@@ -124,8 +123,8 @@ misreadings =
     -- whatever ends the comments, the tree, an index before or the header of a file inside; and two 0D are no line end
     ∷ Indexes (dosA ++ text "#x\n%YAML 1.1\n---\n...\n" ++ emptyBlock ++ indexWith (text "34")) (accepted (dosIndex (text "34")))
     ∷ Indexes (fileA ++ text "#x\r\n%YAML 1.1\r\n---\r\n...\r\n" ++ emptyBlock ++ dosIndex (text "37")) (accepted (indexWith (text "37")))
-    ∷ Indexes (dosA ++ blockOf fileB) (accepted (dosIndex (text "13")))
-    ∷ Indexes (fileA ++ blockOf (dosA ++ emptyBlock)) (accepted (indexWith (text "12")))
+    ∷ Indexes (dosA ++ blockHolding fileB) (accepted (dosIndex (text "13")))
+    ∷ Indexes (fileA ++ blockHolding (dosA ++ emptyBlock)) (accepted (indexWith (text "12")))
     ∷ Indexes (text "#ASDF 1.0.0\r\r\n" ++ emptyBlock) (refused (refusal 3 6))
     -- the listing does not say which
     ∷ Lists (dosA ++ emptyBlock) (text "tree none\n0 0 13 48 0 0 0 0 0 0\nindex absent\n")

@@ -57,6 +57,10 @@ unfoldable pub freeSpace : Bytes → ℕ
 freeSpace [] = 0
 freeSpace (b ∷ s) = elim (begins mark (b ∷ s)) [ true ↦ 0 | false ↦ suc (freeSpace s) ]
 
+-- a tree from offset n to e, with its room up to m
+abbrev pub treeAt : ℕ → ℕ → ℕ → Tree
+treeAt n e m = Found (record { 0 = n }) (record { 0 = e }) (record { 0 = m })
+
 -- the tree that begins at offset n and ends at m, with its room, in the file s
 unfoldable pub withRoom : ℕ → Bytes → Option ℕ → Tree
 withRoom n s none = NoTree

@@ -15,18 +15,18 @@ use Rattle.scan.specs.declared.line.Line.the-variants.{Ended, Unended}
 use Rattle.scan.specs.Line.{LineRead}
 use Rattle.scan.proofs.LineLaws.{FirstLine, unended-lines, ended-first, first-byte}
 use Rattle.front.specs.declared.step.EndStep.the-variants.{At, Refused}
-use Rattle.front.specs.Step.{endOf}
+use Rattle.front.specs.Step.{endOutcome}
 
 module _ (s : Bytes) (at : ℕ) (x : Outcome ℕ) (left : comments at (lines (drop at s)) ≡ x) (b : Bool) (h : b ≡ begins (text "#") (drop at s)) where
   -- no comment begins here
-  pub comments-done : b ≡ false → endOf (At at) ≡ x
-  unfolding endOf
+  pub comments-done : b ≡ false → endOutcome (At at) ≡ x
+  unfolding endOutcome
   comments-done p = sym (no-comments at (drop at s) (sym h ∙ p)) ∙ left
 
   module _ (p : b ≡ true) (r : Line) (read : LineRead s at r) where
     -- a comment begins here and does not end
-    pub comments-unended : (y : Refusal) → r ≡ Unended → y ≡ refusal 5 at → endOf (Refused y) ≡ x
-    unfolding endOf comments
+    pub comments-unended : (y : Refusal) → r ≡ Unended → y ≡ refusal 5 at → endOutcome (Refused y) ≡ x
+    unfolding endOutcome comments
     comments-unended y e q = ap refused q ∙ rw (unended-lines s at r read e, comments, sym h ∙ p) at left
 
     module _ (m next : ℕ) (ending : LineEnd) (e : r ≡ Ended m next ending) (d : Bool) (k : d ≡ same (take (m - at) (drop at s)) indexLine) where
@@ -39,8 +39,8 @@ module _ (s : Bytes) (at : ℕ) (x : Outcome ℕ) (left : comments at (lines (dr
       hash = first-byte 35 s at _ next ending first refl refl ∙ sym h ∙ p
 
       -- it is the first line of an index
-      pub comments-index : (y : Refusal) → d ≡ true → y ≡ refusal 6 at → endOf (Refused y) ≡ x
-      unfolding endOf comments
+      pub comments-index : (y : Refusal) → d ≡ true → y ≡ refusal 6 at → endOutcome (Refused y) ≡ x
+      unfolding endOutcome comments
       comments-index y z q = ap refused q ∙ rw (first .cut, comments, hash, sym k ∙ z) at left
 
       -- it is a comment

@@ -5,8 +5,7 @@ use mathlib.Core.Path.{_≡_, refl, sym, ap, _∙_}
 use mathlib.Core.Bool.{Bool, true, false, not, and-false}
 use mathlib.Core.List.{List, [], _∷_, _++_}
 use mathlib.Core.Option.{Option, none, some}
-use lib.ListN.{length, take, drop, length-drop}
-use lib.Seq.{take-all}
+use lib.ListN.{length, take, drop}
 use mir.Syntax.{w16}
 use mir.Val.{Fits}
 use borrow.Author.Tests.{not-true, not-false, eq-eqb, ne-eqb}
@@ -19,6 +18,7 @@ use Rattle.format.specs.Outcome.{refused, refusal}
 use Rattle.format.specs.Line.{lines}
 use Rattle.format.specs.Numeral.{isNumeral, numeral, both, numerals, split}
 use Rattle.format.specs.Header as Header
+use Rattle.format.proofs.PartLaws.{part-all}
 use Rattle.format.proofs.NumeralLaws.{digits-append, joined, AreParts, split-parts}
 use Rattle.scan.specs.declared.line.Line.{Line}
 use Rattle.scan.specs.declared.line.Line.the-variants.{Ended, Unended}
@@ -30,7 +30,7 @@ use Rattle.scan.proofs.LineLaws.{unended-lines, ended-first}
 use Rattle.front.specs.declared.step.VersionStep.{VersionStep}
 use Rattle.front.specs.declared.step.VersionStep.the-variants as VersionStep·is
 use Rattle.front.specs.declared.step.HeaderStep.the-variants.{Read, Refused}
-use Rattle.front.specs.Step.{versionOf, headerOf}
+use Rattle.front.specs.Step.{versionFound, headerOutcome}
 use Rattle.scan.proofs.SplitLaws.{others, split-found, others-none, others-some}
 
 -- there are so many numbers, if there are numbers
@@ -96,8 +96,8 @@ module _ (t : Bytes) (first : ℕ) (f : first ≡ 0 + indexOf 46 (slice 0 (lengt
   first-part = let all : first - 0 ≡ first = omega arith in rw all at (split-found 46 t 0 first f)
 
   -- t has no point
-  pub version-one : first ≡ length t → versionOf VersionStep·is.Malformed ≡ Header.version t
-  unfolding versionOf Header.version
+  pub version-one : first ≡ length t → versionFound VersionStep·is.Malformed ≡ Header.version t
+  unfolding versionFound Header.version
   version-one e = rw (first-part, others-none 46 t first e) (sym (not-three _ (λ z. omega arith)))
 
   module _ (n : first ≡ length t → ⊥) (h : first ≤ length t) (second : ℕ) (g : second ≡ first + 1 + indexOf 46 (slice (first + 1) (length t) t)) where
@@ -106,8 +106,8 @@ module _ (t : Bytes) (first : ℕ) (f : first ≡ 0 + indexOf 46 (slice 0 (lengt
     two-parts = first-part ∙ ap (λ (ps : List Bytes). take first t ∷ ps) (others-some 46 t first (omega arith) ∙ split-found 46 t (first + 1) second g)
 
     -- t has one point
-    pub version-two : second ≡ length t → versionOf VersionStep·is.Malformed ≡ Header.version t
-    unfolding versionOf Header.version
+    pub version-two : second ≡ length t → versionFound VersionStep·is.Malformed ≡ Header.version t
+    unfolding versionFound Header.version
     version-two e = rw (two-parts, others-none 46 t second e) (sym (not-three _ (λ z. omega arith)))
 
     module _ (n′ : second ≡ length t → ⊥) (h′ : second ≤ length t) where
@@ -119,36 +119,35 @@ module _ (t : Bytes) (first : ℕ) (f : first ≡ 0 + indexOf 46 (slice 0 (lengt
           ∷ []))
       unfolding Header.version
       three-parts =
-          let all = take-all (length t - (second + 1)) (drop (second + 1) t) (omega (arith, length-drop (second + 1) t)) in
-          rw (two-parts, others-some 46 t second (omega arith), all) (last-part _ _ _ _ (split-parts 46 _))
+          rw (two-parts, others-some 46 t second (omega arith), part-all t (second + 1)) (last-part _ _ _ _ (split-parts 46 _))
 
       module _ (a : Number) (major : NumeralRead (take first t) 4 a) where
         -- the first part is no number
-        pub version-major : a ≡ Malformed → versionOf VersionStep·is.Malformed ≡ Header.version t
-        unfolding versionOf Header.versionOf numerals both
+        pub version-major : a ≡ Malformed → versionFound VersionStep·is.Malformed ≡ Header.version t
+        unfolding versionFound Header.versionOf numerals both
         version-major e = sym (three-parts ∙ rw (← major .is, e))
 
         module _ (x : ℕ) (d : a ≡ Value x) (b : Number) (minor : NumeralRead (take (second - (first + 1)) (drop (first + 1) t)) 4 b) where
           -- the second part is no number
-          pub version-minor : b ≡ Malformed → versionOf VersionStep·is.Malformed ≡ Header.version t
-          unfolding versionOf Header.versionOf numerals both
+          pub version-minor : b ≡ Malformed → versionFound VersionStep·is.Malformed ≡ Header.version t
+          unfolding versionFound Header.versionOf numerals both
           version-minor e = sym (three-parts ∙ rw (← major .is, ← minor .is, d, e))
 
           module _ (y : ℕ) (e : b ≡ Value y) (c : Number) (patch : NumeralRead (take (length t - (second + 1)) (drop (second + 1) t)) 4 c) where
             -- the third part is no number
-            pub version-patch : c ≡ Malformed → versionOf VersionStep·is.Malformed ≡ Header.version t
-            unfolding versionOf Header.versionOf numerals both
+            pub version-patch : c ≡ Malformed → versionFound VersionStep·is.Malformed ≡ Header.version t
+            unfolding versionFound Header.versionOf numerals both
             version-patch k = sym (three-parts ∙ rw (← major .is, ← minor .is, ← patch .is, d, e, k))
 
             -- each part is a number
-            pub version-read : (z : ℕ) → c ≡ Value z → versionOf (VersionStep·is.Read (record { major = x; minor = y; patch = z })) ≡ Header.version t
-            unfolding versionOf Header.versionOf numerals both
+            pub version-read : (z : ℕ) → c ≡ Value z → versionFound (VersionStep·is.Read (record { major = x; minor = y; patch = z })) ≡ Header.version t
+            unfolding versionFound Header.versionOf numerals both
             version-read z k = sym (three-parts ∙ rw (← major .is, ← minor .is, ← patch .is, d, e, k))
 
 module _ (s : Bytes) (b : Bool) (h : b ≡ begins Header.token s) where
   -- the file begins with something else
-  pub header-token : (y : Refusal) → not b ≡ true → y ≡ refusal 2 0 → headerOf (Refused y) ≡ Header.header s
-  unfolding headerOf Header.header
+  pub header-token : (y : Refusal) → not b ≡ true → y ≡ refusal 2 0 → headerOutcome (Refused y) ≡ Header.header s
+  unfolding headerOutcome Header.header
   header-token y p q = rw (← h, not-true b p) (ap refused q)
 
   module _ (p : not b ≡ false) (r : Line) (read : LineRead s 6 r) where
@@ -158,30 +157,30 @@ module _ (s : Bytes) (b : Bool) (h : b ≡ begins Header.token s) where
     header-line = rw (← h, not-false b p)
 
     -- that line does not end
-    pub header-unended : (y : Refusal) → r ≡ Unended → y ≡ refusal 3 6 → headerOf (Refused y) ≡ Header.header s
-    unfolding headerOf Header.versionLine
+    pub header-unended : (y : Refusal) → r ≡ Unended → y ≡ refusal 3 6 → headerOutcome (Refused y) ≡ Header.header s
+    unfolding headerOutcome Header.versionLine
     header-unended y e q = rw (header-line, unended-lines s 6 r read e) (ap refused q)
 
-    module _ (m next : ℕ) (ending : LineEnd) (e : r ≡ Ended m next ending) (v : VersionStep) (k : versionOf v ≡ Header.version (take (m - 6) (drop 6 s))) where
+    module _ (m next : ℕ) (ending : LineEnd) (e : r ≡ Ended m next ending) (v : VersionStep) (k : versionFound v ≡ Header.version (take (m - 6) (drop 6 s))) where
       -- the header is that of the line's version
-      header-version : Header.header s ≡ Header.headerOf (versionOf v) ending next
+      header-version : Header.header s ≡ Header.headerOf (versionFound v) ending next
       unfolding Header.versionLine
       header-version =
           let first = ended-first s 6 r read m next ending e in
           header-line ∙ rw (first .cut, k, ← first .next-is)
 
       -- the line is no version
-      pub header-malformed : (y : Refusal) → v ≡ VersionStep·is.Malformed → y ≡ refusal 3 6 → headerOf (Refused y) ≡ Header.header s
-      unfolding headerOf Header.headerOf versionOf
+      pub header-malformed : (y : Refusal) → v ≡ VersionStep·is.Malformed → y ≡ refusal 3 6 → headerOutcome (Refused y) ≡ Header.header s
+      unfolding headerOutcome Header.headerOf versionFound
       header-malformed y d q = rw (header-version, d) (ap refused q)
 
       module _ (w : Version) (d : v ≡ VersionStep·is.Read w) where
         -- the version is another
-        pub header-other : (y : Refusal) → (w .major ≡ 1 → ⊥) → y ≡ refusal 4 6 → headerOf (Refused y) ≡ Header.header s
-        unfolding headerOf Header.headerOf versionOf
+        pub header-other : (y : Refusal) → (w .major ≡ 1 → ⊥) → y ≡ refusal 4 6 → headerOutcome (Refused y) ≡ Header.header s
+        unfolding headerOutcome Header.headerOf versionFound
         header-other y n q = rw (header-version, d, ne-eqb (w .major) 1 n) (ap refused q)
 
         -- it is one that is read
-        pub header-read : w .major ≡ 1 → headerOf (Read (record { version = w; «line_end» = ending; end = record { 0 = next } })) ≡ Header.header s
-        unfolding headerOf Header.headerOf versionOf
+        pub header-read : w .major ≡ 1 → headerOutcome (Read (record { version = w; «line_end» = ending; end = record { 0 = next } })) ≡ Header.header s
+        unfolding headerOutcome Header.headerOf versionFound
         header-read n = rw (header-version, d, eq-eqb (w .major) 1 n)

@@ -25,7 +25,7 @@ use Rattle.scan.proofs.ExactLaws.{other-text, behind-first}
 use Rattle.front.specs.declared.step.EndStep.{EndStep}
 use Rattle.front.specs.declared.step.EndStep.the-variants as End
 use Rattle.front.specs.declared.step.TreeStep.the-variants.{Read, Refused}
-use Rattle.front.specs.Step.{endOf, treeOf}
+use Rattle.front.specs.Step.{endOutcome, treeOutcome}
 
 module _ (a b x : Bool) (h : x ≡ a) where
   -- where the first of two tests holds, one of them does
@@ -38,13 +38,13 @@ module _ (a b x : Bool) (h : x ≡ a) where
 
 module _ (s : Bytes) (at : ℕ) (r : Line) (read : LineRead s at r) (x : Outcome ℕ) where
   -- no line is left to end the tree, behind its start line
-  pub content-unended : content at (lines (drop at s)) ≡ x → (y : Refusal) → r ≡ Unended → y ≡ refusal 10 at → endOf (End.Refused y) ≡ x
-  unfolding endOf content
+  pub content-unended : content at (lines (drop at s)) ≡ x → (y : Refusal) → r ≡ Unended → y ≡ refusal 10 at → endOutcome (End.Refused y) ≡ x
+  unfolding endOutcome content
   content-unended left y e q = ap refused q ∙ rw (unended-lines s at r read e) at left
 
   -- no line is left to end the tree, before its start line
-  pub directives-unended : directives at (lines (drop at s)) ≡ x → (y : Refusal) → r ≡ Unended → y ≡ refusal 10 at → endOf (End.Refused y) ≡ x
-  unfolding endOf directives
+  pub directives-unended : directives at (lines (drop at s)) ≡ x → (y : Refusal) → r ≡ Unended → y ≡ refusal 10 at → endOutcome (End.Refused y) ≡ x
+  unfolding endOutcome directives
   directives-unended left y e q = ap refused q ∙ rw (unended-lines s at r read e) at left
 
   module _ (m next : ℕ) (ending : LineEnd) (e : r ≡ Ended m next ending) where
@@ -54,14 +54,14 @@ module _ (s : Bytes) (at : ℕ) (r : Line) (read : LineRead s at r) (x : Outcome
 
     module _ (left : content at (lines (drop at s)) ≡ x) (b : Bool) (h : b ≡ same (take (m - at) (drop at s)) endLine) where
       -- it ends the tree
-      pub content-done : b ≡ true → endOf (End.At next) ≡ x
-      unfolding endOf content
+      pub content-done : b ≡ true → endOutcome (End.At next) ≡ x
+      unfolding endOutcome content
       content-done p = rw (first .cut, content, sym h ∙ p, ← first .next-is) at left
 
       module _ (p : b ≡ false) (d : Bool) (k : d ≡ isStart (take (m - at) (drop at s))) where
         -- it would start a second tree
-        pub content-start : (y : Refusal) → d ≡ true → y ≡ refusal 9 at → endOf (End.Refused y) ≡ x
-        unfolding endOf content
+        pub content-start : (y : Refusal) → d ≡ true → y ≡ refusal 9 at → endOutcome (End.Refused y) ≡ x
+        unfolding endOutcome content
         content-start y z q = ap refused q ∙ rw (first .cut, content, sym h ∙ p, sym k ∙ z) at left
 
         -- it is content
@@ -71,14 +71,14 @@ module _ (s : Bytes) (at : ℕ) (r : Line) (read : LineRead s at r) (x : Outcome
 
     module _ (left : directives at (lines (drop at s)) ≡ x) (b : Bool) (h : b ≡ isStart (take (m - at) (drop at s))) where
       -- it starts the content
-      pub directives-done : (y : EndStep) → b ≡ true → endOf y ≡ content next (lines (drop next s)) → endOf y ≡ x
+      pub directives-done : (y : EndStep) → b ≡ true → endOutcome y ≡ content next (lines (drop next s)) → endOutcome y ≡ x
       unfolding directives
       directives-done y p q = q ∙ rw (first .cut, directives, sym h ∙ p, ← first .next-is) at left
 
       module _ (p : b ≡ false) (d : Bool) (k : d ≡ isDirective (take (m - at) (drop at s))) where
         -- it is neither a start line nor a directive
-        pub directives-other : (y : Refusal) → not d ≡ true → y ≡ refusal 8 at → endOf (End.Refused y) ≡ x
-        unfolding endOf directives
+        pub directives-other : (y : Refusal) → not d ≡ true → y ≡ refusal 8 at → endOutcome (End.Refused y) ≡ x
+        unfolding endOutcome directives
         directives-other y z q = ap refused q ∙ rw (first .cut, directives, sym h ∙ p, sym k ∙ not-true d z) at left
 
         -- it is a directive
@@ -97,27 +97,27 @@ module _ (s : Bytes) (at : ℕ) (r : Exact) (read : ExactRead s yamlLine at r) w
       go (line t e l) h = rw (other-text s yamlLine at r read t e l p h, treeEnd)
 
   -- no tree begins here
-  pub tree-none : r ≡ Other → treeOf (Read NoTree) ≡ tree at s
-  unfolding treeOf tree withRoom
+  pub tree-none : r ≡ Other → treeOutcome (Read NoTree) ≡ tree at s
+  unfolding treeOutcome tree withRoom
   tree-none p = rw (no-end p)
 
-  module _ (next : ℕ) (ending : LineEnd) (p : r ≡ Behind next ending) (z : EndStep) (h : endOf z ≡ directives next (lines (drop next s))) where
+  module _ (next : ℕ) (ending : LineEnd) (p : r ≡ Behind next ending) (z : EndStep) (h : endOutcome z ≡ directives next (lines (drop next s))) where
     -- the walk over the lines behind the first says where the tree ends, if it does
-    tree-end : treeEnd at (lines (drop at s)) ≡ (do m ← endOf z; accepted (some m))
+    tree-end : treeEnd at (lines (drop at s)) ≡ (do m ← endOutcome z; accepted (some m))
     unfolding treeEnd
     tree-end =
         let first = behind-first s yamlLine at r read next ending p in
         rw (first .cut, treeEnd, ← first .next-is, h)
 
     -- it does not end
-    pub tree-refused : (y : Refusal) → z ≡ End.Refused y → treeOf (Refused y) ≡ tree at s
-    unfolding endOf treeOf tree
+    pub tree-refused : (y : Refusal) → z ≡ End.Refused y → treeOutcome (Refused y) ≡ tree at s
+    unfolding endOutcome treeOutcome tree
     tree-refused y e = rw (tree-end, e)
 
     -- it ends, and free space follows up to a mark
     pub tree-read : (end room : ℕ) → z ≡ End.At end → MarkFound s end room
-        → treeOf (Read (Found (record { 0 = at }) (record { 0 = end }) (record { 0 = room }))) ≡ tree at s
-    unfolding endOf treeOf tree withRoom
+        → treeOutcome (Read (Found (record { 0 = at }) (record { 0 = end }) (record { 0 = room }))) ≡ tree at s
+    unfolding endOutcome treeOutcome tree withRoom
     tree-read end room e f = rw (f .is, tree-end, e)
 
 module _ (t : Bytes) (r : Exact) (read : ExactRead t yamlLine 0 r) where
@@ -126,13 +126,13 @@ module _ (t : Bytes) (r : Exact) (read : ExactRead t yamlLine 0 r) where
   unfolding isOneTree endsAt
   one-tree-none p = rw (no-end t 0 r read p)
 
-  module _ (next : ℕ) (ending : LineEnd) (p : r ≡ Behind next ending) (z : EndStep) (h : endOf z ≡ directives next (lines (drop next t))) where
+  module _ (next : ℕ) (ending : LineEnd) (p : r ≡ Behind next ending) (z : EndStep) (h : endOutcome z ≡ directives next (lines (drop next t))) where
     -- nor is one that does not end
     pub one-tree-refused : (y : Refusal) → z ≡ End.Refused y → false ≡ isOneTree t
-    unfolding isOneTree endsAt endOf
+    unfolding isOneTree endsAt endOutcome
     one-tree-refused y e = rw (tree-end t 0 r read next ending p z h, e)
 
     -- one that ends is a tree if the text ends there
     pub one-tree-read : (end : ℕ) → z ≡ End.At end → eqb end (length t) ≡ isOneTree t
-    unfolding isOneTree endsAt endOf
+    unfolding isOneTree endsAt endOutcome
     one-tree-read end e = rw (tree-end t 0 r read next ending p z h, e)

@@ -14,18 +14,18 @@ use Rattle.front.specs.declared.step.EndStep.the-variants as EndStep·is
 use Rattle.front.specs.declared.step.TreeStep.{TreeStep}
 use Rattle.front.specs.declared.step.TreeStep.the-variants as TreeStep·is
 
-unfoldable pub versionOf : VersionStep → Option Version
-versionOf (VersionStep·is.Read v) = some v
-versionOf VersionStep·is.Malformed = none
+unfoldable pub versionFound : VersionStep → Option Version
+versionFound (VersionStep·is.Read v) = some v
+versionFound VersionStep·is.Malformed = none
 
-unfoldable pub headerOf : HeaderStep → Outcome Header
-headerOf (HeaderStep·is.Read h) = accepted h
-headerOf (HeaderStep·is.Refused r) = refused r
+unfoldable pub headerOutcome : HeaderStep → Outcome Header
+headerOutcome (HeaderStep·is.Read h) = accepted h
+headerOutcome (HeaderStep·is.Refused r) = refused r
 
-unfoldable pub endOf : EndStep → Outcome ℕ
-endOf (EndStep·is.At n) = accepted n
-endOf (EndStep·is.Refused r) = refused r
+unfoldable pub endOutcome : EndStep → Outcome ℕ
+endOutcome (EndStep·is.At n) = accepted n
+endOutcome (EndStep·is.Refused r) = refused r
 
-unfoldable pub treeOf : TreeStep → Outcome Tree
-treeOf (TreeStep·is.Read t) = accepted t
-treeOf (TreeStep·is.Refused r) = refused r
+unfoldable pub treeOutcome : TreeStep → Outcome Tree
+treeOutcome (TreeStep·is.Read t) = accepted t
+treeOutcome (TreeStep·is.Refused r) = refused r

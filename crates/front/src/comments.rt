@@ -3,8 +3,10 @@ ghost use mathlib.Core.Path.{_≡_};
 ghost use lib.ListN.{drop};
 ghost use Rattle.format.specs.Line.{lines};
 ghost use Rattle.format.specs.Comments.{comments};
-ghost use Rattle.front.specs.Step.{endOf};
+ghost use Rattle.front.specs.Step.{endOutcome};
 use crate::step::EndStep;
+use format::refusal::COMMENT_NOT_ENDED;
+use format::refusal::INDEX_AMONG_COMMENTS;
 use format::refusal::Refusal;
 use scan::line;
 use scan::line::Line;
@@ -12,15 +14,15 @@ use scan::text;
 
 // Where the comments from an offset on end.
 pub fn comments_end(s: &[u8], from: usize) -> EndStep
-    ensures { λ r. ⌜ endOf r ≡ comments from (lines (drop from (now (s .entry)))) ⌝ }
+    ensures { λ r. ⌜ endOutcome r ≡ comments from (lines (drop from (now (s .entry)))) ⌝ }
 {
     let mut at = from;
     while text::begins_at(s, at, b"#") {
         let Line::Ended { text_end, next, .. } = line::line_at(s, at) else {
-            return EndStep::Refused(Refusal::new(5, at));
+            return EndStep::Refused(Refusal::new(COMMENT_NOT_ENDED, at));
         };
         if text::is(&s[at..text_end], b"#ASDF BLOCK INDEX") {
-            return EndStep::Refused(Refusal::new(6, at));
+            return EndStep::Refused(Refusal::new(INDEX_AMONG_COMMENTS, at));
         }
         at = next;
     }

@@ -1,13 +1,16 @@
 // The header: `#ASDF`, one space, a version, a line end.
 ghost use mathlib.Core.Path.{_≡_};
 ghost use Rattle.format.specs.Header.{header, version};
-ghost use Rattle.front.specs.Step.{headerOf, versionOf};
+ghost use Rattle.front.specs.Step.{headerOutcome, versionFound};
 use crate::step::HeaderStep;
 use crate::step::VersionStep;
 use format::layout::Header;
 use format::layout::Version;
 use format::offset::Offset;
+use format::refusal::NOT_ASDF;
 use format::refusal::Refusal;
+use format::refusal::VERSION_MALFORMED;
+use format::refusal::VERSION_NOT_ONE;
 use scan::line;
 use scan::line::Line;
 use scan::number;
@@ -16,10 +19,10 @@ use scan::text;
 
 // The header of a file.
 pub fn read_header(s: &[u8]) -> HeaderStep
-    ensures { λ r. ⌜ headerOf r ≡ header (now (s .entry)) ⌝ }
+    ensures { λ r. ⌜ headerOutcome r ≡ header (now (s .entry)) ⌝ }
 {
     if !text::begins_at(s, 0, b"#ASDF ") {
-        return HeaderStep::Refused(Refusal::new(2, 0));
+        return HeaderStep::Refused(Refusal::new(NOT_ASDF, 0));
     }
     let Line::Ended {
         text_end,
@@ -27,13 +30,13 @@ pub fn read_header(s: &[u8]) -> HeaderStep
         ending,
     } = line::line_at(s, 6)
     else {
-        return HeaderStep::Refused(Refusal::new(3, 6));
+        return HeaderStep::Refused(Refusal::new(VERSION_MALFORMED, 6));
     };
     let VersionStep::Read(version) = read_version(&s[6..text_end]) else {
-        return HeaderStep::Refused(Refusal::new(3, 6));
+        return HeaderStep::Refused(Refusal::new(VERSION_MALFORMED, 6));
     };
     if version.major != 1 {
-        return HeaderStep::Refused(Refusal::new(4, 6));
+        return HeaderStep::Refused(Refusal::new(VERSION_NOT_ONE, 6));
     }
     HeaderStep::Read(Header {
         version,
@@ -44,7 +47,7 @@ pub fn read_header(s: &[u8]) -> HeaderStep
 
 // Three numbers of 1 to 4 digits, joined by points.
 fn read_version(t: &[u8]) -> VersionStep
-    ensures { λ r. ⌜ versionOf r ≡ version (now (t .entry)) ⌝ }
+    ensures { λ r. ⌜ versionFound r ≡ version (now (t .entry)) ⌝ }
 {
     let n = t.len();
     let first = bytes::scan::find(t, 0, n, b'.');

@@ -4,12 +4,15 @@ ghost use lib.ListN.{drop};
 ghost use Rattle.format.specs.Line.{lines};
 ghost use Rattle.format.specs.Tree.{isStart, isDirective, content, directives, tree};
 ghost use Rattle.format.specs.Edit.{isOneTree};
-ghost use Rattle.front.specs.Step.{endOf, treeOf};
+ghost use Rattle.front.specs.Step.{endOutcome, treeOutcome};
 use crate::step::EndStep;
 use crate::step::TreeStep;
 use format::layout::Tree;
 use format::offset::Offset;
 use format::refusal::Refusal;
+use format::refusal::SECOND_START_LINE;
+use format::refusal::TREE_NOT_ENDED;
+use format::refusal::WRONG_LINE_BEFORE_START;
 use scan::line;
 use scan::line::Exact;
 use scan::line::Line;
@@ -17,7 +20,7 @@ use scan::text;
 
 // What stands at an offset: no tree, or one, with its room.
 pub fn read_tree(s: &[u8], at: usize) -> TreeStep
-    ensures { λ r. ⌜ treeOf r ≡ tree at (now (s .entry)) ⌝ }
+    ensures { λ r. ⌜ treeOutcome r ≡ tree at (now (s .entry)) ⌝ }
 {
     let Exact::Behind(next, _) = line::yaml_line(s, at) else {
         return TreeStep::Read(Tree::NoTree);
@@ -47,18 +50,18 @@ pub fn is_one_tree(t: &[u8]) -> bool
 
 // Where a tree ends, from the line behind its first on.
 fn directives_end(s: &[u8], from: usize) -> EndStep
-    ensures { λ r. ⌜ endOf r ≡ directives from (lines (drop from (now (s .entry)))) ⌝ }
+    ensures { λ r. ⌜ endOutcome r ≡ directives from (lines (drop from (now (s .entry)))) ⌝ }
 {
     let mut at = from;
     loop {
         let Line::Ended { text_end, next, .. } = line::line_at(s, at) else {
-            return EndStep::Refused(Refusal::new(10, at));
+            return EndStep::Refused(Refusal::new(TREE_NOT_ENDED, at));
         };
         if is_start(&s[at..text_end]) {
             return content_end(s, next);
         }
         if !is_directive(&s[at..text_end]) {
-            return EndStep::Refused(Refusal::new(8, at));
+            return EndStep::Refused(Refusal::new(WRONG_LINE_BEFORE_START, at));
         }
         at = next;
     }
@@ -66,18 +69,18 @@ fn directives_end(s: &[u8], from: usize) -> EndStep
 
 // Where a tree ends, from the line behind its start line on.
 fn content_end(s: &[u8], from: usize) -> EndStep
-    ensures { λ r. ⌜ endOf r ≡ content from (lines (drop from (now (s .entry)))) ⌝ }
+    ensures { λ r. ⌜ endOutcome r ≡ content from (lines (drop from (now (s .entry)))) ⌝ }
 {
     let mut at = from;
     loop {
         let Line::Ended { text_end, next, .. } = line::line_at(s, at) else {
-            return EndStep::Refused(Refusal::new(10, at));
+            return EndStep::Refused(Refusal::new(TREE_NOT_ENDED, at));
         };
         if text::is(&s[at..text_end], b"...") {
             return EndStep::At(next);
         }
         if is_start(&s[at..text_end]) {
-            return EndStep::Refused(Refusal::new(9, at));
+            return EndStep::Refused(Refusal::new(SECOND_START_LINE, at));
         }
         at = next;
     }

@@ -16,7 +16,7 @@ use Rattle.format.specs.Tree.{endLine}
 use Rattle.format.specs.Numeral.{decimal}
 use Rattle.format.specs.Index.{Entry, entry, entries, styledText, rendering, spaced, indexText}
 use Rattle.format.specs.Outcome.{accepted, refusal}
-use Rattle.format.specs.Written.{Written}
+use Rattle.format.specs.Promise.{Written}
 use Rattle.put.specs.Put.{PutWhole, PutAt, decimals, mostDecimals}
 use Rattle.put.proofs.PartLaws.{whole-put, parts-put, put-same}
 use Rattle.put.proofs.WrittenLaws.{written-refused, own-bytes}

@@ -3,7 +3,7 @@ ghost use Prim.Native.Nat.{_≤_};
 ghost use lib.ListN.{length};
 ghost use Rattle.format.specs.Chain.{mostBlocks};
 ghost use Rattle.format.specs.Index.{indexText};
-ghost use Rattle.format.specs.Written.{Written};
+ghost use Rattle.format.specs.Promise.{Written};
 ghost use Rattle.index.specs.Text.{offsetsIndex, frontText, backText, mostFront, mostBack, mostText};
 ghost use Rattle.put.specs.Put.{PutAt};
 use format::answer::CountAnswer;

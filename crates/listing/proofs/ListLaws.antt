@@ -19,23 +19,24 @@ use Rattle.format.specs.declared.row.Row.{Row}
 use Rattle.format.specs.Answer.{countAnswer, layoutAnswer}
 use Rattle.format.specs.Bytes.{Bytes, IsBytes, text}
 use Rattle.format.specs.File.{File, file, layout, layoutOf}
-use Rattle.format.specs.Lent.{writes, leaves}
+use Rattle.format.specs.Lent.{writes, leaves, bothFit}
 use Rattle.format.specs.Outcome.{Outcome, accepted, refused, refusal, _>>=_}
 use Rattle.format.specs.Outline.{rowBytes, outlineOf, rows, outline, stored}
-use Rattle.format.specs.Listing.{mostInput, sentence, listed, printed, listing}
+use Rattle.format.specs.Listing.{mostInput, sentence, fileListing, printed, listing, outlineBytes, outlineFor, lentBytes}
+use Rattle.format.specs.Promise.{Written, OutlineWritten, BothPut, Listed, ListedLent}
 use Rattle.format.proofs.ByteLaws.{and-right}
 use Rattle.format.proofs.OutcomeLaws.{accepted-holds, accepts-bind}
 use Rattle.format.proofs.OutlineLaws.{refused-no-rows, accepted-rows, read-back}
-use Rattle.format.specs.Written.{Written, OutlineWritten}
 use Rattle.put.proofs.PutLaws.{placed-none, placed-nothing}
 use Rattle.put.specs.Put.{PutWhole, PutAt}
 use Rattle.put.proofs.WrittenLaws.{written-placed, own-bytes, Taken, written-taken}
 use Rattle.outline.specs.Row.{rowsIn}
 use Rattle.outline.proofs.StoredLaws.{Read, read-stored}
-use Rattle.format.specs.Listed.{outlineBytes, outlineFor, bothFit, BothPut, lentBytes, Listed, ListedLent}
-use Rattle.listing.specs.Listing.{mostOutline, Outlined, BothShort, Short}
-use Rattle.listing.specs.Text.{mostShort, fileText, mostFile}
-use Rattle.file.proofs.FewLaws.{rows-few}
+use Rattle.format.specs.Lent.{writes, leaves, bothFit}
+use Rattle.format.specs.Outcome.{Outcome, accepted, refused, refusal, _>>=_}
+use Rattle.format.specs.Outline.{rowBytes, outlineOf, rows, outline, stored}
+use Rattle.format.specs.Listing.{mostInput, sentence, fileListing, printed, listing, outlineBytes, outlineFor, lentBytes}
+use Rattle.format.specs.Promise.{Written, OutlineWritten, BothPut, Listed, ListedLent}
 
 -- a line was put into a buffer of its own, and is written from there
 pub line-written : (t own after : Bytes) (n : ℕ) → PutAt own after 0 t mostShort n → length own ≡ mostShort → (out out-after : Bytes) (x : CountAnswer)
@@ -161,10 +162,10 @@ module _ (s : Bytes) (short : length s ≤ mostInput) (a : LayoutAnswer) (w : Co
         go (refused x) q c = cc
 
     pub listed-refused : (rows out after : Bytes) (x : CountAnswer) → Short (printed (refused r)) out after x → Listed s rows out rows after x
-    unfolding outlineFor outlineBytes listing listed outline
+    unfolding outlineFor outlineBytes listing fileListing outline
     listed-refused rows out after x put =
         is-listed s [] (printed (refused r)) rows out rows after x (rw (outlineFor, is-short, outline, refused-no-rows s r refused-file))
-        (rw (listing, is-short, listed, refused-file))
+        (rw (listing, is-short, fileListing, refused-file))
         (no-outline _ rows out after x put)
 
   -- the file is accepted
@@ -195,9 +196,9 @@ module _ (s : Bytes) (short : length s ≤ mostInput) (a : LayoutAnswer) (w : Co
           rw count (sym (rows-read .rows))
 
       text-is : listing s ≡ fileText (l .tree) b (l .verdict)
-      unfolding listing listed printed
+      unfolding listing fileListing printed
       text-is =
-          let found : listing s ≡ fileText (of .f .tree) b (of .f .verdict) = rw (listing, is-short, listed, of .is, of .rows-are, same-rows) in
+          let found : listing s ≡ fileText (of .f .tree) b (of .f .verdict) = rw (listing, is-short, fileListing, of .is, of .rows-are, same-rows) in
           found ∙ ap (λ t. fileText t b (of .f .verdict)) (sym (of .tree)) ∙ ap (fileText (l .tree) b) (sym (of .verdict))
 
       outline-is : outlineFor s ≡ b

@@ -9,9 +9,8 @@ use Rattle.format.specs.Block.{leastHeader}
 use Rattle.format.specs.Bytes.{Bytes}
 use Rattle.format.specs.File.{layout}
 use Rattle.format.specs.Outcome.{accepted}
-use Rattle.format.specs.Written.{Written, OutlineWritten}
-use Rattle.format.specs.Listed.{BothPut, lentBytes}
-use Rattle.format.specs.Listing.{mostInput}
+use Rattle.format.specs.Promise.{Written, OutlineWritten, BothPut}
+use Rattle.format.specs.Listing.{mostInput, lentBytes}
 use Rattle.format.specs.Outline.{rowBytes}
 
 -- the most bytes of the outline of a file that the program takes: a block takes its mark, the size of its header and the least

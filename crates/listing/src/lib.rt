@@ -3,9 +3,9 @@ mod text;
 
 ghost use Prim.Native.Nat.{_≤_};
 ghost use lib.ListN.{length};
-ghost use Rattle.format.specs.Listed.{Listed, ListedLent};
 ghost use Rattle.format.specs.Listing.{mostInput, printed};
 ghost use Rattle.format.specs.Outcome.{refused as Outcome·refused};
+ghost use Rattle.format.specs.Promise.{Listed, ListedLent};
 ghost use Rattle.listing.specs.Listing.{mostOutline, BothShort, Outlined, Short};
 ghost use Rattle.listing.specs.Text.{fileText};
 use format::answer::CountAnswer;

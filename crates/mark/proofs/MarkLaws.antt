@@ -7,13 +7,14 @@ use mathlib.Core.Bool.{Bool, true, false, _&&_, and-true}
 use mathlib.Core.List.{_∷_}
 use mathlib.Mathlib.Data.Bool.Basic.{eq-false-of-not-eq-true}
 use lib.ListN.{length, take, drop, getD, drop-of-length-le, length-take, length-drop}
-use lib.Seq.{drop-cons, take-all}
+use lib.Seq.{drop-cons}
 use lib.Dec.{eqb}
 use borrow.Author.Tests.{eqb-true, eqb-false, ne-eqb}
 use mir.Syntax.{w64}
 use mir.Val.{Fits}
 use Rattle.format.specs.Bytes.{Bytes, begins}
 use Rattle.format.specs.Tree.{mark, freeSpace}
+use Rattle.format.proofs.PartLaws.{part-all}
 use Rattle.format.proofs.LocalLaws.{free-space-mark}
 use Rattle.scan.proofs.TextLaws.{begins-inside}
 use Rattle.mark.specs.Mark.{MarkFound, Skipped}
@@ -105,5 +106,4 @@ module _ (s : Bytes) (at x : ℕ) (p : at < length s) (l : x ≤ length (take (l
   -- the first mark from an offset on is that of the bytes from there on
   pub found-part : x ≡ freeSpace (take (length s - at) (drop at s)) → MarkFound s at (at + x)
   found-part e =
-      let all : take (length s - at) (drop at s) ≡ drop at s = take-all (length s - at) (drop at s) (simp length-drop (omega arith)) in
-      record { is = ap (λ (n : ℕ). at + n) (e ∙ ap freeSpace all); behind = omega arith; inside = λ q. part-inside }
+      record { is = ap (λ (n : ℕ). at + n) (e ∙ ap freeSpace (part-all s at)); behind = omega arith; inside = λ q. part-inside }

@@ -29,15 +29,15 @@ use Rattle.format.specs.Nest.{deepest, records, recordCount, recordAt}
 use Rattle.format.specs.Fields.{recordFields, recordBytes, encodeRecord, recordTable, foundNumbers, foundBytes}
 use Rattle.format.specs.Lent.{placed}
 use Rattle.format.specs.Outline.{rowOf, encodeRow, outlineOf, rows, outline}
-use Rattle.format.specs.Written.{Written, OutlineWritten}
+use Rattle.format.specs.Promise.{Written, OutlineWritten}
 use Rattle.format.proofs.FileLaws.{file-parts}
+use Rattle.format.proofs.FewLaws.{Few, records-few}
 use Rattle.format.proofs.OutcomeLaws.{accepted-holds}
 use Rattle.format.proofs.OutlineLaws.{read-back}
 use Rattle.format.proofs.RowLaws.{encoded-length}
 use Rattle.put.proofs.PutLaws.{placed-nothing, placed-none, placed-length, placed-append}
 use Rattle.put.proofs.WrittenLaws.{written-refused, written-short, written-placed, written-taken}
 use Rattle.file.specs.Layout.{Kept}
-use Rattle.file.proofs.FewLaws.{Few, records-few}
 use Rattle.file.proofs.LayoutLaws.{file-refused, blocks-kept}
 use Rattle.nest.specs.declared.sink.Form.{Form}
 use Rattle.nest.specs.declared.sink.Form.the-variants.{Rows, Table, One}

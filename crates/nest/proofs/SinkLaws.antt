@@ -22,9 +22,9 @@ use Rattle.format.specs.Outline.{innerNumber, rowOf, rowBytes, encodeRow}
 use Rattle.format.proofs.RowLaws.{encoded-length}
 use Rattle.put.proofs.NumberLaws.{numbers-length}
 use Rattle.put.proofs.PutLaws.{placed-none, placed-nothing, placed-length}
-use Rattle.file.specs.declared.again.Summary.{Summary}
-use Rattle.file.specs.Again.{blockAgain, summaryAgain}
-use Rattle.file.proofs.AgainLaws.{reported-left, reported-stored, block-again}
+use Rattle.blocks.specs.declared.again.Summary.{Summary}
+use Rattle.blocks.specs.Again.{blockAgain, summaryAgain}
+use Rattle.blocks.proofs.AgainLaws.{reported-left, reported-stored, block-again}
 use Rattle.nest.specs.declared.sink.Form.{Form}
 use Rattle.nest.specs.declared.sink.Form.the-variants.{Rows, Table, One}
 use Rattle.nest.specs.declared.sink.Place.{Place}

@@ -24,13 +24,12 @@ use Rattle.format.specs.Nest.{deepest, contentAt, contentOf, Inside, inside, wa
 use Rattle.format.proofs.BlockLaws.{BlockIs}
 use Rattle.format.proofs.ChainLaws.{blocks-few}
 use Rattle.format.proofs.FileLaws.{blocksStart, file-parts}
-use Rattle.file.specs.declared.again.Content.{Content}
+use Rattle.blocks.specs.declared.again.Content.{Content}
 use Rattle.file.specs.Layout.{Kept}
-use Rattle.file.specs.Again.{reported, hasContent, contentAgain}
-use Rattle.file.proofs.PartLaws.{part-all}
-use Rattle.file.proofs.AgainLaws.{reported-left, reported-stored}
-use Rattle.file.proofs.KeptLaws.{enough-kept}
-use Rattle.file.proofs.EachLaws.{Each, kept-each}
+use Rattle.blocks.specs.Again.{reported, hasContent, contentAgain}
+use Rattle.format.proofs.PartLaws.{part-all}
+use Rattle.blocks.proofs.AgainLaws.{reported-left, reported-stored}
+use Rattle.file.proofs.KeptLaws.{Each, kept-each, kept-room}
 use Rattle.nest.specs.declared.sink.Form.{Form}
 use Rattle.nest.specs.declared.walk.Found.{Found}
 use Rattle.nest.specs.Sink.{recordAt, Delivered}
@@ -104,7 +103,7 @@ module _ {depth start : ℕ} {s : Bytes} {blocks : ℕ} {form : Form} {number : 
     walking-inside = each .inside
 
     pub walking-kept : k < length offsets
-    walking-kept = omega (arith, enough-kept offsets blocks (kept .f .blocks) (kept .count) (kept .begin))
+    walking-kept = kept-room kept h
 
     -- and is sound
     pub walking-sound : Sound (take (length s - getD offsets k 0) (drop (getD offsets k 0) s))

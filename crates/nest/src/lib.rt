@@ -10,7 +10,7 @@ ghost use Rattle.format.specs.Fields.{recordFields, foundBytes, recordTable};
 ghost use Rattle.format.specs.File.{layout as File·layout};
 ghost use Rattle.format.specs.Nest.{recordCount, recordAt as Nest·recordAt};
 ghost use Rattle.format.specs.Outcome.{accepted};
-ghost use Rattle.format.specs.Written.{Written, OutlineWritten};
+ghost use Rattle.format.specs.Promise.{Written, OutlineWritten};
 ghost use Rattle.file.specs.Layout.{Kept};
 ghost use Rattle.nest.specs.Walk.{allRecords};
 ghost use Rattle.nest.specs.Sink.{allEncoded, width};

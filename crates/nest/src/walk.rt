@@ -11,7 +11,7 @@ ghost use Rattle.nest.specs.Sink.{Delivered};
 ghost use Rattle.nest.specs.Walk.{recordsAt, fileRecords, ContentIs, allRecords};
 use crate::sink;
 use crate::sink::Form;
-use file::again;
+use blocks::again;
 use file::layout;
 use format::answer::LayoutAnswer;
 use format::block::Inner;

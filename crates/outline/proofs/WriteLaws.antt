@@ -18,7 +18,7 @@ use Rattle.format.specs.Fields.{rowFields, numberBytes, encodeStoredRow}
 use Rattle.format.specs.Lent.{placed}
 use Rattle.format.specs.Outcome.{Outcome, accepted, refused, refusal, _>>=_}
 use Rattle.format.specs.Outline.{rowBytes, encodeRow, decodeRow, outlineOf, stored, storedCount, rewritten}
-use Rattle.format.specs.Written.{Written, WrittenAgain}
+use Rattle.format.specs.Promise.{Written, WrittenAgain}
 use Rattle.format.proofs.RowLaws.{encoded-length}
 use Rattle.format.proofs.OutlineLaws.{same-bytes}
 use Rattle.put.proofs.NumberLaws.{numbers-length}

@@ -6,7 +6,7 @@ ghost use Rattle.format.specs.Answer.{countAnswer, rowAnswer};
 ghost use Rattle.format.specs.Fields.{storedRows};
 ghost use Rattle.format.specs.Lent.{placed};
 ghost use Rattle.format.specs.Outline.{rowBytes, isRow, storedCount, storedAt};
-ghost use Rattle.format.specs.Written.{Written, WrittenAgain};
+ghost use Rattle.format.specs.Promise.{Written, WrittenAgain};
 ghost use Rattle.outline.specs.Row.{rowsIn};
 ghost use Rattle.outline.specs.Form.{formed, formBytes, formedRows, storedIn};
 use crate::row;

@@ -14,7 +14,7 @@ use Rattle.format.specs.Answer.{countAnswer}
 use Rattle.format.specs.Bytes.{Bytes}
 use Rattle.format.specs.Lent.{placed, writes, leaves}
 use Rattle.format.specs.Outcome.{Outcome, accepted, refused, refusal}
-use Rattle.format.specs.Written.{Written}
+use Rattle.format.specs.Promise.{Written}
 use Rattle.put.specs.Put.{PutWhole, PutAt}
 use Rattle.put.proofs.PutLaws.{placed-none}
 

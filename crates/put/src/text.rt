@@ -1,6 +1,6 @@
 // Texts put into a lent buffer.
 ghost use Rattle.format.specs.Outcome.{accepted};
-ghost use Rattle.format.specs.Written.{Written};
+ghost use Rattle.format.specs.Promise.{Written};
 ghost use Rattle.put.specs.Put.{PutWhole};
 ghost use lib.ListN.{length};
 use format::answer::CountAnswer;

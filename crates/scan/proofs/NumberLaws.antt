@@ -19,7 +19,7 @@ use Rattle.format.proofs.PackLaws.{big-endian-append}
 use Rattle.format.proofs.NumeralLaws.{digits-append, length-snoc, value-snoc, digit-range, value-below}
 use Rattle.scan.specs.declared.number.Number.{Number}
 use Rattle.scan.specs.declared.number.Number.the-variants.{Value, Malformed}
-use Rattle.scan.specs.Number.{BigEndian, Four, Digits, digitsOf, leadsWell, DigitsRead, NumeralRead}
+use Rattle.scan.specs.Number.{BigEndian, Four, Digits, digitsNumber, leadsWell, DigitsRead, NumeralRead}
 
 -- a number of few digits is one of more
 below-more : (b x m n : ℕ) → 1 ≤ b → m ≤ n → x < b ^ m → x < b ^ n
@@ -116,7 +116,7 @@ pub digits-other : (t : Bytes) (i : ℕ) (d : Bool) → d ≡ isDigit (getD t i 
 digits-other t i d h e p =
     let split = ap allDigits (split-at t i 0 p) ∙ digits-append (take i t) (getD t i 0 ∷ drop (suc i) t) in
     let other : allDigits t ≡ false = rw (sym h ∙ not-true d e, and-false) at split in
-    record { is = rw (other, digitsOf); small = tt }
+    record { is = rw (other, digitsNumber); small = tt }
 
 module _ (t : Bytes) (i x : ℕ) (read : DigitsSoFar t i x) where
   -- what is read so far leaves room for one digit more
@@ -152,7 +152,7 @@ module _ (t : Bytes) (i x : ℕ) (read : DigitsSoFar t i x) where
       let all = take-all i t p in
       let digits = rw all at (read .digits) in
       let value = rw all at (read .value) in
-      record { is = rw (digits, digitsOf, value); small = rw value at (value-below t digits) }
+      record { is = rw (digits, digitsNumber, value); small = rw value at (value-below t digits) }
 
 -- a single byte leads well
 pub leads-alone : (t : Bytes) → length t ≤ 1 → true ≡ leadsWell t

@@ -32,11 +32,11 @@ Digits most (Value x) = x < 10 ^ most
 Digits most Malformed = Unit {0}
 
 -- the number that digits give, with or without a zero in front
-abbrev pub digitsOf : Bytes → Option ℕ
-digitsOf t = elim (allDigits t) [ true ↦ some (decimalValue t) | false ↦ none ]
+abbrev pub digitsNumber : Bytes → Option ℕ
+digitsNumber t = elim (allDigits t) [ true ↦ some (decimalValue t) | false ↦ none ]
 
 pub record DigitsRead (t : Bytes) (r : Number) : Type 0 where
-  pub is : numberOf r ≡ digitsOf t
+  pub is : numberOf r ≡ digitsNumber t
   pub small : Digits (length t) r
 
 -- no leading zero but in a lone 0

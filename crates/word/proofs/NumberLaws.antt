@@ -10,7 +10,7 @@ use Rattle.format.specs.Bytes.{Bytes}
 use Rattle.format.specs.Outcome.{accepted, refusal}
 use Rattle.format.specs.Fields.{numberBytes}
 use Rattle.format.specs.Lent.{placed}
-use Rattle.format.specs.Written.{Written}
+use Rattle.format.specs.Promise.{Written}
 use Rattle.put.proofs.NumberLaws.{numbers-length}
 use Rattle.put.proofs.WrittenLaws.{written-short, written-placed}
 

@@ -2,9 +2,9 @@
 ghost use mathlib.Core.Path.{_≡_};
 ghost use Rattle.format.specs.Outcome.{accepted, refused as Outcome·refused};
 ghost use Rattle.format.specs.Answer.{countAnswer};
-ghost use Rattle.format.specs.Export.{word};
 ghost use Rattle.format.specs.Fields.{numberBytes};
-ghost use Rattle.format.specs.Written.{Written};
+ghost use Rattle.format.specs.Export.{word};
+ghost use Rattle.format.specs.Promise.{Written};
 use format::answer::CountAnswer;
 use format::refusal::Refusal;
 

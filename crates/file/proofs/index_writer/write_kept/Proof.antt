@@ -1,6 +1,6 @@
--- The last block is read where it begins, and tells whether there may be an index.
+-- The last block is read again where it begins, and tells whether there may be an index.
 use borrow.Author.Needs.{needs}
-use Rattle.file.proofs.IndexWriterLaws.{no-block, last-room, last-inside, last-refused, last-streamed, last-plain, all-kept, part-length}
+use Rattle.file.proofs.IndexWriterLaws.{no-block, last-room, last-inside, last-streamed, part-length, last-plain}
 use Rattle.file.proofs.index_writer.write_kept.Statement.{statement}
 use Rattle.file.proofs.index_writer.write_kept.Tie as tie
 
@@ -17,15 +17,10 @@ write-kept-spec =
     (λ c. search (last-inside, needs))
     (λ c. search (last-inside, needs))
     (λ c. search needs)
-    (λ c. search needs)
     (λ c κs. search needs)
-    (λ c. search needs)
-    (λ c. search needs)
     (λ c κs. search needs)
     (λ c. search (last-streamed, needs))
-    (λ c. search (all-kept, needs))
     (λ c. search (part-length, needs))
     (λ c κs. search needs)
-    (λ c. search (last-refused, needs))
     (λ c. search needs)
     (λ c. search (last-plain, needs)))

@@ -7,11 +7,4 @@ use Rattle.file.proofs.layout.behind_comments.Tie as tie
 pub behind-comments-spec : {M : Type 1} → statement M
 behind-comments-spec =
     tie.close
-    (tie.spec
-    (λ c κs. search needs)
-    (λ c. search needs)
-    (λ c. search needs)
-    (λ c κs. search (tree-inside, needs))
-    (λ c. search (tree-refused, needs))
-    (λ c. search needs)
-    (λ c. search (tree-read, needs)))
+    (tie.spec (λ c κs. search needs) (λ c. search needs) (λ c. search needs) (λ c κs. search (tree-inside, needs)) (λ c. search (tree-refused, needs)) (λ c. search (tree-read, needs)))

@@ -13,5 +13,4 @@ behind-header-spec =
     (λ c. search needs)
     (λ c κs. search (comments-inside, needs))
     (λ c. search (comments-refused, needs))
-    (λ c. search needs)
     (λ c. search (comments-read, needs)))

@@ -1,6 +1,6 @@
--- One law for each way out: the blocks begin after a tree's room, or where the comments end.
+-- One law for each way out: the blocks begin behind a tree's room, or where the comments end.
 use borrow.Author.Needs.{needs}
-use Rattle.file.proofs.LayoutLaws.{room-inside, here-inside, blocks-none, blocks-behind, blocks-here}
+use Rattle.file.proofs.LayoutLaws.{room-inside, blocks-none, here-inside, blocks-behind, blocks-here}
 use Rattle.file.proofs.layout.behind_tree.Statement.{statement}
 use Rattle.file.proofs.layout.behind_tree.Tie as tie
 
@@ -15,7 +15,5 @@ behind-tree-spec =
     (λ c κs. search needs)
     (λ c. search (blocks-none, needs))
     (λ c κs. search (here-inside, needs))
-    (λ c. search needs)
     (λ c. search (blocks-behind, needs))
-    (λ c. search needs)
     (λ c. search (blocks-here, needs)))

@@ -15,5 +15,4 @@ judge-spec =
     (λ c. search needs)
     (λ c κs. search (header-inside, needs))
     (λ c. search (header-refused, needs))
-    (λ c. search needs)
     (λ c. search (header-read, needs)))

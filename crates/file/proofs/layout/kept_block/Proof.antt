@@ -1,7 +1,6 @@
 -- The block of a kept offset is the one that is read there.
 use borrow.Author.Needs.{needs}
-use Rattle.file.proofs.KeptLaws.{kept-none, kept-room, kept-inside}
-use Rattle.file.proofs.EachLaws.{kept-again}
+use Rattle.file.proofs.KeptLaws.{kept-none, kept-room, kept-inside, kept-again}
 use Rattle.file.proofs.layout.kept_block.Statement.{statement}
 use Rattle.file.proofs.layout.kept_block.Tie as tie
 

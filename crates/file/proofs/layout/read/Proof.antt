@@ -5,9 +5,4 @@ use Rattle.file.proofs.layout.read.Statement.{statement}
 use Rattle.file.proofs.layout.read.Tie as tie
 
 pub read-spec : {M : Type 1} → statement M
-read-spec =
-    tie.close
-    (tie.spec
-    (λ c. search needs)
-    (λ c κs. search needs)
-    (λ c. search (layout-judged, needs)))
+read-spec = tie.close (tie.spec (λ c κs. search needs) (λ c. search (layout-judged, needs)))

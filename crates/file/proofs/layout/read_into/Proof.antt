@@ -1,4 +1,4 @@
--- The table of an accepted file is the one that was kept; that of a refused one is cleared.
+-- The table of an accepted file is the one that was kept; a refused one leaves only zeros.
 use borrow.Author.Needs.{needs}
 use Rattle.file.proofs.LayoutLaws.{layout-again, table-accepted, table-refused}
 use Rattle.file.proofs.layout.read_into.Statement.{statement}
@@ -11,6 +11,5 @@ read-into-spec =
     (λ c κs. search needs)
     (λ c. search needs)
     (λ c. search needs)
-    (λ c κs. search needs)
     (λ c. search (layout-again, table-accepted, needs))
     (λ c. search (layout-again, table-refused, needs)))

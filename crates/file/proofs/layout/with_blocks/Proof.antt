@@ -1,6 +1,6 @@
 -- One law for each way out: the walk says what the chain is, and the verdict what its tail is.
 use borrow.Author.Needs.{needs}
-use Rattle.file.proofs.LayoutLaws.{alone-few, to-inside, to-kept, to-few, walk-refused, alone-judged, to-judged}
+use Rattle.file.proofs.LayoutLaws.{alone-few, to-inside, to-few, to-kept, walk-refused, alone-judged, to-judged}
 use Rattle.file.proofs.layout.with_blocks.Statement.{statement}
 use Rattle.file.proofs.layout.with_blocks.Tie as tie
 
@@ -18,9 +18,6 @@ with-blocks-spec =
     (λ c. search needs)
     (λ c κs. search (to-kept, needs))
     (λ c κs. search (to-few, needs))
-    (λ c. search needs)
     (λ c. search (walk-refused, needs))
-    (λ c. search needs)
     (λ c. search (alone-judged, needs))
-    (λ c. search needs)
     (λ c. search (to-judged, needs)))

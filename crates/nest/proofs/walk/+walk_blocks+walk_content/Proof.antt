@@ -12,7 +12,7 @@ use Rattle.nest.proofs.walk.+walk_blocks+walk_content.Lts-walk_blocks a
 use Rattle.nest.proofs.walk.walk_content.Reads as walk-content
 use Rattle.nest.proofs.walk.walk_content.Kinds as walk-content-kinds
 use Rattle.nest.proofs.walk.+walk_blocks+walk_content.Lts-walk_content as walk-content-lts
-use Rattle.file.proofs.again.content_of.Reads as again-content-of-reads
+use Rattle.blocks.proofs.again.content_of.Reads as again-content-of-reads
 use Rattle.format.proofs.offset.Offset.outermost.Reads as outermost-reads
 use Rattle.nest.proofs.sink.take_block.Reads as take-block-reads
 use Rattle.nest.proofs.walk.content_of.Reads as walk-content-of-reads

@@ -1,0 +1,14 @@
+-- A streamed block's size is what is left, and another's the stored one.
+use borrow.Author.Needs.{needs}
+use Rattle.blocks.proofs.AgainLaws.{size-streamed, size-stored}
+use Rattle.blocks.proofs.again.size.Statement.{statement}
+use Rattle.blocks.proofs.again.size.Tie as tie
+
+pub size-spec : {M : Type 1} → statement M
+size-spec =
+    tie.close
+    (tie.spec
+    (λ c κs. search needs)
+    (λ c κs. search needs)
+    (λ c. search (size-streamed, needs))
+    (λ c. search (size-stored, needs)))

@@ -1,0 +1,18 @@
+-- Outside there are no blocks; what the walk inside answers is told.
+use borrow.Author.Needs.{needs}
+use Rattle.blocks.proofs.ChainLaws.{walk-outside, told-alone, told-to, told-refused}
+use Rattle.blocks.proofs.chain.walk.Statement.{statement}
+use Rattle.blocks.proofs.chain.walk.Tie as tie
+
+pub walk-spec : {M : Type 1} → statement M
+walk-spec =
+    tie.close
+    (tie.spec
+    (λ c. search (walk-outside, needs))
+    (λ c κs. search needs)
+    (λ c. search needs)
+    (λ c. search needs)
+    (λ c. search needs)
+    (λ c. search (told-alone, needs))
+    (λ c. search (told-to, needs))
+    (λ c. search (told-refused, needs)))

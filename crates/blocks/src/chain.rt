@@ -1,0 +1,133 @@
+// The chain of blocks, with unallocated space between them, and the tail after the last of them.
+ghost use Prim.Native.Nat.{_≤_, _<_};
+ghost use mathlib.Core.Path.{_≡_};
+ghost use lib.ListN.{length, drop, set};
+ghost use Rattle.format.specs.Bytes.{begins};
+ghost use Rattle.format.specs.Comments.{indexLine};
+ghost use Rattle.format.specs.Chain.{chain, mostBlocks};
+ghost use Rattle.blocks.specs.Chain.{Follows, NextMark, LinkIs, Walked, WalkedInside};
+use crate::block;
+use crate::step::ChainStep;
+use crate::step::LinkStep;
+use format::limits::MOST_BLOCKS;
+use format::refusal::Refusal;
+use format::refusal::STRAY_TAIL;
+use format::refusal::TOO_MANY_BLOCKS;
+use scan::text;
+
+// Walks the blocks from an offset on, and keeps where each begins at the front of the table; what stood after them stays. A chain
+// that is refused leaves only zeros there: what the walk had kept before the refusal is not handed on.
+pub fn walk(s: &[u8], first: usize, offsets: &mut [u64; MOST_BLOCKS]) -> ChainStep
+    ensures { λ r. ⌜ Walked (now (s .entry)) (chain mostBlocks 0 first (drop first (now (s .entry)))) (now (offsets .entry)) (now (offsets .exit)) r ⌝ }
+{
+    if s.len() < first {
+        return ChainStep::Walked(0);
+    }
+    match walk_inside(s, first, offsets) {
+        ChainStep::Walked(blocks) => ChainStep::Walked(blocks),
+        ChainStep::Indexed { blocks, tail } => ChainStep::Indexed { blocks, tail },
+        ChainStep::Refused(r) => {
+            *offsets = [0u64; MOST_BLOCKS];
+            ChainStep::Refused(r)
+        }
+    }
+}
+
+// The same from an offset inside. A refused chain leaves what was kept before. The table comes as a slice, since a reference to an
+// array says nothing of the array's length in a proof.
+fn walk_inside(s: &[u8], first: usize, offsets: &mut [u64]) -> ChainStep
+    requires { ⌜ first ≤ length (now s) ⌝ }
+    requires { ⌜ length (now offsets) ≡ mostBlocks ⌝ }
+    ensures { λ r. ⌜ WalkedInside (now (s .entry)) (chain mostBlocks 0 first (drop first (now (s .entry)))) (now (offsets .entry)) (now (offsets .exit)) r ⌝ }
+{
+    let mut at = first;
+    let mut i: usize = 0;
+    loop {
+        let next = next_mark(s, at);
+        match link(s, at, next, i) {
+            LinkStep::Refused(r) => {
+                return ChainStep::Refused(r);
+            }
+            LinkStep::Zeros => {
+                return ChainStep::Walked(i);
+            }
+            LinkStep::Index => {
+                return ChainStep::Indexed {
+                    blocks: i,
+                    tail: at,
+                };
+            }
+            LinkStep::Streamed => {
+                keep(offsets, i, next);
+                return ChainStep::Walked(i + 1);
+            }
+            LinkStep::Block(extent) => {
+                keep(offsets, i, next);
+                i += 1;
+                at = next + extent;
+            }
+        }
+    }
+}
+
+// Keeps where block i begins.
+fn keep(offsets: &mut [u64], i: usize, at: usize)
+    requires { ⌜ i < length (now offsets) ⌝ }
+    ensures { λ _. ⌜ now (offsets .exit) ≡ set (now (offsets .entry)) i at ⌝ }
+{
+    offsets[i] = at as u64;
+}
+
+// Where the block begins that follows at an offset, or the end where none follows. Blocks mostly follow at once, and where a
+// mark stands no index does, so the mark is tried first; nothing after an index is searched.
+fn next_mark(s: &[u8], at: usize) -> usize
+    requires { ⌜ at ≤ length (now s) ⌝ }
+    ensures { λ r. ⌜ NextMark (now (s .entry)) at r ⌝ }
+{
+    if mark::is_mark(s, at) {
+        return at;
+    }
+    if is_index(s, at) {
+        return s.len();
+    }
+    mark::find(s, at)
+}
+
+// Whether an index begins at an offset: its first line decides, whatever comes after.
+fn is_index(s: &[u8], at: usize) -> bool
+    ensures { λ r. ⌜ r ≡ begins indexLine (drop at (now (s .entry))) ⌝ }
+{
+    text::begins_at(s, at, b"#ASDF BLOCK INDEX")
+}
+
+// What follows at an offset: at the mark `next` block i, if there may be so many; where there is no mark, the tail.
+fn link(s: &[u8], at: usize, next: usize, i: usize) -> LinkStep
+    requires { ⌜ (at ≤ length (now s)) × NextMark (now s) at next ⌝ }
+    ensures { λ r. ⌜ LinkIs (now (s .entry)) i at next r ⌝ }
+{
+    if next < s.len() {
+        return link_at_mark(s, at, next, i);
+    }
+    if is_index(s, at) {
+        return LinkStep::Index;
+    }
+    if text::only_zeros(&s[at..]) {
+        return LinkStep::Zeros;
+    }
+    LinkStep::Refused(Refusal::new(STRAY_TAIL, at))
+}
+
+// The same where a block follows at the mark `next`.
+fn link_at_mark(s: &[u8], at: usize, next: usize, i: usize) -> LinkStep
+    requires { ⌜ Follows (now s) at next ⌝ }
+    ensures { λ r. ⌜ LinkIs (now (s .entry)) i at next r ⌝ }
+{
+    if MOST_BLOCKS <= i {
+        return LinkStep::Refused(Refusal::new(TOO_MANY_BLOCKS, next));
+    }
+    let number = block::fault(&s[next..]);
+    if number != 0 {
+        return LinkStep::Refused(Refusal::new(number, next));
+    }
+    block::sound_link(&s[next..])
+}

@@ -1,0 +1,5 @@
+// The blocks of a file: a block's header, the chain of blocks, and the tail after the last of them.
+pub mod again;
+mod block;
+pub mod chain;
+pub mod step;

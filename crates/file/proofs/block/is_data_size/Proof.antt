@@ -1,8 +1,0 @@
--- `file::block::is_data_size` meets its contract, by whether the block is compressed.
-use borrow.Author.Needs.{needs}
-use Rattle.file.proofs.BlockLaws.{compressed-size, plain-size}
-use Rattle.file.proofs.block.is_data_size.Statement.{statement}
-use Rattle.file.proofs.block.is_data_size.Tie as tie
-
-pub is-data-size-spec : {M : Type 1} → statement M
-is-data-size-spec = tie.close (tie.spec (λ c κs. search needs) (λ c. search (compressed-size, needs)) (λ c. search (plain-size, needs)))
