@@ -15,7 +15,7 @@ use Rattle.format.specs.Block.{headerSize, flags, compression, allocatedSize, u
 use Rattle.blocks.specs.declared.again.Summary.{Summary}
 use Rattle.blocks.specs.declared.again.Content.{Content}
 use Rattle.blocks.specs.Block.{FieldRead}
-use Rattle.blocks.specs.Again.{reported, blankBlock, blockAgain, blankSummary, summaryAgain, hasContent, noContent, contentAgain}
+use Rattle.blocks.specs.Again.{reported, blankBlock, blockAgain, blankSummary, summaryAgain, streamedAgain, hasContent, noContent, contentAgain}
 
 module _ (t : Bytes) (size : ℕ) where
   -- a size of a streamed block is what is left
@@ -33,6 +33,10 @@ module _ (t : Bytes) where
   pub block-blank : (i n : ℕ) → length t < leastBlock → blankBlock i n ≡ blockAgain i n t
   unfolding blockAgain
   block-blank i n h = rw (blockAgain, lt-leb leastBlock (length t) h)
+
+  pub streamed-blank : length t < leastBlock → false ≡ streamedAgain t
+  unfolding streamedAgain
+  streamed-blank h = rw (streamedAgain, lt-leb leastBlock (length t) h)
 
   pub summary-blank : length t < leastBlock → blankSummary ≡ summaryAgain t
   unfolding summaryAgain
@@ -69,6 +73,11 @@ module _ (t : Bytes) where
     unfolding blockAgain blockWith
     block-made i n h f c a a' u u' d d' high low rh rf rc ra sa ru su rd sd rx ry =
         rw (blockAgain, le-leb leastBlock (length t) long, blockWith, rh .is, rf .is, rc .is, sa, ra .is, su, ru .is, sd, rd .is, rx .is, ry .is)
+
+    -- its flags tell whether it is streamed
+    pub streamed-told : (f : ℕ) → FieldRead t 6 10 f → isStreamed f ≡ streamedAgain t
+    unfolding streamedAgain
+    streamed-told f bits = rw (streamedAgain, le-leb leastBlock (length t) long, bits .is)
 
     -- and so is its summary
     pub summary-made : (h f c a a' u u' high low : ℕ) (compressed checksum : Bool) → FieldRead t 4 6 h → FieldRead t 6 10 f
@@ -137,6 +146,6 @@ block-again t sound i n = go (isStreamed (flags t)) refl
         rw (blockAgain, long, reported-stored t (allocatedSize t) e, reported-stored t (usedSize t) e, reported-stored t (dataSize t) e, soundBlock, e)
 
 -- and it is told whether it is streamed
-pub summary-streamed : (t : Bytes) → Sound t → summaryAgain t .streamed ≡ isStreamed (flags t)
-unfolding summaryAgain
-summary-streamed t sound = rw (summaryAgain, le-leb leastBlock (length t) (omega (arith, sound .least, sound .whole)))
+pub sound-streamed : (t : Bytes) → Sound t → streamedAgain t ≡ isStreamed (flags t)
+unfolding streamedAgain
+sound-streamed t sound = rw (streamedAgain, le-leb leastBlock (length t) (omega (arith, sound .least, sound .whole)))

@@ -55,6 +55,10 @@ summaryAgain t =
       | false ↦ blankSummary
     ]
 
+-- whether it is streamed
+unfoldable pub streamedAgain : Bytes → Bool
+streamedAgain t = leb leastBlock (length t) && isStreamed (flags t)
+
 -- whether its content lies inside t
 abbrev pub hasContent : Bytes → Bool
 hasContent t = leb leastBlock (length t) && leb (contentStart t) (length t) && leb (reported t (usedSize t)) (bytesLeft t)

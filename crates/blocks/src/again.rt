@@ -4,7 +4,7 @@ ghost use Prim.Native.Nat.{_≤_};
 ghost use mathlib.Core.Path.{_≡_};
 ghost use lib.ListN.{length};
 ghost use Rattle.format.specs.Block.{leastBlock, bytesLeft};
-ghost use Rattle.blocks.specs.Again.{reported, blockAgain, summaryAgain, contentAgain, noContent};
+ghost use Rattle.blocks.specs.Again.{reported, blockAgain, summaryAgain, streamedAgain, contentAgain, noContent};
 use crate::block::field;
 use format::block::Block;
 use format::block::has_checksum;
@@ -83,6 +83,16 @@ pub fn summary_of(t: &[u8]) -> Summary
         allocated: size(t, field(t, 14, 22)),
         used: size(t, field(t, 22, 30)),
     }
+}
+
+// Whether such a block is streamed.
+pub fn is_streamed(t: &[u8]) -> bool
+    ensures { λ r. ⌜ r ≡ streamedAgain (now (t .entry)) ⌝ }
+{
+    if t.len() < LEAST_BLOCK {
+        return false;
+    }
+    field(t, 6, 10) % 2 == 1
 }
 
 // The content of such a block.

@@ -30,9 +30,8 @@ use Rattle.format.proofs.ChainLaws.{blocks-few}
 use Rattle.format.proofs.FileLaws.{blocksStart, file-parts}
 use Rattle.format.proofs.WriterLaws.{index-good, index-short}
 use Rattle.format.proofs.PartLaws.{part-all}
-use Rattle.blocks.specs.declared.again.Summary.{Summary}
-use Rattle.blocks.specs.Again.{summaryAgain}
-use Rattle.blocks.proofs.AgainLaws.{summary-streamed}
+use Rattle.blocks.specs.Again.{streamedAgain}
+use Rattle.blocks.proofs.AgainLaws.{sound-streamed}
 use Rattle.file.specs.Layout.{Kept}
 use Rattle.file.proofs.KeptLaws.{Each, kept-each, kept-room}
 use Rattle.file.proofs.LayoutLaws.{file-refused}
@@ -97,20 +96,20 @@ module _ (s : Bytes) (kept : List ℕ) (count : ℕ) (h : Kept s kept count) whe
         let few = blocks-few mostBlocks 0 (blocksStart (h .f)) _ (drop (blocksStart (h .f)) s) (file-parts s (h .f) (h .is) .chain-read) in
         rw (offsetsIndex, le-leb (length (take count kept)) mostBlocks (omega (arith, part-length, h .count)))
 
-    module _ (x : Summary) (read : x ≡ summaryAgain (take (length s - getD kept (count - 1) 0) (drop (getD kept (count - 1) 0) s))) where
+    module _ (x : Bool) (read : x ≡ streamedAgain (take (length s - getD kept (count - 1) 0) (drop (getD kept (count - 1) 0) s))) where
       -- the last block tells whether there may be an index
-      last-may : (t : Bool) → not (x .streamed) ≡ t → mayHaveIndex (h .f .blocks) ≡ t
+      last-may : (t : Bool) → not x ≡ t → mayHaveIndex (h .f .blocks) ≡ t
       last-may t q =
-          let told : x .streamed ≡ isStreamed (last-each .b .flags)
-          = rw (read, part-all) (summary-streamed _ (last-each .is .sound)) ∙ ap isStreamed (sym (last-each .is .same-flags)) in
+          let told : x ≡ isStreamed (last-each .b .flags)
+          = rw (read, part-all) (sound-streamed _ (last-each .is .sound)) ∙ ap isStreamed (sym (last-each .is .same-flags)) in
           last-decides (h .f .blocks) (count - 1) (last-each .b) (omega (arith, h .count)) (last-each .found) ∙ ap not (sym told) ∙ q
 
       -- it is streamed
-      pub last-streamed : x .streamed ≡ true → (out : Bytes) (y : CountAnswer) → y ≡ Refused (refusal 22 0) → Written (indexFor s) out out y
+      pub last-streamed : x ≡ true → (out : Bytes) (y : CountAnswer) → y ≡ Refused (refusal 22 0) → Written (indexFor s) out out y
       last-streamed q out = written-refused (indexFor s) out (refusal 22 0) (index-is false (last-may false (rw q)))
 
       -- it is not
-      pub last-plain : x .streamed ≡ false → (l : Layout) → layout s ≡ accepted l → (k : LineEnd) → k ≡ l .header .«line_end»
+      pub last-plain : x ≡ false → (l : Layout) → layout s ≡ accepted l → (k : LineEnd) → k ≡ l .header .«line_end»
           → (out after : Bytes) (y : CountAnswer) → Written (offsetsIndex k (take count kept)) out after y → Written (indexFor s) out after y
       last-plain q l told k e out after y w = rw (index-is true (last-may true (rw q)), same-header l told, ← e) (rw (part-index k) at w)
 

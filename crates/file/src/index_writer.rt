@@ -40,8 +40,7 @@ fn write_kept(s: &[u8], offsets: &[u64], l: Layout, out: &mut [u8]) -> CountAnsw
     }
     let count = blocks as usize;
     let last = offsets[count - 1] as usize;
-    let b = again::summary_of(&s[last..]);
-    if b.streamed {
+    if again::is_streamed(&s[last..]) {
         return CountAnswer::refuse(NO_INDEX_POSSIBLE, 0);
     }
     index::text::write(ending, &offsets[..count], out)

@@ -32,11 +32,9 @@ use Rattle.put.specs.Put.{PutWhole, PutAt}
 use Rattle.put.proofs.WrittenLaws.{written-placed, own-bytes, Taken, written-taken}
 use Rattle.outline.specs.Row.{rowsIn}
 use Rattle.outline.proofs.StoredLaws.{Read, read-stored}
-use Rattle.format.specs.Lent.{writes, leaves, bothFit}
-use Rattle.format.specs.Outcome.{Outcome, accepted, refused, refusal, _>>=_}
-use Rattle.format.specs.Outline.{rowBytes, outlineOf, rows, outline, stored}
-use Rattle.format.specs.Listing.{mostInput, sentence, fileListing, printed, listing, outlineBytes, outlineFor, lentBytes}
-use Rattle.format.specs.Promise.{Written, OutlineWritten, BothPut, Listed, ListedLent}
+use Rattle.listing.specs.Listing.{mostOutline, Outlined, BothShort, Short}
+use Rattle.listing.specs.Text.{mostShort, fileText, mostFile}
+use Rattle.format.proofs.FewLaws.{rows-few}
 
 -- a line was put into a buffer of its own, and is written from there
 pub line-written : (t own after : Bytes) (n : ℕ) → PutAt own after 0 t mostShort n → length own ≡ mostShort → (out out-after : Bytes) (x : CountAnswer)

@@ -5,7 +5,7 @@ use lib.ListN.{length}
 use Rattle.format.specs.declared.answer.CountAnswer.{CountAnswer}
 use Rattle.format.specs.declared.answer.LayoutAnswer.{LayoutAnswer}
 use Rattle.format.specs.Answer.{layoutAnswer}
-use Rattle.format.specs.Block.{leastHeader}
+use Rattle.format.specs.Block.{leastBlock}
 use Rattle.format.specs.Bytes.{Bytes}
 use Rattle.format.specs.File.{layout}
 use Rattle.format.specs.Outcome.{accepted}
@@ -13,10 +13,9 @@ use Rattle.format.specs.Promise.{Written, OutlineWritten, BothPut}
 use Rattle.format.specs.Listing.{mostInput, lentBytes}
 use Rattle.format.specs.Outline.{rowBytes}
 
--- the most bytes of the outline of a file that the program takes: a block takes its mark, the size of its header and the least
--- header or more
+-- the most bytes of the outline of a file that the program takes
 abbrev pub mostOutline : ℕ
-mostOutline = mostInput / (6 + leastHeader) * rowBytes
+mostOutline = mostInput / leastBlock * rowBytes
 
 -- the file s was read, and its outline was written into a buffer that is long enough
 pub record Outlined (s : Bytes) (answer : LayoutAnswer) (written : CountAnswer) (own : Bytes) : Type 0 where

@@ -11,6 +11,7 @@ ghost use Rattle.listing.specs.Text.{fileText};
 use format::answer::CountAnswer;
 use format::answer::LayoutAnswer;
 use format::layout::Layout;
+use format::limits::LEAST_BLOCK;
 use format::limits::ROW_BYTES;
 use format::refusal::BUFFER_TOO_SHORT;
 use format::refusal::Refusal;
@@ -23,9 +24,8 @@ pub const MOST_INPUT: usize = 65536;
 // The bytes of a buffer that is long enough for every listing and every outline.
 pub const LENT_BYTES: usize = 65536;
 
-// The most bytes of the outline of a listed file. A block takes 54 bytes of the file or more: its mark, the size of its header, and
-// the least header.
-const MOST_OUTLINE: usize = MOST_INPUT / 54 * ROW_BYTES;
+// The most bytes of the outline of a listed file.
+const MOST_OUTLINE: usize = MOST_INPUT / LEAST_BLOCK * ROW_BYTES;
 
 // Every line but a row's is shorter.
 const MOST_SHORT: usize = 64;
@@ -40,8 +40,9 @@ pub fn list(s: &[u8], rows: &mut [u8], out: &mut [u8]) -> CountAnswer
         return write_text(b"too long for this program\n", out);
     }
     let mut own = [0u8; MOST_OUTLINE];
-    let answer = file::layout::read(s);
-    let written = nest::outline(s, &mut own);
+    let found = nest::outline_with_layout(s, &mut own);
+    let answer = found.layout;
+    let written = found.written;
     list_outlined(s, answer, written, &own, rows, out)
 }
 

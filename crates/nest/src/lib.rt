@@ -25,7 +25,7 @@ use format::limits::RECORD_BYTES;
 use format::refusal::BUFFER_TOO_SHORT;
 
 // The bytes of a buffer that takes the usual case: a record for each block of a file with no files inside.
-const OWN_BYTES: usize = 7680;
+const OWN_BYTES: usize = MOST_BLOCKS * RECORD_BYTES;
 
 // How many blocks a file and the files inside it have, or the file's refusal.
 pub fn count(s: &[u8]) -> CountAnswer

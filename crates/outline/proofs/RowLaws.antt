@@ -1,4 +1,4 @@
--- Rows: the row of a block, and a row's sixteen bytes in four parts of four bytes each.
+-- Rows: a row's sixteen bytes in four parts of four bytes each.
 use Prim.Native.Nat.{ℕ, _+_, _*_, _-_, _/_, _%_, _^_, _≤_, _<_}
 use native.Mathlib.Nat.{add-zero, add-assoc, mul-one, div-one, mod-mod, mod-eq-of-lt}
 use native.Mathlib.Omega.{arith}
@@ -13,15 +13,13 @@ use mir.Syntax.{w8}
 use mir.Val.{Fits}
 use borrow.Author.Tests.{le-leb, lt-leb}
 use Rattle.format.specs.declared.answer.RowAnswer.the-variants.{Found, NoSuchRow}
-use Rattle.format.specs.declared.block.Record.{Record}
 use Rattle.format.specs.declared.offset.OutermostOffset.{OutermostOffset}
 use Rattle.format.specs.declared.row.Row.{Row}
 use Rattle.format.specs.Answer.{rowAnswer}
 use Rattle.format.specs.Bytes.{Bytes, IsBytes, bigEndian, toBytes, wrapped, bit}
-use Rattle.format.specs.Block.{isCompressed, hasChecksum}
 use Rattle.format.specs.Lent.{placed}
 use Rattle.format.specs.Outcome.{accepted}
-use Rattle.format.specs.Outline.{innerNumber, rowOf, fieldsOf, sum, packed, unpacked, encodeRow, decodeRow}
+use Rattle.format.specs.Outline.{fieldsOf, sum, packed, unpacked, encodeRow, decodeRow}
 use Rattle.format.proofs.PackLaws.{is-bytes-append, is-bytes-take, is-bytes-drop, big-endian-append, big-endian-to-bytes}
 use Rattle.format.proofs.PackLaws.{to-bytes-length, to-bytes-are-bytes, to-bytes-big-endian, packed-lt, packed-unpacked}
 use Rattle.format.proofs.RowLaws.{RowFits, encoded-length, bit-lt, bit-of-flag, decode-encode}
@@ -29,24 +27,6 @@ use Rattle.scan.specs.Number.{BigEndian}
 use Rattle.scan.proofs.NumberLaws.{big-endian-number, big-endian-below}
 use Rattle.put.proofs.PutLaws.{placed-behind, placed-long}
 use Rattle.outline.specs.Row.{frontOf, Field, rowAt}
-
--- the row of a block
-pub row-made : (r : Record) (compressed checksum : Bool) (inner : ℕ) → compressed ≡ isCompressed (r .block .compression)
-    → checksum ≡ hasChecksum (r .block .«checksum_high») (r .block .«checksum_low») → inner ≡ innerNumber (r .inner)
-    → record {
-      depth = r .depth;
-      streamed = eqb (r .block .flags % 2) 1;
-      compressed = compressed;
-      checksum = checksum;
-      inner = inner;
-      ordinal = r .block .ordinal;
-      «header_size» = r .block .«header_size»;
-      at = r .at;
-      allocated = r .block .allocated;
-      used = r .block .used;
-    } ≡ rowOf r
-unfolding rowOf
-row-made r compressed checksum inner d e f = rw (d, e, f)
 
 -- two numbers in bytes, one behind the other, are one number in bytes
 to-bytes-append : (a b x y : ℕ) → toBytes (a + b) (x % 256 ^ a * 256 ^ b + y % 256 ^ b) ≡ toBytes a x ++ toBytes b y

@@ -5,38 +5,14 @@ ghost use lib.ListN.{length, take, drop};
 ghost use Rattle.format.specs.Answer.{rowAnswer};
 ghost use Rattle.format.specs.Lent.{placed};
 ghost use Rattle.format.specs.Outcome.{accepted};
-ghost use Rattle.format.specs.Outline.{encodeRow, decodeRow, rowOf};
+ghost use Rattle.format.specs.Outline.{encodeRow, decodeRow};
 ghost use Rattle.outline.specs.Row.{stateOf, frontOf, Field, rowAt};
 use fields::bit;
-use fields::inner_number;
 use format::answer::RowAnswer;
-use format::block;
-use format::block::Record;
 use format::offset::Offset;
 use format::offset::OutermostOffset;
 use format::row::Row;
 use scan::number;
-
-// The row of a block.
-pub fn row_of(r: Record) -> Row
-    ensures { λ row. ⌜ row ≡ rowOf r ⌝ }
-{
-    let b = r.block;
-    let inner = r.inner;
-    let at = r.at;
-    Row {
-        depth: r.depth,
-        streamed: b.flags % 2 == 1,
-        compressed: block::is_compressed(b.compression as u64),
-        checksum: block::has_checksum(b.checksum_high, b.checksum_low),
-        inner: inner_number(inner),
-        ordinal: b.ordinal,
-        header_size: b.header_size,
-        at,
-        allocated: b.allocated,
-        used: b.used,
-    }
-}
 
 // Puts a row at an offset. Where it does not fit, nothing changes.
 pub fn put_row(out: &mut [u8], at: usize, r: Row)

@@ -1,17 +1,16 @@
 -- Numbers put one after another: what is left to put is what was to be put.
 use Prim.Native.Nat.{ℕ, _+_, _*_, _-_, _/_, _≤_, _<_}
 use native.Mathlib.Numerals.{add-one}
-use native.Mathlib.Nat.{add-zero}
 use native.Mathlib.Omega.{arith}
-use mathlib.Core.Path.{_≡_, refl, _∙_}
+use mathlib.Core.Path.{_≡_, refl, sym, ap, _∙_}
 use mathlib.Core.List.{List, [], _∷_, _++_, flatMap}
 use lib.ListN.{length, drop, getD, length-append, length-drop, drop-of-length-le}
-use lib.Seq.{drop-cons}
+use lib.Seq.{sets, drop-cons}
 use Rattle.format.specs.Bytes.{Bytes, toBytes}
 use Rattle.format.specs.Fields.{numberBytes}
 use Rattle.format.specs.Lent.{placed}
 use Rattle.format.proofs.PackLaws.{to-bytes-length}
-use Rattle.put.proofs.PutLaws.{placed-append, placed-none, placed-nothing}
+use Rattle.put.proofs.PutLaws.{placed-sets, placed-append, placed-none, placed-nothing, placed-length}
 
 -- eight bytes for each number
 pub numbers-length : (ns : List ℕ) → length (numberBytes ns) ≡ 8 * length ns
@@ -29,22 +28,50 @@ module _ (out₀ : Bytes) (at : ℕ) (ns : List ℕ) where
   pub numbers-long : at ≤ length out₀ → (length out₀ - at) / 8 < length ns → out₀ ≡ placed out₀ at (numberBytes ns)
   numbers-long h g = let l = numbers-length ns in placed-none out₀ at (numberBytes ns) (omega arith)
 
-  -- all are left
-  pub numbers-begin : placed out₀ (at + 8 * 0) (numberBytes (drop 0 ns)) ≡ placed out₀ at (numberBytes ns)
-  numbers-begin = rw (add-zero at)
+  -- k of them are put, and the next belongs at this place
+  pub record Putting (out : Bytes) (place k : ℕ) : Type 0 where
+    pub at-place : place ≡ at + 8 * k
+    pub few : k ≤ length ns
+    pub room : at + 8 * length ns ≤ length out₀
+    pub size : length out ≡ length out₀
+    pub left : placed out place (numberBytes (drop k ns)) ≡ placed out₀ at (numberBytes ns)
 
-  module _ (begin : at ≤ length out₀) (fit : length ns ≤ (length out₀ - at) / 8) (out : Bytes) (same : length out ≡ length out₀) (k : ℕ)
-      (inv : placed out (at + 8 * k) (numberBytes (drop k ns)) ≡ placed out₀ at (numberBytes ns)) where
-    -- the k-th number is put
-    pub numbers-step : k < length ns → (next : Bytes) → next ≡ placed out (at + 8 * k) (toBytes 8 (getD ns k 0))
-        → placed next (at + 8 * (k + 1)) (numberBytes (drop (k + 1) ns)) ≡ placed out₀ at (numberBytes ns)
-    numbers-step h next e =
-        let l = simp length-drop at (numbers-length (drop (k + 1) ns)) in
-        let both = placed-append out (at + 8 * k) (toBytes 8 (getD ns k 0)) (numberBytes (drop (k + 1) ns)) (omega arith) in
-        let n : at + 8 * (k + 1) ≡ at + 8 * k + 8 = omega arith in
-        rw (e, n) (both ∙ rw (numbers-next ns k h) at inv)
+  -- all are left
+  pub numbers-begin : at ≤ length out₀ → length ns ≤ (length out₀ - at) / 8 → Putting out₀ at 0
+  numbers-begin h g = record { at-place = omega arith; few = omega arith; room = omega arith; size = refl; left = refl }
+
+  module _ (out : Bytes) (place k : ℕ) (p : Putting out place k) where
+    module _ (h : place < at + 8 * length ns) where
+      -- one is left
+      pub numbers-read : k < length ns
+      numbers-read = omega (arith, p .at-place)
+
+      pub numbers-less : length ns - (k + 1) < length ns - k
+      numbers-less = omega (arith, numbers-read)
+
+      -- there is room for it
+      pub numbers-room : place + 8 ≤ length out
+      numbers-room = omega (arith, p .at-place, p .room, p .size)
+
+      -- it is put
+      pub numbers-step : (next : Bytes) → next ≡ sets out place (toBytes 8 (getD ns k 0)) → Putting next (place + 8) (k + 1)
+      numbers-step next e =
+          let fits = numbers-room in
+          let wide : length (toBytes 8 (getD ns k 0)) ≡ 8 = to-bytes-length 8 (getD ns k 0) in
+          let put : next ≡ placed out place (toBytes 8 (getD ns k 0)) = e ∙ sym (placed-sets out place (toBytes 8 (getD ns k 0)) (omega arith)) in
+          let l = simp length-drop at (numbers-length (drop (k + 1) ns)) in
+          let both = placed-append out place (toBytes 8 (getD ns k 0)) (numberBytes (drop (k + 1) ns)) (omega arith) in
+          record {
+            at-place = omega (arith, p .at-place);
+            few = omega (arith, numbers-read);
+            room = p .room;
+            size = ap length put ∙ placed-length out place (toBytes 8 (getD ns k 0)) ∙ p .size;
+            left = rw put (both ∙ rw (numbers-next ns k numbers-read) at (p .left));
+          }
 
     -- none is left
-    pub numbers-done : k ≤ length ns → length ns ≤ k → out ≡ placed out₀ at (numberBytes ns)
+    pub numbers-done : at + 8 * length ns ≤ place → out ≡ placed out₀ at (numberBytes ns)
     unfolding numberBytes flatMap
-    numbers-done h g = placed-nothing out (at + 8 * k) (omega arith) ∙ rw (drop-of-length-le ns g) at inv
+    numbers-done g =
+        let all : length ns ≤ k = omega (arith, p .at-place) in
+        placed-nothing out place (omega (arith, p .at-place, p .few, p .room, p .size)) ∙ rw (drop-of-length-le ns all) at (p .left)

@@ -68,7 +68,8 @@ fn put_each(out: &mut [u8], at: usize, width: usize, x: u64)
     }
 }
 
-// Puts numbers at an offset, each in eight bytes. Where they do not all fit, nothing changes.
+// Puts numbers at an offset, each in eight bytes. Where they do not all fit, nothing changes. The loop goes by the place and not by
+// the count, since the compiler then leaves it a loop and makes one write of each number.
 pub fn put_numbers(out: &mut [u8], at: usize, numbers: &[u64])
     ensures { λ _. ⌜ now (out .exit) ≡ placed (now (out .entry)) at (numberBytes (now (numbers .entry))) ⌝ }
 {
@@ -78,9 +79,12 @@ pub fn put_numbers(out: &mut [u8], at: usize, numbers: &[u64])
     if (out.len() - at) / 8 < numbers.len() {
         return;
     }
+    let end = at + 8 * numbers.len();
+    let mut place = at;
     let mut k = 0;
-    while k < numbers.len() {
-        put_number(out, at + 8 * k, 8, numbers[k]);
+    while place < end {
+        put_bytes(out, place, 8, numbers[k]);
+        place += 8;
         k += 1;
     }
 }

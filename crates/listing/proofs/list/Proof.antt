@@ -12,7 +12,6 @@ list-spec =
     (λ c κs. search needs)
     (λ c. search needs)
     (λ c. search (listed-long, needs))
-    (λ c κs. search needs)
     (λ c. search needs)
     (λ c κs. search needs)
     (λ c. search needs)
