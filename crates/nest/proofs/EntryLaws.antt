@@ -286,7 +286,7 @@ module _ {s : Bytes} {offsets : List ℕ} {blocks : ℕ} (kept : Kept s offsets 
 
 -- the outline has a row for each record
 rows-encoded : (rs : List Record) → outlineOf (map rowOf rs) ≡ allEncoded Rows rs
-unfolding outlineOf allEncoded map flatMap
+unfolding outlineOf allEncoded flatMap
 rows-encoded [] = refl
 rows-encoded (r ∷ rs) = ap (λ (b : Bytes). encodeRow (rowOf r) ++ b) (rows-encoded rs)
 

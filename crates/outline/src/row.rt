@@ -5,10 +5,11 @@ ghost use lib.ListN.{length, take, drop};
 ghost use Rattle.format.specs.Answer.{rowAnswer};
 ghost use Rattle.format.specs.Lent.{placed};
 ghost use Rattle.format.specs.Outcome.{accepted};
-ghost use Rattle.format.specs.Outline.{encodeRow, decodeRow};
+ghost use Rattle.format.specs.Outline.{rowBytes, encodeRow, decodeRow};
 ghost use Rattle.outline.specs.Row.{stateOf, frontOf, Field, rowAt};
 use fields::bit;
 use format::answer::RowAnswer;
+use format::limits::ROW_BYTES;
 use format::offset::Offset;
 use format::offset::OutermostOffset;
 use format::row::Row;
@@ -21,7 +22,7 @@ pub fn put_row(out: &mut [u8], at: usize, r: Row)
     if out.len() < at {
         return;
     }
-    if out.len() - at < 16 {
+    if out.len() - at < ROW_BYTES {
         return;
     }
     put::put_number(out, at, 4, front(r));
@@ -55,7 +56,7 @@ pub fn read_row(s: &[u8], at: usize) -> RowAnswer
     if s.len() < at {
         return RowAnswer::NoSuchRow;
     }
-    if s.len() - at < 16 {
+    if s.len() - at < ROW_BYTES {
         return RowAnswer::NoSuchRow;
     }
     RowAnswer::Found(row_at(s, at))
@@ -63,8 +64,8 @@ pub fn read_row(s: &[u8], at: usize) -> RowAnswer
 
 // The same where they are there.
 pub(crate) fn row_at(s: &[u8], at: usize) -> Row
-    requires { ⌜ at + 16 ≤ length (now s) ⌝ }
-    ensures { λ r. ⌜ r ≡ decodeRow (take 16 (drop at (now (s .entry)))) ⌝ }
+    requires { ⌜ at + rowBytes ≤ length (now s) ⌝ }
+    ensures { λ r. ⌜ r ≡ decodeRow (take rowBytes (drop at (now (s .entry)))) ⌝ }
 {
     let front = field(s, at, 4);
     let state = front / 16777216;

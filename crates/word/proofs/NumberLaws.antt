@@ -5,7 +5,7 @@ use mathlib.Core.Path.{_≡_, refl, ap}
 use mathlib.Core.List.{List}
 use lib.ListN.{length}
 use Rattle.format.specs.declared.answer.CountAnswer.the-variants.{Counted, Refused}
-use Rattle.format.specs.declared.refusal.Refusal.{Refusal}
+use Rattle.format.specs.declared.answer.CountAnswer.{CountAnswer}
 use Rattle.format.specs.Bytes.{Bytes}
 use Rattle.format.specs.Outcome.{accepted, refusal}
 use Rattle.format.specs.Fields.{numberBytes}
@@ -16,10 +16,8 @@ use Rattle.put.proofs.WrittenLaws.{written-short, written-placed}
 
 module _ (out : Bytes) (ns : List ℕ) where
   -- the buffer is too short
-  pub numbers-short : length out / 8 < length ns → (r : Refusal) → r ≡ refusal 21 0 → Written (accepted (numberBytes ns)) out out (Refused r)
-  numbers-short h r e =
-      let l = numbers-length ns in
-      written-short (accepted (numberBytes ns)) out (numberBytes ns) refl (omega arith) (Refused r) (ap Refused e)
+  pub numbers-short : length out / 8 < length ns → (a : CountAnswer) → a ≡ Refused (refusal 21 0) → Written (accepted (numberBytes ns)) out out a
+  numbers-short h = let l = numbers-length ns in written-short (accepted (numberBytes ns)) out (numberBytes ns) refl (omega arith)
 
   -- all are put
   pub numbers-put : length ns ≤ length out / 8 → (after : Bytes) → after ≡ placed out 0 (numberBytes ns)

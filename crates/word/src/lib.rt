@@ -6,6 +6,7 @@ ghost use Rattle.format.specs.Fields.{numberBytes};
 ghost use Rattle.format.specs.Export.{word};
 ghost use Rattle.format.specs.Promise.{Written};
 use format::answer::CountAnswer;
+use format::refusal::BUFFER_TOO_SHORT;
 use format::refusal::Refusal;
 
 // A refusal: its number in the top byte, and the place below.
@@ -31,7 +32,7 @@ pub fn put_numbers(out: &mut [u8], numbers: &[u64]) -> CountAnswer
     ensures { λ r. ⌜ Written (accepted (numberBytes (now (numbers .entry)))) (now (out .entry)) (now (out .exit)) r ⌝ }
 {
     if out.len() / 8 < numbers.len() {
-        return CountAnswer::Refused(Refusal::new(21, 0));
+        return CountAnswer::refuse(BUFFER_TOO_SHORT, 0);
     }
     put::put_numbers(out, 0, numbers);
     CountAnswer::Counted(8 * numbers.len() as u64)

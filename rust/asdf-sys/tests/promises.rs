@@ -12,8 +12,8 @@ const CRATES: &str = concat!(env!("CARGO_MANIFEST_DIR"), "/../../crates");
 const DEMANDS: [&str; 7] = [
     "asdf/src/lib.rt",
     "edit/src/lib.rt",
+    "file/src/index_writer.rt",
     "file/src/layout.rt",
-    "index/src/lib.rt",
     "listing/src/lib.rt",
     "nest/src/lib.rt",
     "outline/src/stored.rt",
