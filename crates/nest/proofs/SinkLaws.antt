@@ -29,7 +29,7 @@ use Rattle.nest.specs.declared.sink.Form.{Form}
 use Rattle.nest.specs.declared.sink.Form.the-variants.{Rows, Table, One}
 use Rattle.nest.specs.declared.sink.Place.{Place}
 use Rattle.nest.specs.declared.sink.Place.the-variants as Place·is
-use Rattle.nest.specs.Sink.{recordAt, width, delivery, numberAfter, putAll, Delivered, PlaceIs}
+use Rattle.nest.specs.Sink.{blockRecord, width, delivery, numberAfter, putAll, Delivered, PlaceIs}
 
 -- fifteen numbers for each record
 pub record-length : (r : Record) → length (encodeRecord r) ≡ recordBytes
@@ -95,7 +95,7 @@ module _ (t : Bytes) (sound : Sound t) (depth : ℕ) (here : OutermostOffset) (i
         at = here;
         allocated = s .allocated;
         used = s .used;
-      }) (rowOf (recordAt depth here i n t inner))
+      }) (rowOf (blockRecord depth here i n t inner))
   unfolding rowOf soundBlock blockWith summaryAgain
   row-made s e state f n = go (isStreamed (flags t)) refl
     where
@@ -114,14 +114,14 @@ module _ (t : Bytes) (sound : Sound t) (depth : ℕ) (here : OutermostOffset) (i
             at = here;
             allocated = s .allocated;
             used = s .used;
-          }) (rowOf (recordAt depth here i n t inner))
+          }) (rowOf (blockRecord depth here i n t inner))
       go true k = rw (e, f, summaryAgain, long, reported-left t (allocatedSize t) k, reported-left t (usedSize t) k, soundBlock, k, k)
       go false k = rw (e, f, summaryAgain, long, reported-stored t (allocatedSize t) k, reported-stored t (usedSize t) k, soundBlock, k, k)
 
   -- a record is put as its numbers
   pub record-put : (n : ℕ) (b : Block) → b ≡ blockAgain i n t → (numbers : List ℕ)
       → numbers ≡ recordFields (record { depth = depth; at = here; block = b; inner = inner }) → (out after : Bytes) (p : ℕ)
-      → after ≡ placed out p (numberBytes numbers) → after ≡ placed out p (encodeRecord (recordAt depth here i n t inner))
+      → after ≡ placed out p (numberBytes numbers) → after ≡ placed out p (encodeRecord (blockRecord depth here i n t inner))
   unfolding encodeRecord
   record-put n b e numbers f out after p g = rw (encodeRecord, ← block-again t sound i n, ← e, ← f) g
 

@@ -32,7 +32,7 @@ use Rattle.blocks.proofs.AgainLaws.{reported-left, reported-stored}
 use Rattle.file.proofs.KeptLaws.{Each, kept-each, kept-room}
 use Rattle.nest.specs.declared.sink.Form.{Form}
 use Rattle.nest.specs.declared.walk.Found.{Found}
-use Rattle.nest.specs.Sink.{recordAt, Delivered}
+use Rattle.nest.specs.Sink.{blockRecord, Delivered}
 use Rattle.nest.specs.Walk.{reads, insideOf, contentIn, insideAt, recordsAt, recordsLeft, fileRecords, Opens, ContentIs}
 use Rattle.nest.proofs.SinkLaws.{delivered-none, delivered-append, delivered-length}
 use Rattle.nest.proofs.ContentLaws.{nothing-left}
@@ -224,7 +224,7 @@ module _ {t : Bytes} (sound : Sound t) {c : Content} (is : c ≡ contentAgain t)
 
       -- nothing is to be walked inside
       pub content-alone : found .blocks ≡ 0 → {form : Form} {k x : ℕ} {out after : Bytes}
-          → Delivered form k out (recordAt depth here i n t (found .inner) ∷ []) after x → Delivered form k out (recordsAt depth here i n t) after x
+          → Delivered form k out (blockRecord depth here i n t (found .inner) ∷ []) after x → Delivered form k out (recordsAt depth here i n t) after x
       content-alone h d =
           let none = ap (λ (x : Inside). x .records) (sym inside-is) ∙ found-is .none h (here .0 + contentStart t) in
           rw (state-is, none) d
@@ -242,7 +242,7 @@ module _ {t : Bytes} (sound : Sound t) {c : Content} (is : c ≡ contentAgain t)
 
           -- the block's own record, and those inside
           pub content-walked : {form : Form} {k mid x : ℕ} {out between after : Bytes}
-              → Delivered form k out (recordAt depth here i n t (found .inner) ∷ []) between mid
+              → Delivered form k out (blockRecord depth here i n t (found .inner) ∷ []) between mid
               → Delivered form mid between (fileRecords (depth + 1) (content .0) (take (c .to - c .from) (drop (c .from) t))) after x
               → Delivered form k out (recordsAt depth here i n t) after x
           content-walked d e =

@@ -19,8 +19,8 @@ use Rattle.nest.specs.declared.sink.Place.{Place}
 use Rattle.nest.specs.declared.sink.Place.the-variants.{Nowhere, Row, Numbers}
 
 -- the record of the block that t begins with, which is number i and at offset n of its file, with this inner state
-abbrev pub recordAt : ℕ → OutermostOffset → ℕ → ℕ → Bytes → Inner → Record
-recordAt depth here i n t inner = record { depth = depth; at = here; block = soundBlock i n t; inner = inner }
+abbrev pub blockRecord : ℕ → OutermostOffset → ℕ → ℕ → Bytes → Inner → Record
+blockRecord depth here i n t inner = record { depth = depth; at = here; block = soundBlock i n t; inner = inner }
 
 -- what is put for a record, and how many bytes it takes
 abbrev pub encoded : Form → Record → Bytes

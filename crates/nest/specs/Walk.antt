@@ -16,7 +16,7 @@ use Rattle.format.specs.File.{file}
 use Rattle.format.specs.Nest.{deepest, Inside, closed, opened, walk, recordsFrom, records}
 use Rattle.file.specs.Layout.{Kept}
 use Rattle.nest.specs.declared.walk.Found.{Found}
-use Rattle.nest.specs.Sink.{recordAt}
+use Rattle.nest.specs.Sink.{blockRecord}
 
 -- what a content is that begins like a file, in a block at this depth, where files are read for so many levels more
 unfoldable pub readsFor : ℕ → ℕ → ℕ → Bytes → Inside
@@ -41,7 +41,7 @@ insideAt depth here b t = insideOf depth (here .0 + contentStart t) (isCompresse
 
 -- the records of that block, which is number i and at offset n of its file, and of the blocks inside
 abbrev pub recordsAt : ℕ → OutermostOffset → ℕ → ℕ → Bytes → List Record
-recordsAt depth here i n t = let inside = insideAt depth here (soundBlock i n t) t in recordAt depth here i n t (inside .state) ∷ inside .records
+recordsAt depth here i n t = let inside = insideAt depth here (soundBlock i n t) t in blockRecord depth here i n t (inside .state) ∷ inside .records
 
 -- the records of an accepted file at this depth, from its block k on
 unfoldable pub recordsLeft : ℕ → ℕ → Bytes → ℕ → List Record

@@ -8,7 +8,7 @@ ghost use lib.ListN.{length, take};
 ghost use Rattle.format.specs.Answer.{layoutAnswer, countAnswer};
 ghost use Rattle.format.specs.Fields.{recordFields, foundBytes, recordTable};
 ghost use Rattle.format.specs.File.{layout as File·layout};
-ghost use Rattle.format.specs.Nest.{recordCount, recordAt as Nest·recordAt};
+ghost use Rattle.format.specs.Nest.{recordCount, recordAt};
 ghost use Rattle.format.specs.Outcome.{accepted};
 ghost use Rattle.format.specs.Promise.{Written, OutlineWritten};
 ghost use Rattle.file.specs.Layout.{Kept};
@@ -79,7 +79,7 @@ pub fn records(s: &[u8], out: &mut [u8]) -> CountAnswer
 
 // Writes the record of this number, in 120 bytes, or nothing where there is none.
 pub fn record(s: &[u8], wanted: u64, out: &mut [u8]) -> CountAnswer
-    ensures { λ r. ⌜ Written (foundBytes recordFields (Nest·recordAt (now (s .entry)) wanted)) (now (out .entry)) (now (out .exit)) r ⌝ }
+    ensures { λ r. ⌜ Written (foundBytes recordFields (recordAt (now (s .entry)) wanted)) (now (out .entry)) (now (out .exit)) r ⌝ }
 {
     let mut offsets = [0u64; MOST_BLOCKS];
     match read_into(s, &mut offsets) {
@@ -100,7 +100,7 @@ fn count_in(s: &[u8], offsets: &[u64], blocks: u8) -> u64
 // Writes the record of this number of an accepted file. One walk does: where the record does not fit, the walk changes nothing.
 fn write_one(s: &[u8], offsets: &[u64], blocks: u8, wanted: u64, out: &mut [u8]) -> CountAnswer
     requires { ⌜ Kept (now s) (now offsets) blocks ⌝ }
-    ensures { λ r. ⌜ Written (foundBytes recordFields (Nest·recordAt (now (s .entry)) wanted)) (now (out .entry)) (now (out .exit)) r ⌝ }
+    ensures { λ r. ⌜ Written (foundBytes recordFields (recordAt (now (s .entry)) wanted)) (now (out .entry)) (now (out .exit)) r ⌝ }
 {
     let n = walk::walk_all(s, offsets, blocks, Form::One(wanted), out);
     if n <= wanted {

@@ -7,7 +7,7 @@ ghost use Rattle.format.specs.Block.{Sound};
 ghost use Rattle.format.specs.Fields.{encodeRecord};
 ghost use Rattle.format.specs.Lent.{placed};
 ghost use Rattle.format.specs.Outline.{rowOf};
-ghost use Rattle.nest.specs.Sink.{Delivered, PlaceIs, delivery, recordAt, width};
+ghost use Rattle.nest.specs.Sink.{Delivered, PlaceIs, delivery, blockRecord, width};
 use blocks::again;
 use fields::inner_number;
 use format::block::Inner;
@@ -60,7 +60,7 @@ pub(crate) fn take_block(
     out: &mut [u8],
 ) -> u64
     requires { ⌜ Sound (now t) ⌝ }
-    ensures { λ x. ⌜ Delivered form n (now (out .entry)) (recordAt depth here ordinal at (now (t .entry)) inner ∷ []) (now (out .exit)) x ⌝ }
+    ensures { λ x. ⌜ Delivered form n (now (out .entry)) (blockRecord depth here ordinal at (now (t .entry)) inner ∷ []) (now (out .exit)) x ⌝ }
 {
     put_entry(form, n, t, ordinal, at, depth, here, inner, out);
     std::num::wrapping_add_u64(n, 1)
@@ -79,7 +79,7 @@ fn put_entry(
     out: &mut [u8],
 )
     requires { ⌜ Sound (now t) ⌝ }
-    ensures { λ _. ⌜ now (out .exit) ≡ placed (now (out .entry)) (n * width form) (delivery form n (recordAt depth here ordinal at (now (t .entry)) inner)) ⌝ }
+    ensures { λ _. ⌜ now (out .exit) ≡ placed (now (out .entry)) (n * width form) (delivery form n (blockRecord depth here ordinal at (now (t .entry)) inner)) ⌝ }
 {
     match place_of(form, n, out.len()) {
         Place::Nowhere => {}
@@ -121,7 +121,7 @@ fn place_of(form: Form, n: u64, room: usize) -> Place
 // The row of the block that t begins with, wherever it stands in its own file.
 fn row_of(t: &[u8], ordinal: u8, depth: u8, here: OutermostOffset, inner: Inner) -> Row
     requires { ⌜ Sound (now t) ⌝ }
-    ensures { λ r. ⌜ ((at : ℕ) → r ≡ rowOf (recordAt depth here ordinal at (now (t .entry)) inner)) ⌝ }
+    ensures { λ r. ⌜ ((at : ℕ) → r ≡ rowOf (blockRecord depth here ordinal at (now (t .entry)) inner)) ⌝ }
 {
     let b = again::summary_of(t);
     Row {
@@ -150,7 +150,7 @@ fn put_record(
     inner: Inner,
 )
     requires { ⌜ Sound (now t) ⌝ }
-    ensures { λ _. ⌜ now (out .exit) ≡ placed (now (out .entry)) place (encodeRecord (recordAt depth here ordinal at (now (t .entry)) inner)) ⌝ }
+    ensures { λ _. ⌜ now (out .exit) ≡ placed (now (out .entry)) place (encodeRecord (blockRecord depth here ordinal at (now (t .entry)) inner)) ⌝ }
 {
     let block = again::block_of(t, ordinal, at);
     let numbers = fields::record_fields(Record {
