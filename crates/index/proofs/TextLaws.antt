@@ -17,8 +17,8 @@ use Rattle.format.specs.Numeral.{decimal}
 use Rattle.format.specs.Index.{Entry, entry, entries, styledText, rendering, spaced, indexText}
 use Rattle.format.specs.Outcome.{accepted, refusal}
 use Rattle.format.specs.Promise.{Written}
-use Rattle.put.specs.Put.{PutWhole, PutAt, decimals, mostDecimals}
-use Rattle.put.proofs.PartLaws.{whole-put, parts-put, put-same}
+use Rattle.put.specs.Put.{PutWhole, PutAt, PutDecimals, decimals}
+use Rattle.put.proofs.PartLaws.{whole-put, parts-put, put-same, decimals-put}
 use Rattle.put.proofs.WrittenLaws.{written-refused, own-bytes}
 use Rattle.index.specs.Text.{offsetsIndex, frontText, backText, mostFront, mostBack, comma, mostText}
 
@@ -63,11 +63,11 @@ module _ (out after : Bytes) (e k : LineEnd) (h : e ≡ k) (r : ℕ) where
 
 -- the three parts are put
 pub index-put : (out a b c : Bytes) (e : LineEnd) (ns : List ℕ) (from to r : ℕ) → PutAt out a 0 (frontText e) mostFront from
-    → PutAt a b from (decimals comma ns) (mostDecimals comma (length ns)) to
+    → PutDecimals a b from comma ns to
     → PutAt b c to (backText e) mostBack r
     → length ns ≤ mostBlocks
     → PutAt out c 0 (indexText e ns) mostText r
-index-put out a b c e ns from to r one two three few = put-same (index-parts e ns) (omega arith) (parts-put one (parts-put two three))
+index-put out a b c e ns from to r one two three few = put-same (index-parts e ns) (omega arith) (parts-put one (parts-put (decimals-put two) three))
 
 module _ (k : LineEnd) (ns : List ℕ) where
   -- there are too many offsets

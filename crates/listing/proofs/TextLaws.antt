@@ -22,8 +22,8 @@ use Rattle.format.specs.Numeral.{decimal}
 use Rattle.format.specs.Outcome.{accepted, refused}
 use Rattle.format.specs.Outline.{decodeRow, rowBytes}
 use Rattle.format.specs.Listing.{sentence, treeText, rowText, printed}
-use Rattle.put.specs.Put.{PutWhole, PutAt, decimals, mostDecimals}
-use Rattle.put.proofs.PartLaws.{whole-put, nothing-put, parts-put, put-same}
+use Rattle.put.specs.Put.{PutWhole, PutAt, PutDecimals, decimals}
+use Rattle.put.proofs.PartLaws.{whole-put, nothing-put, parts-put, put-same, decimals-put}
 use Rattle.outline.specs.Row.{rowAt}
 use Rattle.listing.specs.Text.{lineText, mostLine, mostShort, mostRow, rowTexts, verdictText, fileText, mostFile}
 use Rattle.listing.proofs.ShortLaws.{row-short}
@@ -37,11 +37,11 @@ sentence-decimals (n ∷ m ∷ ns) = rw (← sentence-decimals (m ∷ ns)) (appe
 
 -- a line of numbers after some text is put
 pub line-put : (out a b c : Bytes) (at p q r : ℕ) (start : Bytes) (ns : List ℕ) → PutWhole out a at start (length start) p
-    → PutAt a b p (decimals (text " ") ns) (mostDecimals (text " ") (length ns)) q
+    → PutDecimals a b p (text " ") ns q
     → PutWhole b c q (text "\n") 1 r
     → PutAt out c at (lineText start ns) (mostLine (length start) (length ns)) r
 line-put out a b c at p q r start ns one two three =
-    put-same (ap (λ (t : Bytes). start ++ t) (sentence-decimals ns)) (omega arith) (parts-put (whole-put one) (parts-put two (whole-put three)))
+    put-same (ap (λ (t : Bytes). start ++ t) (sentence-decimals ns)) (omega arith) (parts-put (whole-put one) (parts-put (decimals-put two) (whole-put three)))
 
 module _ (out after : Bytes) (x : ℕ) where
   -- a refusal

@@ -9,7 +9,7 @@ use lib.Seq.{drop-cons}
 use Rattle.format.specs.Bytes.{Bytes}
 use Rattle.format.specs.Lent.{placed}
 use Rattle.format.specs.Numeral.{decimal}
-use Rattle.put.specs.Put.{PutWhole, PutAt, mostDigits, decimals, mostDecimals}
+use Rattle.put.specs.Put.{PutWhole, PutAt, PutDecimals, putEnd, mostDigits, decimals, mostDecimals, decimalsPut}
 use Rattle.put.proofs.PutLaws.{placed-append, placed-length, placed-nothing, placed-outside, placed-long}
 
 -- n bytes that are put at an offset end at r
@@ -54,9 +54,61 @@ parts-put {before} {mid} {after} {at} {p} {r} {a} {b} one two = record {
 pub put-same : {before after : Bytes} {at r : ℕ} {a b : Bytes} {m k : ℕ} → a ≡ b → m ≤ k → PutAt before after at a m r → PutAt before after at b k r
 put-same e h put = rw (← e) (record { buffer = put .buffer; size = put .size; end = put .end; few = omega (arith, put .few) })
 
--- numbers with a text between each two are put
-abbrev PutDecimals : Bytes → Bytes → ℕ → Bytes → List ℕ → ℕ → Type 0
-PutDecimals before after at between ns r = PutAt before after at (decimals between ns) (mostDecimals between (length ns)) r
+-- numbers that are put one by one keep the buffer's length
+decimals-size : (ns : List ℕ) (out : Bytes) (at : ℕ) (between : Bytes) → length (decimalsPut out at between ns) ≡ length out
+unfolding decimalsPut
+decimals-size [] out at between = refl
+decimals-size (n ∷ []) out at between = placed-length out at (decimal n)
+decimals-size (n ∷ m ∷ ns) out at between =
+    decimals-size (m ∷ ns) _ _ between ∙ placed-length _ (putEnd at (decimal n)) between ∙ placed-length out at (decimal n)
+
+-- and where all of them fit, they are put as one text
+decimals-placed : (ns : List ℕ) (out : Bytes) (at : ℕ) (between : Bytes) → at + length (decimals between ns) ≤ length out
+    → at + length (decimals between ns) < 2 ^ 64 → decimalsPut out at between ns ≡ placed out at (decimals between ns)
+unfolding decimalsPut decimals
+decimals-placed [] out at between h g = placed-nothing out at (omega arith)
+decimals-placed (n ∷ []) out at between h g = refl
+decimals-placed (n ∷ m ∷ ns) out at between h g =
+    let rest = decimals between (m ∷ ns) in
+    let two = length-append (decimal n) between in
+    let three = length-append (decimal n ++ between) rest in
+    let first : putEnd at (decimal n) ≡ at + length (decimal n) = omega (arith, two, three) in
+    let second : putEnd (at + length (decimal n)) between ≡ at + length (decimal n ++ between) = omega (arith, two, three) in
+    let both : placed (placed out at (decimal n)) (at + length (decimal n)) between ≡ placed out at (decimal n ++ between) =
+        placed-append out at (decimal n) between (omega (arith, two, three)) in
+    let size = placed-length out at (decimal n ++ between) in
+    rw (first, second, both)
+      (decimals-placed (m ∷ ns) (placed out at (decimal n ++ between)) (at + length (decimal n ++ between)) between (omega (arith, three, size)) (omega (arith, three))
+      ∙ placed-append out at (decimal n ++ between) rest (omega (arith, three)))
+
+-- numbers are parts too
+pub decimals-put : {before after : Bytes} {at : ℕ} {between : Bytes} {ns : List ℕ} {r : ℕ} → PutDecimals before after at between ns r
+    → PutAt before after at (decimals between ns) (mostDecimals between (length ns)) r
+decimals-put {before} {after} {at} {between} {ns} put = record {
+  buffer = λ h g. put .buffer ∙ decimals-placed ns before at between h g;
+  size = ap length (put .buffer) ∙ decimals-size ns before at between;
+  end = put .end;
+  few = put .few;
+}
+
+-- the end of two parts
+ends-put : (at : ℕ) (a b : Bytes) → putEnd (putEnd at a) b ≡ putEnd at (a ++ b)
+ends-put at a b = omega (arith, length-append a b)
+
+-- a number is put, then the text, then the numbers that are left
+next-put : {out mid next after : Bytes} {at q r e : ℕ} {between : Bytes} {n m : ℕ} {ns : List ℕ} → PutWhole out mid at (decimal n) mostDigits q
+    → PutWhole mid next q between (length between) r → PutDecimals next after r between (m ∷ ns) e → PutDecimals out after at between (n ∷ m ∷ ns) e
+unfolding decimals decimalsPut
+next-put {out} {mid} {next} {after} {at} {q} {r} {e} {between} {n} {m} {ns} number text rest =
+    let two = length-append (decimal n) between in
+    let three = length-append (decimal n ++ between) (decimals between (m ∷ ns)) in
+    let start : next ≡ placed (placed out at (decimal n)) (putEnd at (decimal n)) between = text .buffer ∙ rw (number .buffer, number .end) in
+    let end : r ≡ putEnd (putEnd at (decimal n)) between = text .end ∙ rw (number .end) in
+    record {
+      buffer = rw (start, end) at (rest .buffer);
+      end = rest .end ∙ rw (end, ends-put at (decimal n) between, ends-put at (decimal n ++ between) (decimals between (m ∷ ns)));
+      few = omega (arith, two, three, number .few, rest .few);
+    }
 
 -- the numbers from i on are left: putting them puts all
 pub record Joining (before : Bytes) (at : ℕ) (between : Bytes) (ns : List ℕ) (out : Bytes) (end i : ℕ) : Type 0 where
@@ -73,24 +125,24 @@ module _ (before : Bytes) (at : ℕ) (between : Bytes) (ns : List ℕ) where
   module _ (out : Bytes) (end i : ℕ) (h : Joining before at between ns out end i) where
     -- none is left
     pub join-none : length ns ≤ i → PutDecimals before out at between ns end
-    unfolding decimals
+    unfolding decimals decimalsPut
     join-none p =
         let nothing : drop i ns ≡ [] = drop-of-length-le ns p in
-        h .left (rw nothing (nothing-put (h .fits)))
+        h .left (rw nothing (record { buffer = refl; end = omega (arith, h .fits); few = omega arith }))
 
     -- the next number is put
     module _ (p : i < length ns) (mid : Bytes) (q : ℕ) (number : PutWhole out mid end (decimal (getD ns i 0)) mostDigits q) where
       -- it is the last
       pub join-last : i + 1 ≡ length ns → PutDecimals before mid at between ns q
-      unfolding decimals
+      unfolding decimals decimalsPut
       join-last e =
           let one : drop i ns ≡ getD ns i 0 ∷ [] = drop-cons ns i 0 p ∙ rw (drop-of-length-le ns {i = suc i} (omega arith)) in
-          h .left (rw one (put-same refl (omega arith) (whole-put number)))
+          h .left (rw one (record { buffer = number .buffer; end = number .end; few = omega (arith, number .few) }))
 
       -- it is not, and the text between is put
       pub join-step : (i + 1 ≡ length ns → ⊥) → (next : Bytes) (r : ℕ) → PutWhole mid next q between (length between) r
           → Joining before at between ns next r (i + 1)
-      unfolding decimals
+      unfolding decimals decimalsPut
       join-step e next r text = record {
         inside = omega arith;
         size = whole-put text .size ∙ whole-put number .size ∙ h .size;
@@ -98,5 +150,5 @@ module _ (before : Bytes) (at : ℕ) (between : Bytes) (ns : List ℕ) where
         left = λ rest.
             let two = drop-cons ns (suc i) 0 (omega arith) in
             let later = rw (add-one i, two) at rest in
-            h .left (rw (drop-cons ns i 0 p, two) (put-same refl (omega arith) (parts-put (parts-put (whole-put number) (whole-put text)) later)));
+            h .left (rw (drop-cons ns i 0 p, two) (next-put number text later));
       }

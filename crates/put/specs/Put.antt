@@ -37,3 +37,16 @@ decimals between (n ∷ m ∷ ns) = decimal n ++ between ++ decimals between (m 
 -- the most bytes that so many numbers have then
 abbrev pub mostDecimals : Bytes → ℕ → ℕ
 mostDecimals between count = count * (mostDigits + length between)
+
+-- a buffer after they were put there one by one: each number and each text stands there if it fits
+unfoldable pub decimalsPut : Bytes → ℕ → Bytes → List ℕ → Bytes
+decimalsPut out at between [] = out
+decimalsPut out at between (n ∷ []) = placed out at (decimal n)
+decimalsPut out at between (n ∷ m ∷ ns) =
+    decimalsPut (placed (placed out at (decimal n)) (putEnd at (decimal n)) between) (putEnd (putEnd at (decimal n)) between) between (m ∷ ns)
+
+-- numbers were put at an offset, with a text between each two; they end at r
+pub record PutDecimals (before after : Bytes) (at : ℕ) (between : Bytes) (ns : List ℕ) (r : ℕ) : Type 0 where
+  pub buffer : after ≡ decimalsPut before at between ns
+  pub end : r ≡ putEnd at (decimals between ns)
+  pub few : length (decimals between ns) ≤ mostDecimals between (length ns)

@@ -5,14 +5,14 @@ ghost use lib.ListN.{length};
 ghost use lib.Seq.{sets};
 ghost use Rattle.format.specs.Numeral.{decimal};
 ghost use Rattle.put.specs.Decimal.{DecimalLength};
-ghost use Rattle.put.specs.Put.{PutAt, PutWhole, decimals, mostDigits, mostDecimals};
+ghost use Rattle.put.specs.Put.{PutDecimals, PutWhole, mostDigits};
 use crate::text::put_text;
 use std::num::wrapping_add_usize;
 
 // Puts numbers in decimal at an offset, with a text between each two, and answers where they end. Each of the parts is put
 // only if it fits: what is put into an empty buffer is measured.
 pub fn put_decimals(out: &mut [u8], at: usize, between: &[u8], numbers: &[u64]) -> usize
-    ensures { λ r. ⌜ PutAt (now (out .entry)) (now (out .exit)) at (decimals (now (between .entry)) (now (numbers .entry))) (mostDecimals (now (between .entry)) (length (now (numbers .entry)))) r ⌝ }
+    ensures { λ r. ⌜ PutDecimals (now (out .entry)) (now (out .exit)) at (now (between .entry)) (now (numbers .entry)) r ⌝ }
 {
     let mut end = at;
     let mut i = 0;
