@@ -74,12 +74,10 @@ decimals-placed (n ∷ m ∷ ns) out at between h g =
     let three = length-append (decimal n ++ between) rest in
     let first : putEnd at (decimal n) ≡ at + length (decimal n) = omega (arith, two, three) in
     let second : putEnd (at + length (decimal n)) between ≡ at + length (decimal n ++ between) = omega (arith, two, three) in
-    let both : placed (placed out at (decimal n)) (at + length (decimal n)) between ≡ placed out at (decimal n ++ between) =
-        placed-append out at (decimal n) between (omega (arith, two, three)) in
+    let both = placed-append out at (decimal n) between (omega (arith, two, three)) in
+    let all = placed-append out at (decimal n ++ between) rest (omega (arith, three)) in
     let size = placed-length out at (decimal n ++ between) in
-    rw (first, second, both)
-      (decimals-placed (m ∷ ns) (placed out at (decimal n ++ between)) (at + length (decimal n ++ between)) between (omega (arith, three, size)) (omega (arith, three))
-      ∙ placed-append out at (decimal n ++ between) rest (omega (arith, three)))
+    rw (first, second, both) (decimals-placed (m ∷ ns) _ (at + length (decimal n ++ between)) between (omega (arith, three, size)) (omega (arith, three)) ∙ all)
 
 -- numbers are parts too
 pub decimals-put : {before after : Bytes} {at : ℕ} {between : Bytes} {ns : List ℕ} {r : ℕ} → PutDecimals before after at between ns r
