@@ -68,7 +68,7 @@ module _ (t : Bytes) (left : ℕ) (header : HeaderRead t left) (a u : ℕ) (ra :
         le-leb leastHeader (headerSize t) (header .least),
         le-leb (contentStart t) (length t) (header .whole),
         header .plain,
-        header .behind,
+        header .after,
         ra .is,
         ru .is,
       )
@@ -98,7 +98,7 @@ module _ (t : Bytes) (left : ℕ) (header : HeaderRead t left) (a u : ℕ) (ra :
       sizes = λ _. record {
         used = omega (arith, ra .is, ru .is);
         data-size = rw (← rc .is, ← rd .is, ← ru .is, ← is) (not-false ok k);
-        allocated = omega (arith, ra .is, header .behind);
+        allocated = omega (arith, ra .is, header .after);
       };
     })
 
@@ -133,7 +133,7 @@ module _ (t : Bytes) (h f : ℕ) (read : FieldRead t 4 6 h) (least : leastHeader
     least = omega (arith, read .is);
     whole = omega (arith, read .is);
     plain = rw (← bits .is) (ne-eqb (f % 2) 1 s);
-    behind = omega (arith, read .is);
+    after = omega (arith, read .is);
   }
 
 -- a block in which no fault was found is sound

@@ -28,7 +28,7 @@ pub record HeaderRead (t : Bytes) (left : ℕ) : Type 0 where
   pub least : leastHeader ≤ headerSize t
   pub whole : contentStart t ≤ length t
   pub plain : isStreamed (flags t) ≡ false
-  pub behind : left ≡ bytesLeft t
+  pub after : left ≡ bytesLeft t
 
 -- how a block that nothing is wrong with leads on
 unfoldable pub soundLink : Bytes → LinkStep

@@ -22,8 +22,8 @@ module _ (room : Bytes) (at size : ℕ) (whole : Bytes) (left : sets room at (re
       rw none at left
 
 -- spaces put behind a text up to the end
-spaces-behind : (t z : Bytes) → sets (t ++ z) (length t) (replicate (length z) 32) ≡ t ++ replicate (length z) 32
-spaces-behind t z =
+spaces-after : (t z : Bytes) → sets (t ++ z) (length t) (replicate (length z) 32) ≡ t ++ replicate (length z) 32
+spaces-after t z =
     let spaces : Bytes = replicate (length z) 32 in
     let many : length spaces ≡ length z = length-replicate (length z) 32 in
     let whole : length t + length spaces ≡ length (t ++ z) = simp length-append (omega arith) in
@@ -36,4 +36,4 @@ fill-done room t mid after e f =
     let z = drop (length t) room in
     let is : mid ≡ t ++ z = rw take-length at e in
     let left : length mid - length t ≡ length z = rw (is, length-append) (omega arith) in
-    f ∙ rw (left, is, spaces-behind, length-drop)
+    f ∙ rw (left, is, spaces-after, length-drop)

@@ -41,7 +41,7 @@ use Rattle.blocks.specs.declared.step.ChainStep.{ChainStep}
 use Rattle.blocks.specs.declared.step.ChainStep.the-variants as ChainStep·is
 use Rattle.front.specs.Step.{headerOutcome, endOutcome, treeOutcome}
 use Rattle.blocks.specs.Chain.{Chained, WalkedAlone, WalkedTo, Walked}
-use Rattle.file.specs.Layout.{fileWith, withBlocks, behindTree, behindComments, behindHeader, layoutWith, Judged, Kept}
+use Rattle.file.specs.Layout.{fileWith, withBlocks, afterTree, afterComments, afterHeader, layoutWith, Judged, Kept}
 use Rattle.format.proofs.PartLaws.{part-all}
 use Rattle.file.proofs.KeptLaws.{table-kept, enough-kept}
 
@@ -66,8 +66,8 @@ module _ {A : Type 0} (o : Outcome File) (p : Outcome A) (then : A → Outcome F
   step-accepted a h x j = rw (step, h) j
 
 -- a file that is short enough is read from its header on
-file-begins : (s : Bytes) → length s ≤ mostBytes → file s ≡ _>>=_ (header s) (behindHeader s)
-unfolding file body behindHeader behindComments behindTree withBlocks
+file-begins : (s : Bytes) → length s ≤ mostBytes → file s ≡ _>>=_ (header s) (afterHeader s)
+unfolding file body afterHeader afterComments afterTree withBlocks
 file-begins s h = rw (le-leb (length s) mostBytes h, file)
 
 -- a file that is too long is refused
@@ -80,12 +80,12 @@ module _ (s : Bytes) (x : HeaderStep) (read : headerOutcome x ≡ header s) wher
     -- the header is refused
     pub header-refused : (r : Refusal) → x ≡ HeaderStep·is.Refused r → Judged (file s) before out (LayoutAnswer·is.Refused r)
     unfolding headerOutcome
-    header-refused r e = step-refused (file s) (header s) (behindHeader s) (file-begins s few) before out r (sym read ∙ ap headerOutcome e)
+    header-refused r e = step-refused (file s) (header s) (afterHeader s) (file-begins s few) before out r (sym read ∙ ap headerOutcome e)
 
     -- the header is read
-    pub header-read : (h : Header) → x ≡ HeaderStep·is.Read h → (a : LayoutAnswer) → Judged (behindHeader s h) before out a → Judged (file s) before out a
+    pub header-read : (h : Header) → x ≡ HeaderStep·is.Read h → (a : LayoutAnswer) → Judged (afterHeader s h) before out a → Judged (file s) before out a
     unfolding headerOutcome
-    header-read h e = step-accepted (file s) (header s) (behindHeader s) (file-begins s few) before out h (sym read ∙ ap headerOutcome e)
+    header-read h e = step-accepted (file s) (header s) (afterHeader s) (file-begins s few) before out h (sym read ∙ ap headerOutcome e)
 
   -- it ends inside
   pub header-inside : (h : Header) → x ≡ HeaderStep·is.Read h → h .end .0 ≤ length s
@@ -94,15 +94,15 @@ module _ (s : Bytes) (x : HeaderStep) (read : headerOutcome x ≡ header s) wher
 
 module _ (s : Bytes) (h : Header) (x : EndStep) (read : endOutcome x ≡ comments (h .end .0) (lines (drop (h .end .0) s))) where
   -- the comments are refused
-  pub comments-refused : (before out : List ℕ) (r : Refusal) → x ≡ EndStep·is.Refused r → Judged (behindHeader s h) before out (LayoutAnswer·is.Refused r)
-  unfolding endOutcome behindHeader
-  comments-refused before out r e = step-refused (behindHeader s h) _ (behindComments s h) refl before out r (sym read ∙ ap endOutcome e)
+  pub comments-refused : (before out : List ℕ) (r : Refusal) → x ≡ EndStep·is.Refused r → Judged (afterHeader s h) before out (LayoutAnswer·is.Refused r)
+  unfolding endOutcome afterHeader
+  comments-refused before out r e = step-refused (afterHeader s h) _ (afterComments s h) refl before out r (sym read ∙ ap endOutcome e)
 
   module _ (n : ℕ) (e : x ≡ EndStep·is.At n) where
     -- the comments are read
-    pub comments-read : (before out : List ℕ) (a : LayoutAnswer) → Judged (behindComments s h n) before out a → Judged (behindHeader s h) before out a
-    unfolding endOutcome behindHeader
-    comments-read before out = step-accepted (behindHeader s h) _ (behindComments s h) refl before out n (sym read ∙ ap endOutcome e)
+    pub comments-read : (before out : List ℕ) (a : LayoutAnswer) → Judged (afterComments s h n) before out a → Judged (afterHeader s h) before out a
+    unfolding endOutcome afterHeader
+    comments-read before out = step-accepted (afterHeader s h) _ (afterComments s h) refl before out n (sym read ∙ ap endOutcome e)
 
     -- they end inside
     pub comments-inside : h .end .0 ≤ length s → n ≤ length s
@@ -112,15 +112,15 @@ module _ (s : Bytes) (h : Header) (x : EndStep) (read : endOutcome x ≡ comment
 
 module _ (s : Bytes) (h : Header) (n : ℕ) (x : TreeStep) (read : treeOutcome x ≡ tree n s) where
   -- the tree is refused
-  pub tree-refused : (before out : List ℕ) (r : Refusal) → x ≡ TreeStep·is.Refused r → Judged (behindComments s h n) before out (LayoutAnswer·is.Refused r)
-  unfolding treeOutcome behindComments
-  tree-refused before out r e = step-refused (behindComments s h n) _ (behindTree s h n) refl before out r (sym read ∙ ap treeOutcome e)
+  pub tree-refused : (before out : List ℕ) (r : Refusal) → x ≡ TreeStep·is.Refused r → Judged (afterComments s h n) before out (LayoutAnswer·is.Refused r)
+  unfolding treeOutcome afterComments
+  tree-refused before out r e = step-refused (afterComments s h n) _ (afterTree s h n) refl before out r (sym read ∙ ap treeOutcome e)
 
   module _ (t : Tree) (e : x ≡ TreeStep·is.Read t) where
     -- the tree is read
-    pub tree-read : (before out : List ℕ) (a : LayoutAnswer) → Judged (behindTree s h n t) before out a → Judged (behindComments s h n) before out a
-    unfolding treeOutcome behindComments
-    tree-read before out = step-accepted (behindComments s h n) _ (behindTree s h n) refl before out t (sym read ∙ ap treeOutcome e)
+    pub tree-read : (before out : List ℕ) (a : LayoutAnswer) → Judged (afterTree s h n t) before out a → Judged (afterComments s h n) before out a
+    unfolding treeOutcome afterComments
+    tree-read before out = step-accepted (afterComments s h n) _ (afterTree s h n) refl before out t (sym read ∙ ap treeOutcome e)
 
     -- the blocks begin inside
     pub tree-inside : n ≤ length s → firstBlock n t ≤ length s
@@ -130,9 +130,9 @@ module _ (s : Bytes) (h : Header) (n : ℕ) (x : TreeStep) (read : treeOutcome x
 module _ (s : Bytes) (h : Header) (n : ℕ) (t : Tree) where
   module _ (x y m : Offset) (e : t ≡ Found x y m) where
     -- the blocks begin behind the tree's room
-    pub blocks-behind : (before out : List ℕ) (a : LayoutAnswer) → Judged (withBlocks s h n (Found x y m) (m .0)) before out a → Judged (behindTree s h n t) before out a
-    unfolding behindTree goesOn firstBlock
-    blocks-behind before out a j = rw e j
+    pub blocks-after : (before out : List ℕ) (a : LayoutAnswer) → Judged (withBlocks s h n (Found x y m) (m .0)) before out a → Judged (afterTree s h n t) before out a
+    unfolding afterTree goesOn firstBlock
+    blocks-after before out a j = rw e j
 
     -- the room ends inside
     pub room-inside : firstBlock n t ≤ length s → m .0 ≤ length s
@@ -141,14 +141,14 @@ module _ (s : Bytes) (h : Header) (n : ℕ) (t : Tree) where
 
   module _ (e : t ≡ NoTree) (b : Bool) (goes : b ≡ goesOn NoTree (drop n s)) (before out : List ℕ) where
     -- something else stands where no tree begins
-    pub blocks-none : not b ≡ true → (r : Refusal) → r ≡ refusal 7 n → Judged (behindTree s h n t) before out (LayoutAnswer·is.Refused r)
-    unfolding behindTree
-    blocks-none q r i = refused-judged _ before out r (rw (e, behindTree, sym goes ∙ not-true b q, i))
+    pub blocks-none : not b ≡ true → (r : Refusal) → r ≡ refusal 7 n → Judged (afterTree s h n t) before out (LayoutAnswer·is.Refused r)
+    unfolding afterTree
+    blocks-none q r i = refused-judged _ before out r (rw (e, afterTree, sym goes ∙ not-true b q, i))
 
     -- the blocks begin there, or the file ends
-    pub blocks-here : not b ≡ false → (a : LayoutAnswer) → Judged (withBlocks s h n t n) before out a → Judged (behindTree s h n t) before out a
-    unfolding behindTree firstBlock
-    blocks-here q a j = rw (e, behindTree, sym goes ∙ not-false b q) (rw e at j)
+    pub blocks-here : not b ≡ false → (a : LayoutAnswer) → Judged (withBlocks s h n t n) before out a → Judged (afterTree s h n t) before out a
+    unfolding afterTree firstBlock
+    blocks-here q a j = rw (e, afterTree, sym goes ∙ not-false b q) (rw e at j)
 
   -- the comments end inside
   pub here-inside : t ≡ NoTree → firstBlock n t ≤ length s → n ≤ length s

@@ -29,22 +29,22 @@ withBlocks s h n t first = do
   accepted (fileWith h n t c)
 
 -- the file from behind its tree on
-unfoldable pub behindTree : Bytes → Header → ℕ → Tree → Outcome File
-behindTree s h n t = do
+unfoldable pub afterTree : Bytes → Header → ℕ → Tree → Outcome File
+afterTree s h n t = do
   need (goesOn t (drop n s)) 7 n
   withBlocks s h n t (firstBlock n t)
 
 -- the file from behind its comments on, which end at n
-unfoldable pub behindComments : Bytes → Header → ℕ → Outcome File
-behindComments s h n = do
+unfoldable pub afterComments : Bytes → Header → ℕ → Outcome File
+afterComments s h n = do
   t ← tree n s
-  behindTree s h n t
+  afterTree s h n t
 
 -- the file from behind its header on
-unfoldable pub behindHeader : Bytes → Header → Outcome File
-behindHeader s h = do
+unfoldable pub afterHeader : Bytes → Header → Outcome File
+afterHeader s h = do
   n ← comments (h .end .0) (lines (drop (h .end .0) s))
-  behindComments s h n
+  afterComments s h n
 
 -- the layout that has these parts
 abbrev pub layoutWith : Header → ℕ → Tree → ℕ → Verdict → Layout

@@ -8,7 +8,7 @@ ghost use Rattle.format.specs.Line.{lines};
 ghost use Rattle.format.specs.Chain.{mostBlocks};
 ghost use Rattle.format.specs.Index.{judged, indexed};
 ghost use Rattle.format.specs.declared.layout.Tree.the-variants.{NoTree};
-ghost use Rattle.file.specs.Layout.{behindHeader, behindComments, behindTree, withBlocks, layoutWith, Judged, Kept};
+ghost use Rattle.file.specs.Layout.{afterHeader, afterComments, afterTree, withBlocks, layoutWith, Judged, Kept};
 use blocks::again;
 use blocks::chain;
 use blocks::step::ChainStep;
@@ -86,31 +86,31 @@ fn judge(s: &[u8], offsets: &mut [u64; MOST_BLOCKS]) -> LayoutAnswer
     }
     match header::read_header(s) {
         HeaderStep::Refused(r) => LayoutAnswer::Refused(r),
-        HeaderStep::Read(h) => behind_header(s, h, offsets),
+        HeaderStep::Read(h) => after_header(s, h, offsets),
     }
 }
 
-fn behind_header(s: &[u8], h: Header, offsets: &mut [u64; MOST_BLOCKS]) -> LayoutAnswer
+fn after_header(s: &[u8], h: Header, offsets: &mut [u64; MOST_BLOCKS]) -> LayoutAnswer
     requires { ⌜ h .end .0 ≤ length (now s) ⌝ }
-    ensures { λ r. ⌜ Judged (behindHeader (now (s .entry)) h) (now (offsets .entry)) (now (offsets .exit)) r ⌝ }
+    ensures { λ r. ⌜ Judged (afterHeader (now (s .entry)) h) (now (offsets .entry)) (now (offsets .exit)) r ⌝ }
 {
     match comments::comments_end(s, h.end.0 as usize) {
         EndStep::Refused(r) => LayoutAnswer::Refused(r),
-        EndStep::At(n) => behind_comments(s, h, n, offsets),
+        EndStep::At(n) => after_comments(s, h, n, offsets),
     }
 }
 
-fn behind_comments(s: &[u8], h: Header, n: usize, offsets: &mut [u64; MOST_BLOCKS]) -> LayoutAnswer
+fn after_comments(s: &[u8], h: Header, n: usize, offsets: &mut [u64; MOST_BLOCKS]) -> LayoutAnswer
     requires { ⌜ n ≤ length (now s) ⌝ }
-    ensures { λ r. ⌜ Judged (behindComments (now (s .entry)) h n) (now (offsets .entry)) (now (offsets .exit)) r ⌝ }
+    ensures { λ r. ⌜ Judged (afterComments (now (s .entry)) h n) (now (offsets .entry)) (now (offsets .exit)) r ⌝ }
 {
     match tree::read_tree(s, n) {
         TreeStep::Refused(r) => LayoutAnswer::Refused(r),
-        TreeStep::Read(t) => behind_tree(s, h, n, t, offsets),
+        TreeStep::Read(t) => after_tree(s, h, n, t, offsets),
     }
 }
 
-fn behind_tree(
+fn after_tree(
     s: &[u8],
     h: Header,
     n: usize,
@@ -118,7 +118,7 @@ fn behind_tree(
     offsets: &mut [u64; MOST_BLOCKS],
 ) -> LayoutAnswer
     requires { ⌜ firstBlock n t ≤ length (now s) ⌝ }
-    ensures { λ r. ⌜ Judged (behindTree (now (s .entry)) h n t) (now (offsets .entry)) (now (offsets .exit)) r ⌝ }
+    ensures { λ r. ⌜ Judged (afterTree (now (s .entry)) h n t) (now (offsets .entry)) (now (offsets .exit)) r ⌝ }
 {
     match t {
         Tree::Found {

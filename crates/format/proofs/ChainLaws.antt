@@ -195,8 +195,8 @@ module _ (k i n : ℕ) (c : Chain) where
   blocks-bounds t e = let f = accepted-front t e in omega (arith, simp length-append at (ap length (f .whole)))
 
   -- the tail stands behind the last block
-  pub tail-behind : (s : Bytes) → chain k i n (drop n s) ≡ accepted c → c .tail ≡ drop (blocksEnd n (c .blocks)) s
-  tail-behind s e =
+  pub tail-after : (s : Bytes) → chain k i n (drop n s) ≡ accepted c → c .tail ≡ drop (blocksEnd n (c .blocks)) s
+  tail-after s e =
       let f = accepted-front (drop n s) e in
       sym (drop-append-seam (f .front) (c .tail)) ∙ ap (drop (length (f .front))) (sym (f .whole)) ∙ drop-drop (length (f .front)) n s
       ∙ ap (λ (m : ℕ). drop m s) (sym (f .end))

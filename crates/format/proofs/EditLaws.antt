@@ -93,7 +93,7 @@ module _ (s t : Bytes) (h : Editable s t) where
       let n = h .start in
       let m = h .room-end in
       let rest : drop m refilled ≡ drop m s = rw room-size at (treed-rest n (take n s) t left (drop m s) front-size) in
-      let behind = rw (room .first) at (file-from s f (h .read-before)) in
+      let after = rw (room .first) at (file-from s f (h .read-before)) in
       record {
         before = f;
         read-before = h .read-before;
@@ -113,8 +113,8 @@ module _ (s t : Bytes) (h : Editable s t) where
         comments = refl;
         blocks = refl;
         verdict = refl;
-        records = records-again _ s _ f refilled-file (h .read-before) refl m behind rest;
-        outline = outline-again _ s _ f refilled-file (h .read-before) refl m behind rest;
+        records = records-again _ s _ f refilled-file (h .read-before) refl m after rest;
+        outline = outline-again _ s _ f refilled-file (h .read-before) refl m after rest;
       }
 
   -- what can be edited is accepted, and its room is filled

@@ -78,12 +78,12 @@ withTree f t bs v = record { header = f .header; commentsEnd = f .commentsEnd; t
 
 module _ (n : ℕ) (p t : Bytes) (k : ℕ) (y : Bytes) (size : length p ≡ n) where
   -- behind the tree stand the spaces and y
-  pub treed-behind : drop (n + length t) (treed p t k y) ≡ replicate k 32 ++ y
-  treed-behind = sym (drop-drop (length t) n _) ∙ ap (drop (length t)) (drop-at p _ n size) ∙ drop-append-seam t _
+  pub treed-after : drop (n + length t) (treed p t k y) ≡ replicate k 32 ++ y
+  treed-after = sym (drop-drop (length t) n _) ∙ ap (drop (length t)) (drop-at p _ n size) ∙ drop-append-seam t _
 
   -- and behind the spaces y
   pub treed-rest : drop (n + length t + k) (treed p t k y) ≡ y
-  treed-rest = sym (drop-drop k (n + length t) _) ∙ ap (drop k) treed-behind ∙ drop-at (replicate k 32) y k (length-replicate k 32)
+  treed-rest = sym (drop-drop k (n + length t) _) ∙ ap (drop k) treed-after ∙ drop-at (replicate k 32) y k (length-replicate k 32)
 
   -- before the tree stands p
   pub treed-front : take n (treed p t k y) ≡ p
@@ -110,7 +110,7 @@ module _ (n : ℕ) (p t : Bytes) (k : ℕ) (y : Bytes) (size : length p ≡ n) w
       rw (
         drop-at p _ n size,
         tree-anywhere t (one-tree-end t one) n (replicate k 32 ++ y),
-        treed-behind,
+        treed-after,
         free-space-spaces,
         full,
         add-zero,

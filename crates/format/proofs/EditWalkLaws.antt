@@ -40,10 +40,10 @@ module _ (m : ℕ) (u s : Bytes) (rest : drop m u ≡ drop m s) where
 
 -- files with the same blocks, and the same bytes from the first of them on, have the same records and the same outline
 module _ (u s : Bytes) (g f : File) (read-u : file u ≡ accepted g) (read-s : file s ≡ accepted f) (blocks : g .blocks ≡ f .blocks)
-    (m : ℕ) (behind : AllBlocks (From m) (f .blocks)) (rest : drop m u ≡ drop m s) where
+    (m : ℕ) (after : AllBlocks (From m) (f .blocks)) (rest : drop m u ≡ drop m s) where
   pub records-again : records u ≡ records s
   unfolding records recordsFrom walkFile
-  records-again = rw (read-u, read-s, blocks, walk-again m u s rest _ 0 0 (f .blocks) behind)
+  records-again = rw (read-u, read-s, blocks, walk-again m u s rest _ 0 0 (f .blocks) after)
 
   pub outline-again : outline u ≡ outline s
   unfolding outline rows

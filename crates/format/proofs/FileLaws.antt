@@ -17,7 +17,7 @@ use Rattle.format.specs.File.{mostBytes, File, firstBlock, goesOn, offse
 use Rattle.format.specs.IndexWriter.{tailStart}
 use Rattle.format.proofs.OutcomeLaws.{accepted-holds, accepts-bind, accepts-need}
 use Rattle.format.proofs.ReadLaws.{header-bounds, comments-bounds, first-block-bounds}
-use Rattle.format.proofs.ChainLaws.{blocks-bounds, tail-behind}
+use Rattle.format.proofs.ChainLaws.{blocks-bounds, tail-after}
 
 -- where the first block of a file begins, or its tail
 abbrev pub blocksStart : File → ℕ
@@ -80,4 +80,4 @@ module _ (s : Bytes) (f : File) (h : Parts s f) where
 
   -- the tail is what stands behind the last block
   pub file-tail : h .tail ≡ drop (tailStart f) s
-  file-tail = tail-behind mostBlocks 0 (blocksStart f) _ s (h .chain-read)
+  file-tail = tail-after mostBlocks 0 (blocksStart f) _ s (h .chain-read)

@@ -151,5 +151,5 @@ module _ (s t : Bytes) (e : LineEnd) (l : Lines) (h : lines s ≡ line t e l) wh
   line-split = line-joined ∙ ap (λ (z : Bytes). t ++ (lineEnd e ++ z)) (sym drop-line)
 
   -- the lines but the first are the lines of what is behind the first
-  pub lines-behind : l ≡ lines (drop (length t + length (lineEnd e)) s)
-  lines-behind = sym (lines-join l (subst AreLines h (are-lines s) .1)) ∙ ap lines (sym drop-line)
+  pub lines-after : l ≡ lines (drop (length t + length (lineEnd e)) s)
+  lines-after = sym (lines-join l (subst AreLines h (are-lines s) .1)) ∙ ap lines (sym drop-line)

@@ -199,8 +199,8 @@ module _ (n : ℕ) (p z y : Bytes) (before : n ≤ length p) where
       → comments n (lines (drop n (p ++ y))) ≡ accepted m
   comments-kept m e inside h =
       let front = comments-front n (drop n p ++ z) m (rw drop-append-le at e) in
-      let behind : n + (m - n) ≡ m = omega (arith, front .end) in
-      let next : begins (text "#") (drop (m - n) (drop n p) ++ y) ≡ false = rw (drop-drop, behind, ← drop-append-le m p y inside) h in
+      let after : n + (m - n) ≡ m = omega (arith, front .end) in
+      let next : begins (text "#") (drop (m - n) (drop n p) ++ y) ≡ false = rw (drop-drop, after, ← drop-append-le m p y inside) h in
       rw drop-append-le (front-within (drop n p) z front (simp length-drop (omega arith)) y next)
 
   -- a tree and its room are the same with other bytes behind a block's beginning

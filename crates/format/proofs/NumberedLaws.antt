@@ -19,7 +19,7 @@ use Rattle.format.specs.declared.refusal.Refusal.{Refusal}
 use Rattle.format.specs.declared.row.Row.{Row}
 use Rattle.format.specs.Bytes.{Bytes, text, begins, same}
 use Rattle.format.specs.Outcome.{Outcome, accepted, refused, need, _>>=_, _>>_}
-use Rattle.format.specs.Line.{Lines, unended, line, behind, lines}
+use Rattle.format.specs.Line.{Lines, unended, line, afterLine, lines}
 use Rattle.format.specs.Header.{token, headerOf, versionLine, header}
 use Rattle.format.specs.Comments.{comments, indexLine}
 use Rattle.format.specs.Tree.{endLine, yamlLine, isStart, isDirective, content, directives, treeEnd, tree}
@@ -98,7 +98,7 @@ module _ (most : ℕ) where
 
   -- where a line and the lines after it end by then, so do the lines after it
   line-inside : (n : ℕ) (t : Bytes) (e : LineEnd) (l : Lines) → n + length (joinLines (line t e l)) ≤ most
-      → behind n t e + length (joinLines l) ≤ most
+      → afterLine n t e + length (joinLines l) ≤ most
   unfolding joinLines
   line-inside n t e l h = omega (arith, simp length-append at h)
 
@@ -107,7 +107,7 @@ module _ (most : ℕ) where
   numbered-comments n (unended t) h = choice (Numbered most) (begins (text "#") t) _ _ (omega arith) tt
   numbered-comments n (line t e l) h =
       choice (Numbered most) (begins (text "#") t) _ _
-      (choice (Numbered most) (same t indexLine) _ _ (omega arith) (numbered-comments (behind n t e) l (line-inside n t e l h)))
+      (choice (Numbered most) (same t indexLine) _ _ (omega arith) (numbered-comments (afterLine n t e) l (line-inside n t e l h)))
       tt
 
   numbered-content : (n : ℕ) (l : Lines) → n + length (joinLines l) ≤ most → Numbered most (content n l)
@@ -115,22 +115,22 @@ module _ (most : ℕ) where
   numbered-content n (unended t) h = omega arith
   numbered-content n (line t e l) h =
       choice (Numbered most) (same t endLine) _ _ tt
-      (choice (Numbered most) (isStart t) _ _ (omega arith) (numbered-content (behind n t e) l (line-inside n t e l h)))
+      (choice (Numbered most) (isStart t) _ _ (omega arith) (numbered-content (afterLine n t e) l (line-inside n t e l h)))
 
   numbered-directives : (n : ℕ) (l : Lines) → n + length (joinLines l) ≤ most → Numbered most (directives n l)
   unfolding directives
   numbered-directives n (unended t) h = omega arith
   numbered-directives n (line t e l) h =
       let others = line-inside n t e l h in
-      choice (Numbered most) (isStart t) _ _ (numbered-content (behind n t e) l others)
-      (choice (Numbered most) (isDirective t) _ _ (numbered-directives (behind n t e) l others) (omega arith))
+      choice (Numbered most) (isStart t) _ _ (numbered-content (afterLine n t e) l others)
+      (choice (Numbered most) (isDirective t) _ _ (numbered-directives (afterLine n t e) l others) (omega arith))
 
   numbered-tree-end : (n : ℕ) (l : Lines) → n + length (joinLines l) ≤ most → Numbered most (treeEnd n l)
   unfolding treeEnd
   numbered-tree-end n (unended t) h = tt
   numbered-tree-end n (line t e l) h =
       choice (Numbered most) (same t yamlLine) _ _
-      (numbered-value (directives (behind n t e) l) some (numbered-directives (behind n t e) l (line-inside n t e l h)))
+      (numbered-value (directives (afterLine n t e) l) some (numbered-directives (afterLine n t e) l (line-inside n t e l h)))
       tt
 
   numbered-block : (i n : ℕ) (t : Bytes) → n ≤ most → Numbered most (block i n t)

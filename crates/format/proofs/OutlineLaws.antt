@@ -28,8 +28,8 @@ Writes b rs = outlineOf rs ≡ b
 same-step : (b : Bytes) (o : Outcome (List Row)) (rs : List Row) → IsBytes b → 16 ≤ length b → Accepts (Writes (drop 16 b)) o
     → o ≡ accepted rs → Writes b (decodeRow (take 16 b) ∷ rs)
 unfolding outlineOf flatMap
-same-step b o rs h l behind e =
-    rw (encode-decode (take 16 b) (is-bytes-take 16 b h) (length-take-le 16 b l), accepted-holds (Writes (drop 16 b)) o rs behind e)
+same-step b o rs h l after e =
+    rw (encode-decode (take 16 b) (is-bytes-take 16 b h) (length-take-le 16 b l), accepted-holds (Writes (drop 16 b)) o rs after e)
     (take-append-drop 16 b)
 
 -- k rows are written as they were read
@@ -38,7 +38,7 @@ unfolding storedFrom outlineOf flatMap
 same-from zero n most [] h l = refl
 same-from zero n most (x ∷ b) h l = absurd (omega arith)
 same-from (suc k) n most b h l =
-    let behind = same-from k (n + 16) (decodeRow (take 16 b) .depth + 1) (drop 16 b) (is-bytes-drop 16 b h) (simp length-drop (omega arith)) in
+    let after = same-from k (n + 16) (decodeRow (take 16 b) .depth + 1) (drop 16 b) (is-bytes-drop 16 b h) (simp length-drop (omega arith)) in
     let long : 16 ≤ length b = omega arith in
     search (accepts-need, accepts-bind, same-step)
 

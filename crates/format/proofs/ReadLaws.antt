@@ -14,7 +14,7 @@ use Rattle.format.specs.declared.line.LineEnd.{LineEnd}
 use Rattle.format.specs.declared.line.LineEnd.the-variants.{Lf, Crlf}
 use Rattle.format.specs.Bytes.{Bytes, text, begins, same}
 use Rattle.format.specs.Outcome.{Outcome, accepted, refused}
-use Rattle.format.specs.Line.{lineEnd, Lines, unended, line, behind, lines}
+use Rattle.format.specs.Line.{lineEnd, Lines, unended, line, afterLine, lines}
 use Rattle.format.specs.Header.{token, version, headerOf, versionLine, header}
 use Rattle.format.specs.Comments.{indexLine, comments}
 use Rattle.format.specs.Tree.{yamlLine, endLine, isStart, isDirective, content, directives, treeEnd, mark, freeSpace, withRoom, tree}
@@ -51,9 +51,9 @@ module _ (Next : Bytes → Type 0) (reads : Reading) (n : ℕ) where
   front-none s h here = record { front = []; rest = s; whole = refl; end = omega arith; next = h; local = λ k z q. rw add-zero (here k z q) }
 
   -- p is read, and then something behind it
-  front-behind : (then : Reading) (p s : Bytes) (m : ℕ) → ((k : ℕ) (z : Bytes) (j : ℕ) → then (k + length p) z j → reads k (p ++ z) j)
+  front-after : (then : Reading) (p s : Bytes) (m : ℕ) → ((k : ℕ) (z : Bytes) (j : ℕ) → then (k + length p) z j → reads k (p ++ z) j)
       → Front Next then (n + length p) s m → Front Next reads n (p ++ s) m
-  front-behind then p s m step f = record {
+  front-after then p s m step f = record {
     front = p ++ f .front;
     rest = f .rest;
     whole = rw (append-assoc, ← f .whole);
@@ -64,10 +64,10 @@ module _ (Next : Bytes → Type 0) (reads : Reading) (n : ℕ) where
 
 -- a line is read, and then something behind it
 front-line : (Next : Bytes → Type 0) (reads then : Reading) (n : ℕ) (t : Bytes) (e : LineEnd) (s : Bytes) (m : ℕ)
-    → ((k : ℕ) (z : Bytes) (j : ℕ) → then (behind k t e) z j → reads k (t ++ (lineEnd e ++ z)) j)
-    → Front Next then (behind n t e) s m → Front Next reads n (t ++ (lineEnd e ++ s)) m
+    → ((k : ℕ) (z : Bytes) (j : ℕ) → then (afterLine k t e) z j → reads k (t ++ (lineEnd e ++ z)) j)
+    → Front Next then (afterLine n t e) s m → Front Next reads n (t ++ (lineEnd e ++ s)) m
 front-line Next reads then n t e s m step f =
-    rw append-assoc at (front-behind Next reads n then (t ++ lineEnd e) s m line-step (rw (length-append, ← add-assoc) f))
+    rw append-assoc at (front-after Next reads n then (t ++ lineEnd e) s m line-step (rw (length-append, ← add-assoc) f))
   where
     line-step : (k : ℕ) (z : Bytes) (j : ℕ) → then (k + length (t ++ lineEnd e)) z j → reads k (t ++ lineEnd e ++ z) j
     line-step k z j h = rw append-assoc (step k z j (rw (length-append, ← add-assoc) at h))
@@ -93,17 +93,17 @@ abbrev pub NoComment : Bytes → Type 0
 NoComment z = begins (text "#") z ≡ false
 
 -- behind a line no more is read
-stopped : (n : ℕ) (t : Bytes) (e : LineEnd) (l : Lines) → Front Any Stops (behind n t e) (joinLines l) (behind n t e)
-stopped n t e l = front-none Any Stops (behind n t e) (joinLines l) tt (λ k z h. refl)
+stopped : (n : ℕ) (t : Bytes) (e : LineEnd) (l : Lines) → Front Any Stops (afterLine n t e) (joinLines l) (afterLine n t e)
+stopped n t e l = front-none Any Stops (afterLine n t e) (joinLines l) tt (λ k z h. refl)
 
 -- and so for all that can be accepted behind the line
 accepts-line : (Next : Bytes → Type 0) (reads : Reading) (reader : ℕ → Lines → Outcome ℕ) (n : ℕ) (t : Bytes) (e : LineEnd) (l : Lines)
-    → ((k : ℕ) (z : Bytes) (j : ℕ) → Ends reader (behind k t e) z j → reads k (t ++ (lineEnd e ++ z)) j)
-    → Accepts (Front Next (Ends reader) (behind n t e) (joinLines l)) (reader (behind n t e) l)
-    → Accepts (Front Next reads n (t ++ (lineEnd e ++ joinLines l))) (reader (behind n t e) l)
-accepts-line Next reads reader n t e l step = on (reader (behind n t e) l)
+    → ((k : ℕ) (z : Bytes) (j : ℕ) → Ends reader (afterLine k t e) z j → reads k (t ++ (lineEnd e ++ z)) j)
+    → Accepts (Front Next (Ends reader) (afterLine n t e) (joinLines l)) (reader (afterLine n t e) l)
+    → Accepts (Front Next reads n (t ++ (lineEnd e ++ joinLines l))) (reader (afterLine n t e) l)
+accepts-line Next reads reader n t e l step = on (reader (afterLine n t e) l)
   where
-    on : (o : Outcome ℕ) → Accepts (Front Next (Ends reader) (behind n t e) (joinLines l)) o → Accepts (Front Next reads n (t ++ (lineEnd e ++ joinLines l))) o
+    on : (o : Outcome ℕ) → Accepts (Front Next (Ends reader) (afterLine n t e) (joinLines l)) o → Accepts (Front Next reads n (t ++ (lineEnd e ++ joinLines l))) o
     on (accepted m) f = front-line Next reads (Ends reader) n t e (joinLines l) m step f
     on (refused r) f = tt
 
@@ -115,7 +115,7 @@ content-lines n (line t e l) a =
     accepts-choice _ (same t endLine) _ _
     (λ q. front-line Any (Ends content) Stops n t e (joinLines l) _ (λ k z j h. rw (lines-line t e z (a .0), q, content) (ap accepted h)) (stopped n t e l))
     λ q. accepts-choice _ (isStart t) _ _ (λ r. tt)
-    λ r. accepts-line Any (Ends content) content n t e l (λ k z j h. rw (lines-line t e z (a .0), q, content, r) h) (content-lines (behind n t e) l (a .1))
+    λ r. accepts-line Any (Ends content) content n t e l (λ k z j h. rw (lines-line t e z (a .0), q, content, r) h) (content-lines (afterLine n t e) l (a .1))
 
 -- directives and content of a tree are so too
 directives-lines : (n : ℕ) (l : Lines) → AreLines l → Accepts (Front Any (Ends directives) n (joinLines l)) (directives n l)
@@ -124,10 +124,10 @@ directives-lines n (unended t) a = tt
 directives-lines n (line t e l) a =
     accepts-choice _ (isStart t) _ _
     (λ q. accepts-line Any (Ends directives) content n t e l (λ k z j h. rw (lines-line t e z (a .0), q, directives) h)
-    (content-lines (behind n t e) l (a .1)))
+    (content-lines (afterLine n t e) l (a .1)))
     λ q. accepts-choice _ (isDirective t) _ _
     (λ r. accepts-line Any (Ends directives) directives n t e l (λ k z j h. rw (lines-line t e z (a .0), q, directives, r) h)
-    (directives-lines (behind n t e) l (a .1)))
+    (directives-lines (afterLine n t e) l (a .1)))
     (λ r. tt)
 
 -- there is no tree, or it is a front part
@@ -141,9 +141,9 @@ unfolding treeEnd joinLines
 tree-lines n (unended t) a = tt
 tree-lines n (line t e l) a =
     accepts-choice _ (same t yamlLine) _ _
-    (λ q. accepts-bind _ (directives (behind n t e) l) _
+    (λ q. accepts-bind _ (directives (afterLine n t e) l) _
     λ m h. front-line Any TreeEnds (Ends directives) n t e (joinLines l) m (λ k z j r. rw (lines-line t e z (a .0), q, treeEnd, r))
-    (accepted-holds _ _ m (directives-lines (behind n t e) l (a .1)) h))
+    (accepted-holds _ _ m (directives-lines (afterLine n t e) l (a .1)) h))
     (λ q. tt)
 
 -- a line begins with a `#` exactly if its text does
@@ -169,7 +169,7 @@ comments-lines n (line t e l) a =
     accepts-choice _ (begins (text "#") t) _ _
     (λ q. accepts-choice _ (same t indexLine) _ _ (λ r. tt)
     λ r. accepts-line NoComment (Ends comments) comments n t e l (λ k z j h. rw (lines-line t e z (a .0), q, comments, r) h)
-    (comments-lines (behind n t e) l (a .1)))
+    (comments-lines (afterLine n t e) l (a .1)))
     (λ q. front-none NoComment _ _ _ (hash-line t e (joinLines l) ∙ q) no-comments)
 
 module _ (n : ℕ) (s : Bytes) (m : ℕ) where
@@ -210,8 +210,8 @@ version-lines : (h : Header) (l : Lines) → AreLines l → versionLine l ≡ ac
 unfolding versionLine joinLines
 version-lines h (unended t) a q = let z : _≡_ {A = ℕ} 0 1 = cc in absurd (omega arith)
 version-lines h (line t e l) a q =
-    subst (Front Any (IsVersion h) 6 _) (sym (accepted-holds _ _ h (header-end (version t) e (behind 6 t e)) q))
-    (front-line Any (IsVersion h) Stops 6 t e (joinLines l) (behind 6 t e) (λ k z j r. rw (lines-line t e z (a .0)) q) (stopped 6 t e l))
+    subst (Front Any (IsVersion h) 6 _) (sym (accepted-holds _ _ h (header-end (version t) e (afterLine 6 t e)) q))
+    (front-line Any (IsVersion h) Stops 6 t e (joinLines l) (afterLine 6 t e) (λ k z j r. rw (lines-line t e z (a .0)) q) (stopped 6 t e l))
 
 -- to read the header h
 abbrev pub IsHeader : Header → Reading
@@ -220,12 +220,12 @@ IsHeader h n s m = header s ≡ accepted h
 -- the header is a front part
 pub header-front : (s : Bytes) (h : Header) → header s ≡ accepted h → Front Any (IsHeader h) 0 s (h .end .0)
 unfolding header
-header-front s h = accepted-holds (λ g. Front Any (IsHeader g) 0 s (g .end .0)) (header s) h (search (accepts-need, accepts-each, behind-token))
+header-front s h = accepted-holds (λ g. Front Any (IsHeader g) 0 s (g .end .0)) (header s) h (search (accepts-need, accepts-each, after-token))
   where
-    behind-token : (g : Header) → begins token s ≡ true → versionLine (lines (drop 6 s)) ≡ accepted g → Front Any (IsHeader g) 0 s (g .end .0)
-    behind-token g r q =
+    after-token : (g : Header) → begins token s ≡ true → versionLine (lines (drop 6 s)) ≡ accepted g → Front Any (IsHeader g) 0 s (g .end .0)
+    after-token g r q =
         rw (begins-true token s r)
-        (front-behind Any (IsHeader g) 0 (IsVersion g) token (drop 6 s) _ (λ k z j h. h)
+        (front-after Any (IsHeader g) 0 (IsVersion g) token (drop 6 s) _ (λ k z j h. h)
         (rw join-lines at (version-lines g (lines (drop 6 s)) (are-lines _) q)))
 
 -- the header ends inside the file

@@ -19,7 +19,7 @@ use Rattle.format.specs.Tree.{mark}
 use Rattle.format.specs.Chain.{mostBlocks, isTail, blocksEnd}
 use Rattle.format.specs.Index.{verdict, rendering, indexText, IsIndex}
 use Rattle.format.specs.File.{mostBytes, File, firstBlock, goesOn, offsets, file}
-use Rattle.format.specs.IndexWriter.{mayHaveIndex, indexFor, mostIndex, tailStart, judgedAs, GoodBehind}
+use Rattle.format.specs.IndexWriter.{mayHaveIndex, indexFor, mostIndex, tailStart, judgedAs, GoodAfter}
 use Rattle.format.proofs.OutcomeLaws.{accepted-holds, accepts-bind, accepts-need}
 use Rattle.format.proofs.FileBlockLaws.{FileBlock, AllBlocks, file-bounds}
 use Rattle.format.proofs.IndexLaws.{good-is-index, index-is-good, text-is-index, text-at-most}
@@ -136,8 +136,8 @@ written-holds s P h t =
 
 module _ (s : Bytes) (bytes : IsBytes s) where
   -- it is a good index
-  pub index-good : (t : Bytes) → indexFor s ≡ accepted t → GoodBehind s t
-  index-good = written-holds s (GoodBehind s) λ f e m. record { found = f; is = e; good = indexed-again s f bytes e m }
+  pub index-good : (t : Bytes) → indexFor s ≡ accepted t → GoodAfter s t
+  index-good = written-holds s (GoodAfter s) λ f e m. record { found = f; is = e; good = indexed-again s f bytes e m }
 
   -- it is short
   pub index-short : (t : Bytes) → indexFor s ≡ accepted t → length t ≤ mostIndex

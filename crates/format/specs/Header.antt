@@ -10,7 +10,7 @@ use Rattle.format.specs.declared.line.LineEnd.{LineEnd}
 use Rattle.format.specs.Bytes.{Bytes, text, begins}
 use Rattle.format.specs.Outcome.{Outcome, accepted, refused, refusal, need, _>>_}
 use Rattle.format.specs.Numeral.{numerals, split}
-use Rattle.format.specs.Line.{Lines, unended, line, behind, lines}
+use Rattle.format.specs.Line.{Lines, unended, line, afterLine, lines}
 
 -- what a file begins with
 abbrev pub token : Bytes
@@ -37,7 +37,7 @@ headerOf (some v) e n = do
 
 unfoldable pub versionLine : Lines → Outcome Header
 versionLine (unended t) = refused (refusal 3 6)
-versionLine (line t e l) = headerOf (version t) e (behind 6 t e)
+versionLine (line t e l) = headerOf (version t) e (afterLine 6 t e)
 
 unfoldable pub header : Bytes → Outcome Header
 header s = do

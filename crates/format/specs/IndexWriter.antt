@@ -41,7 +41,7 @@ judgedAs v f = record { header = f .header; commentsEnd = f .commentsEnd; tree =
 
 -- s is accepted; cut behind its last block and followed by t, with nothing behind, it reads the same, and t is a good index of it,
 -- if the whole is within the size limit
-pub record GoodBehind (s t : Bytes) : Type 0 where
+pub record GoodAfter (s t : Bytes) : Type 0 where
   pub found : File
   pub is : file s ≡ accepted found
   pub good : length (take (tailStart found) s ++ t) ≤ mostBytes → file (take (tailStart found) s ++ t) ≡ accepted (judgedAs Good found)

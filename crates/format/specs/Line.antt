@@ -19,8 +19,8 @@ pub data Lines : Type 0 where
   line : Bytes → LineEnd → Lines → Lines
 
 -- where the line after one of bytes t at offset n begins
-abbrev pub behind : ℕ → Bytes → LineEnd → ℕ
-behind n t e = n + length t + length (lineEnd e)
+abbrev pub afterLine : ℕ → Bytes → LineEnd → ℕ
+afterLine n t e = n + length t + length (lineEnd e)
 
 -- the lines with one more byte in front
 unfoldable pub lead : ℕ → Lines → Lines

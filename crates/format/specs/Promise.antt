@@ -16,7 +16,7 @@ use Rattle.format.specs.Tree.{treeAt}
 use Rattle.format.specs.File.{File, file}
 use Rattle.format.specs.Nest as Nest
 use Rattle.format.specs.Outline as Outline
-use Rattle.format.specs.IndexWriter.{indexFor, mostIndex, GoodBehind}
+use Rattle.format.specs.IndexWriter.{indexFor, mostIndex, GoodAfter}
 use Rattle.format.specs.Edit.{isOneTree, edit, editLeaves}
 use Rattle.format.specs.Listing.{outlineFor, lentBytes, listing}
 use Rattle.format.specs.Export.{leastRefusal, word, said}
@@ -39,7 +39,7 @@ pub record WrittenAgain (b before after : Bytes) (r : CountAnswer) : Type 0 wher
 -- the same for the index of the file s; what it wrote is a good index of the file, of at most 809 bytes
 pub record IndexWritten (s before after : Bytes) (r : CountAnswer) : Type 0 where
   pub written : Written (indexFor s) before after r
-  pub good : (n : ℕ) → r ≡ Counted n → GoodBehind s (take n after)
+  pub good : (n : ℕ) → r ≡ Counted n → GoodAfter s (take n after)
   pub short : (n : ℕ) → r ≡ Counted n → n ≤ mostIndex
 
 -- the file s can be edited to the text t
@@ -140,7 +140,7 @@ pub record RewriteExported (b before after : Bytes) (r : ℕ) : Type 0 where
 -- the same for the index of the file s; where it is no refusal, what it wrote is a good index of the file, of at most 809 bytes
 pub record IndexExported (s before after : Bytes) (r : ℕ) : Type 0 where
   pub written : Exported s (indexFor s) before after r
-  pub good : r < leastRefusal → GoodBehind s (take r after)
+  pub good : r < leastRefusal → GoodAfter s (take r after)
   pub short : r < leastRefusal → r ≤ mostIndex
 
 -- r is returned by the edit of the file s to the text t, and after is what the file holds then

@@ -8,7 +8,7 @@ use Rattle.format.specs.declared.layout.Tree.{Tree}
 use Rattle.format.specs.declared.layout.Tree.the-variants.{NoTree, Found}
 use Rattle.format.specs.Bytes.{Bytes, text, begins, same}
 use Rattle.format.specs.Outcome.{Outcome, accepted, refused, refusal, _>>=_}
-use Rattle.format.specs.Line.{Lines, unended, line, behind, lines}
+use Rattle.format.specs.Line.{Lines, unended, line, afterLine, lines}
 
 -- the line that every tree begins with
 abbrev pub yamlLine : Bytes
@@ -29,8 +29,8 @@ unfoldable pub content : ℕ → Lines → Outcome ℕ
 content n (unended t) = refused (refusal 10 n)
 content n (line t e l) =
     elim (same t endLine) [
-      | true ↦ accepted (behind n t e)
-      | false ↦ elim (isStart t) [ true ↦ refused (refusal 9 n) | false ↦ content (behind n t e) l ]
+      | true ↦ accepted (afterLine n t e)
+      | false ↦ elim (isStart t) [ true ↦ refused (refusal 9 n) | false ↦ content (afterLine n t e) l ]
     ]
 
 -- behind the first line: where the tree ends
@@ -38,15 +38,15 @@ unfoldable pub directives : ℕ → Lines → Outcome ℕ
 directives n (unended t) = refused (refusal 10 n)
 directives n (line t e l) =
     elim (isStart t) [
-      | true ↦ content (behind n t e) l
-      | false ↦ elim (isDirective t) [ true ↦ directives (behind n t e) l | false ↦ refused (refusal 8 n) ]
+      | true ↦ content (afterLine n t e) l
+      | false ↦ elim (isDirective t) [ true ↦ directives (afterLine n t e) l | false ↦ refused (refusal 8 n) ]
     ]
 
 -- where the tree that begins at offset n ends, or none where there is no tree
 unfoldable pub treeEnd : ℕ → Lines → Outcome (Option ℕ)
 treeEnd n (unended t) = accepted none
 treeEnd n (line t e l) =
-    elim (same t yamlLine) [ true ↦ do m ← directives (behind n t e) l; accepted (some m) | false ↦ accepted none ]
+    elim (same t yamlLine) [ true ↦ do m ← directives (afterLine n t e) l; accepted (some m) | false ↦ accepted none ]
 
 -- the first four bytes of a block
 abbrev pub mark : Bytes

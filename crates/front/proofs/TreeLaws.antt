@@ -17,11 +17,11 @@ use Rattle.format.specs.Edit.{endsAt, isOneTree}
 use Rattle.scan.specs.declared.line.Line.{Line}
 use Rattle.scan.specs.declared.line.Line.the-variants.{Ended, Unended}
 use Rattle.scan.specs.declared.line.Exact.{Exact}
-use Rattle.scan.specs.declared.line.Exact.the-variants.{Behind, Other}
+use Rattle.scan.specs.declared.line.Exact.the-variants.{After, Other}
 use Rattle.scan.specs.Line.{LineRead, ExactRead}
 use Rattle.mark.specs.Mark.{MarkFound}
 use Rattle.scan.proofs.LineLaws.{FirstLine, unended-lines, ended-first}
-use Rattle.scan.proofs.ExactLaws.{other-text, behind-first}
+use Rattle.scan.proofs.ExactLaws.{other-text, after-first}
 use Rattle.front.specs.declared.step.EndStep.{EndStep}
 use Rattle.front.specs.declared.step.EndStep.the-variants as End
 use Rattle.front.specs.declared.step.TreeStep.the-variants.{Read, Refused}
@@ -101,12 +101,12 @@ module _ (s : Bytes) (at : ℕ) (r : Exact) (read : ExactRead s yamlLine at r) w
   unfolding treeOutcome tree withRoom
   tree-none p = rw (no-end p)
 
-  module _ (next : ℕ) (ending : LineEnd) (p : r ≡ Behind next ending) (z : EndStep) (h : endOutcome z ≡ directives next (lines (drop next s))) where
+  module _ (next : ℕ) (ending : LineEnd) (p : r ≡ After next ending) (z : EndStep) (h : endOutcome z ≡ directives next (lines (drop next s))) where
     -- the walk over the lines behind the first says where the tree ends, if it does
     tree-end : treeEnd at (lines (drop at s)) ≡ (do m ← endOutcome z; accepted (some m))
     unfolding treeEnd
     tree-end =
-        let first = behind-first s yamlLine at r read next ending p in
+        let first = after-first s yamlLine at r read next ending p in
         rw (first .cut, treeEnd, ← first .next-is, h)
 
     -- it does not end
@@ -126,7 +126,7 @@ module _ (t : Bytes) (r : Exact) (read : ExactRead t yamlLine 0 r) where
   unfolding isOneTree endsAt
   one-tree-none p = rw (no-end t 0 r read p)
 
-  module _ (next : ℕ) (ending : LineEnd) (p : r ≡ Behind next ending) (z : EndStep) (h : endOutcome z ≡ directives next (lines (drop next t))) where
+  module _ (next : ℕ) (ending : LineEnd) (p : r ≡ After next ending) (z : EndStep) (h : endOutcome z ≡ directives next (lines (drop next t))) where
     -- nor is one that does not end
     pub one-tree-refused : (y : Refusal) → z ≡ End.Refused y → false ≡ isOneTree t
     unfolding isOneTree endsAt endOutcome

@@ -22,7 +22,7 @@ use scan::text;
 pub fn read_tree(s: &[u8], at: usize) -> TreeStep
     ensures { λ r. ⌜ treeOutcome r ≡ tree at (now (s .entry)) ⌝ }
 {
-    let Exact::Behind(next, _) = line::yaml_line(s, at) else {
+    let Exact::After(next, _) = line::yaml_line(s, at) else {
         return TreeStep::Read(Tree::NoTree);
     };
     match directives_end(s, next) {
@@ -39,7 +39,7 @@ pub fn read_tree(s: &[u8], at: usize) -> TreeStep
 pub fn is_one_tree(t: &[u8]) -> bool
     ensures { λ r. ⌜ r ≡ isOneTree (now (t .entry)) ⌝ }
 {
-    let Exact::Behind(next, _) = line::yaml_line(t, 0) else {
+    let Exact::After(next, _) = line::yaml_line(t, 0) else {
         return false;
     };
     match directives_end(t, next) {

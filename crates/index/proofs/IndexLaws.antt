@@ -19,10 +19,10 @@ use Rattle.format.proofs.LineLaws.{joinLines, join-lines, lines-unended}
 use Rattle.scan.specs.declared.line.Line.{Line}
 use Rattle.scan.specs.declared.line.Line.the-variants.{Ended, Unended}
 use Rattle.scan.specs.declared.line.Exact.{Exact}
-use Rattle.scan.specs.declared.line.Exact.the-variants.{Behind, Other}
+use Rattle.scan.specs.declared.line.Exact.the-variants.{After, Other}
 use Rattle.scan.specs.Line.{LineRead, ExactRead}
 use Rattle.scan.proofs.LineLaws.{unended-lines, ended-first, ended-next}
-use Rattle.scan.proofs.ExactLaws.{other-text, behind-first}
+use Rattle.scan.proofs.ExactLaws.{other-text, after-first}
 use Rattle.index.specs.declared.form.ListStep.{ListStep}
 use Rattle.index.specs.declared.form.ListStep.the-variants.{Between, Dashes, Nowhere}
 use Rattle.index.specs.Verdict.{ListRead, EndRead}
@@ -40,13 +40,13 @@ module _ (t : Bytes) (at : ℕ) (word : Bytes) (r : Exact) (read : ExactRead t w
       go (line u k l) h = rw (other-text t word at r read u k l e h, afterWord)
 
   -- the next line begins inside
-  pub behind-inside : (next : ℕ) (ending : LineEnd) → r ≡ Behind next ending → next ≤ length t
-  behind-inside next ending e = (rw e at (read .inside)) .1
+  pub after-inside : (next : ℕ) (ending : LineEnd) → r ≡ After next ending → next ≤ length t
+  after-inside next ending e = (rw e at (read .inside)) .1
 
   -- the line is the word
-  word-after : (f : Lines → Option (List ℕ)) (next : ℕ) (ending : LineEnd) → r ≡ Behind next ending → afterWord word f (lines (drop at t)) ≡ f (lines (drop next t))
+  word-after : (f : Lines → Option (List ℕ)) (next : ℕ) (ending : LineEnd) → r ≡ After next ending → afterWord word f (lines (drop at t)) ≡ f (lines (drop next t))
   unfolding afterWord
-  word-after f next ending e = rw (behind-first t word at r read next ending e .cut, afterWord, eq-same word word refl)
+  word-after f next ending e = rw (after-first t word at r read next ending e .cut, afterWord, eq-same word word refl)
 
 -- zeros have no line
 zeros-unended : (z : Bytes) → allZero z ≡ true → lines z ≡ unended z
@@ -72,7 +72,7 @@ module _ (t : Bytes) (a : Exact) (first : ExactRead t indexLine 0 a) where
   unfolding indexed
   index-other h = nowhere t _ (word-other t 0 indexLine a first _ h)
 
-  module _ (second : ℕ) (ending : LineEnd) (p : a ≡ Behind second ending) (b : Exact) (then : ExactRead t yamlLine second b) where
+  module _ (second : ℕ) (ending : LineEnd) (p : a ≡ After second ending) (b : Exact) (then : ExactRead t yamlLine second b) where
     -- the second line is next
     index-after : indexed (lines t) ≡ afterWord yamlLine styled (lines (drop second t))
     unfolding indexed
@@ -83,7 +83,7 @@ module _ (t : Bytes) (a : Exact) (first : ExactRead t indexLine 0 a) where
     yaml-other h = nowhere t _ (index-after ∙ word-other t second yamlLine b then _ h)
 
     -- the list is next
-    pub yaml-after : (third : ℕ) (d : LineEnd) → b ≡ Behind third d → (r : ListStep) → ListRead t (styled (lines (drop third t))) r → IndexRead t r
+    pub yaml-after : (third : ℕ) (d : LineEnd) → b ≡ After third d → (r : ListStep) → ListRead t (styled (lines (drop third t))) r → IndexRead t r
     yaml-after third d q r found = rw (index-after ∙ word-after t second yamlLine b then _ third d q) found
 
 module _ (t : Bytes) (at : ℕ) (d : Exact) (read : ExactRead t endLine at d) where
@@ -92,7 +92,7 @@ module _ (t : Bytes) (at : ℕ) (d : Exact) (read : ExactRead t endLine at d) wh
   end-other h = record { is = λ ns. word-other t at endLine d read _ h }
 
   -- there is one, and zeros after it or not
-  pub end-zeros : (end : ℕ) (ending : LineEnd) → d ≡ Behind end ending → (z : Bool) → z ≡ allZero (take (length t - end) (drop end t)) → EndRead t at z
+  pub end-zeros : (end : ℕ) (ending : LineEnd) → d ≡ After end ending → (z : Bool) → z ≡ allZero (take (length t - end) (drop end t)) → EndRead t at z
   end-zeros end ending h z zeros = record {
     is = λ ns. word-after t at endLine d read _ end ending h ∙ with-zeros ns (drop end t) z (zeros ∙ ap allZero (part-all t end));
   }

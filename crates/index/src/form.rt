@@ -22,10 +22,10 @@ pub enum ListStep {
 pub(crate) fn index_list(t: &[u8]) -> ListStep
     ensures { λ r. ⌜ ListRead (now (t .entry)) (indexed (lines (now (t .entry)))) r ⌝ }
 {
-    let Exact::Behind(second, _) = line::exact_line(t, 0, b"#ASDF BLOCK INDEX") else {
+    let Exact::After(second, _) = line::exact_line(t, 0, b"#ASDF BLOCK INDEX") else {
         return ListStep::Nowhere;
     };
-    let Exact::Behind(third, _) = line::exact_line(t, second, b"%YAML 1.1") else {
+    let Exact::After(third, _) = line::exact_line(t, second, b"%YAML 1.1") else {
         return ListStep::Nowhere;
     };
     styled_list(t, third)
@@ -51,7 +51,7 @@ fn styled_list(t: &[u8], at: usize) -> ListStep
 fn ends_at(t: &[u8], at: usize) -> bool
     ensures { λ r. ⌜ EndRead (now (t .entry)) at r ⌝ }
 {
-    let Exact::Behind(end, _) = line::exact_line(t, at, b"...") else {
+    let Exact::After(end, _) = line::exact_line(t, at, b"...") else {
         return false;
     };
     text::only_zeros(&t[end..])

@@ -61,7 +61,7 @@ skip-on t from i (suc k) before h never =
     let none = eq-false-of-not-eq-true (never (i + k) (omega arith) (omega arith)) in
     let one = mark-none-here t (i + k) _ (less .is) none (omega arith) in
     let e : i + suc k ≡ i + k + 1 = omega arith in
-    rw e (record { is = one; behind = omega (arith, before .behind); inside = omega arith })
+    rw e (record { is = one; after = omega (arith, before .after); inside = omega arith })
 
 -- no mark begins in four bytes
 first-none : (t : Bytes) (i : ℕ) → i + 4 ≤ length t → ((p : ℕ) → i ≤ p → p < i + 4 → begins mark (drop p t) ≡ true → ⊥) → FirstIn t i (i + 4)
@@ -82,7 +82,7 @@ module _ (t : Bytes) (from i : ℕ) (before : Skipped t from i) where
     pub fours-on : i + 4 ≤ r → Skipped t from (i + 4)
     fours-on h =
         let e : r ≡ i + 4 = omega (arith, first .order) in
-        record { is = rw e at together; behind = omega (arith, before .behind); inside = omega (arith, first .skipped .inside) }
+        record { is = rw e at together; after = omega (arith, before .after); inside = omega (arith, first .skipped .inside) }
 
   -- fewer than four bytes are left, so no mark
   pub fours-end : length t - i < 4 → length t ≡ from + freeSpace (drop from t)

@@ -79,20 +79,20 @@ mark-at s at h =
 
 -- nothing is skipped
 pub skip-none : (t : Bytes) (from : ℕ) → from ≤ length t → Skipped t from from
-skip-none t from h = record { is = refl; behind = omega arith; inside = h }
+skip-none t from h = record { is = refl; after = omega arith; inside = h }
 
 -- behind the end stands no mark
-pub found-behind : (s : Bytes) (at : ℕ) → length s ≤ at → MarkFound s at at
+pub found-after : (s : Bytes) (at : ℕ) → length s ≤ at → MarkFound s at at
 unfolding freeSpace
-found-behind s at h = record {
+found-after s at h = record {
   is = omega (arith, ap freeSpace (drop-of-length-le s h));
-  behind = omega arith;
+  after = omega arith;
   inside = λ p. p;
 }
 
 -- a mark stands at once
 pub found-at-once : (s : Bytes) (at : ℕ) (m : Bool) → m ≡ begins mark (drop at s) → m ≡ true → MarkFound s at at
-found-at-once s at m h e = record { is = omega (arith, free-space-mark (drop at s) (sym h ∙ e)); behind = omega arith; inside = λ p. p }
+found-at-once s at m h e = record { is = omega (arith, free-space-mark (drop at s) (sym h ∙ e)); after = omega arith; inside = λ p. p }
 
 module _ (s : Bytes) (at x : ℕ) (p : at < length s) (l : x ≤ length (take (length s - at) (drop at s))) where
   -- an offset in the part from an offset on is one in the whole
@@ -106,4 +106,4 @@ module _ (s : Bytes) (at x : ℕ) (p : at < length s) (l : x ≤ length (take (l
   -- the first mark from an offset on is that of the bytes from there on
   pub found-part : x ≡ freeSpace (take (length s - at) (drop at s)) → MarkFound s at (at + x)
   found-part e =
-      record { is = ap (λ (n : ℕ). at + n) (e ∙ ap freeSpace (part-all s at)); behind = omega arith; inside = λ q. part-inside }
+      record { is = ap (λ (n : ℕ). at + n) (e ∙ ap freeSpace (part-all s at)); after = omega arith; inside = λ q. part-inside }

@@ -33,7 +33,7 @@ skip-four t from i skipped h a b c d =
     let three = byte-step t (i + 2) x two (i + 3) (omega arith) c (omega arith) in
     record {
       is = byte-step t (i + 3) x three (i + 4) (omega arith) d (omega arith);
-      behind = omega (arith, skipped .behind);
+      after = omega (arith, skipped .after);
       inside = omega arith;
     }
 

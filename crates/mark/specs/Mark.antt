@@ -8,11 +8,11 @@ use Rattle.format.specs.Tree.{freeSpace}
 -- r is where the first mark at or after an offset stands, or the end
 pub record MarkFound (s : Bytes) (at r : ℕ) : Type 0 where
   pub is : r ≡ at + freeSpace (drop at s)
-  pub behind : at ≤ r
+  pub after : at ≤ r
   pub inside : at ≤ length s → r ≤ length s
 
 -- the first mark from r on is the first from an offset on
 pub record Skipped (t : Bytes) (from r : ℕ) : Type 0 where
   pub is : r + freeSpace (drop r t) ≡ from + freeSpace (drop from t)
-  pub behind : from ≤ r
+  pub after : from ≤ r
   pub inside : r ≤ length t

@@ -25,7 +25,7 @@ use Rattle.format.proofs.PackLaws.{to-bytes-length, to-bytes-are-bytes, to-byte
 use Rattle.format.proofs.RowLaws.{RowFits, encoded-length, bit-lt, bit-of-flag, decode-encode}
 use Rattle.scan.specs.Number.{BigEndian}
 use Rattle.scan.proofs.NumberLaws.{big-endian-number, big-endian-below}
-use Rattle.put.proofs.PutLaws.{placed-behind, placed-long}
+use Rattle.put.proofs.PutLaws.{placed-after, placed-long}
 use Rattle.outline.specs.Row.{frontOf, Field, rowAt}
 
 -- two numbers in bytes, one behind the other, are one number in bytes
@@ -82,9 +82,9 @@ pub row-placed : (r : Row) (out a b c d : Bytes) (at front place : ℕ) → d �
     → 16 ≤ length out - at
     → d ≡ placed out at (encodeRow r)
 row-placed r out a b c d at front place hd hc hb ha is-front is-place inside room =
-    let two = placed-behind out a b at 4 _ _ ha refl hb (omega arith) in
-    let three = placed-behind out b c at 8 _ _ two refl hc (omega arith) in
-    let four = placed-behind out c d at 12 _ _ three refl hd (omega arith) in
+    let two = placed-after out a b at 4 _ _ ha refl hb (omega arith) in
+    let three = placed-after out b c at 8 _ _ two refl hc (omega arith) in
+    let four = placed-after out c d at 12 _ _ three refl hd (omega arith) in
     four ∙ ap (placed out at) (rw (is-front, is-place) (sym (encode-parts r)))
 
 -- a number that is read at an offset

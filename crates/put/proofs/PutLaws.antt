@@ -97,9 +97,9 @@ placed-append out n bytes others h =
     rw (first, second, placed-sets out n (bytes ++ others) both) (sym (sets-append out n bytes others))
 
 -- the same, of a buffer that holds the first bytes already
-pub placed-behind : (out mid after : Bytes) (at n : ℕ) (bytes others : Bytes) → mid ≡ placed out at bytes → length bytes ≡ n
+pub placed-after : (out mid after : Bytes) (at n : ℕ) (bytes others : Bytes) → mid ≡ placed out at bytes → length bytes ≡ n
     → after ≡ placed mid (at + n) others → at + n + length others ≤ length out → after ≡ placed out at (bytes ++ others)
-placed-behind out mid after at n bytes others e l f h =
+placed-after out mid after at n bytes others e l f h =
     let next : after ≡ placed (placed out at bytes) (at + length bytes) others = rw (← e, l) f in
     next ∙ placed-append out at bytes others (rw l h)
 

@@ -8,14 +8,14 @@ use lib.ListN.{length, take, drop, length-append}
 use Rattle.format.specs.declared.line.LineEnd.{LineEnd}
 use Rattle.format.specs.declared.line.LineEnd.the-variants.{Lf, Crlf}
 use Rattle.format.specs.Bytes.{Bytes, begins, same}
-use Rattle.format.specs.Line.{lineEnd, Lines, unended, line, behind, lines}
+use Rattle.format.specs.Line.{lineEnd, Lines, unended, line, afterLine, lines}
 use Rattle.format.specs.Tree.{yamlLine}
 use Rattle.format.proofs.ByteLaws.{same-true, eq-same, begins-true, begins-append}
 use Rattle.format.proofs.LineLaws.{end-length, IsLine, plain-line, lines-line, line-split}
 use Rattle.scan.specs.declared.line.Line.{Line}
 use Rattle.scan.specs.declared.line.Line.the-variants.{Ended, Unended}
 use Rattle.scan.specs.declared.line.Exact.{Exact}
-use Rattle.scan.specs.declared.line.Exact.the-variants.{Behind, Other}
+use Rattle.scan.specs.declared.line.Exact.the-variants.{After, Other}
 use Rattle.scan.specs.Line.{LineRead, exactLine, ExactRead}
 use Rattle.scan.proofs.TextLaws.{begins-inside}
 use Rattle.scan.proofs.LineLaws.{FirstLine, lines-first, unended-lines, ended-first, ended-inside}
@@ -28,12 +28,12 @@ module _ (s : Bytes) (at : ℕ) (r : Line) (read : LineRead s at r) (word : Byte
 
   module _ (m next : ℕ) (k : LineEnd) (e : r ≡ Ended m next k) (x : Bool) (h : x ≡ same (take (m - at) (drop at s)) word) where
     -- the line's text is the word
-    pub exact-behind : x ≡ true → ExactRead s word at (Behind next k)
+    pub exact-after : x ≡ true → ExactRead s word at (After next k)
     unfolding exactLine
-    exact-behind p =
+    exact-after p =
         let first = ended-first s at r read m next k e in
         record {
-          is = rw (first .cut, exactLine, sym h ∙ p) (ap (λ n. Behind n k) (first .next-is));
+          is = rw (first .cut, exactLine, sym h ∙ p) (ap (λ n. After n k) (first .next-is));
           inside = omega (arith, ended-inside s at r read m next k e);
         }
 
@@ -53,13 +53,13 @@ module _ (s word : Bytes) (at : ℕ) (r : Exact) (read : ExactRead s word at r) 
       go false k = k
 
   -- where it is yes, the word is the first line
-  pub behind-first : (next : ℕ) (d : LineEnd) → r ≡ Behind next d → FirstLine s at word next d
+  pub after-first : (next : ℕ) (d : LineEnd) → r ≡ After next d → FirstLine s at word next d
   unfolding exactLine
-  behind-first next d p = go (lines (drop at s)) refl
+  after-first next d p = go (lines (drop at s)) refl
     where
       judge : (t : Bytes) (e : LineEnd) (l : Lines) (x : Bool) → lines (drop at s) ≡ line t e l → same t word ≡ x → FirstLine s at word next d
       judge t e l true h k =
-          let over : next ≡ behind at t e = cc (sym p ∙ rw (h, exactLine, k) at (read .is)) in
+          let over : next ≡ afterLine at t e = cc (sym p ∙ rw (h, exactLine, k) at (read .is)) in
           let ending : d ≡ e = cc (sym p ∙ rw (h, exactLine, k) at (read .is)) in
           rw (over, ending, ← same-true t word k) (lines-first s at t e l h)
       judge t e l false h k = let z : _≡_ {A = ℕ} 0 1 = cc (sym p ∙ rw (h, exactLine, k) at (read .is)) in absurd (omega arith)
@@ -70,7 +70,7 @@ module _ (s word : Bytes) (at : ℕ) (r : Exact) (read : ExactRead s word at r) 
 
 -- bytes that begin with a word and a line end have the word for their first line
 word-read : (s word : Bytes) (at : ℕ) (e : LineEnd) (next : ℕ) → IsLine word e → begins (word ++ lineEnd e) (drop at s) ≡ true
-    → next ≡ behind at word e → ExactRead s word at (Behind next e)
+    → next ≡ afterLine at word e → ExactRead s word at (After next e)
 unfolding exactLine
 word-read s word at e next l h n =
     let z = drop (length (word ++ lineEnd e)) (drop at s) in
@@ -105,12 +105,12 @@ yaml-plain e = plain-line yamlLine e refl refl
 
 module _ (s : Bytes) (at : ℕ) (x : Bool) (h : x ≡ begins (yamlLine ++ lineEnd Lf) (drop at s)) where
   -- it stands there with 0A
-  pub yaml-lf : x ≡ true → ExactRead s yamlLine at (Behind (at + 10) Lf)
+  pub yaml-lf : x ≡ true → ExactRead s yamlLine at (After (at + 10) Lf)
   yaml-lf p = word-read s yamlLine at Lf (at + 10) (yaml-plain Lf) (sym h ∙ p) (omega arith)
 
   module _ (y : Bool) (k : y ≡ begins (yamlLine ++ lineEnd Crlf) (drop at s)) where
     -- it stands there with 0D 0A
-    pub yaml-crlf : y ≡ true → ExactRead s yamlLine at (Behind (at + 11) Crlf)
+    pub yaml-crlf : y ≡ true → ExactRead s yamlLine at (After (at + 11) Crlf)
     yaml-crlf p = word-read s yamlLine at Crlf (at + 11) (yaml-plain Crlf) (sym k ∙ p) (omega arith)
 
     -- it stands there with neither

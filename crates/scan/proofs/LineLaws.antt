@@ -13,9 +13,9 @@ use Rattle.bytes.specs.Bytes.{indexOf, indexAfter, slice}
 use Rattle.format.specs.declared.line.LineEnd.{LineEnd}
 use Rattle.format.specs.declared.line.LineEnd.the-variants.{Lf, Crlf}
 use Rattle.format.specs.Bytes.{Bytes, begins}
-use Rattle.format.specs.Line.{lineEnd, Lines, unended, line, behind, lines}
+use Rattle.format.specs.Line.{lineEnd, Lines, unended, line, afterLine, lines}
 use Rattle.format.proofs.ByteLaws.{and-left, and-right, begins-true, lacks, lacks-cons}
-use Rattle.format.proofs.LineLaws.{joinLines, endsIn, ends-snoc, IsLine, plain-line, join-lines, lines-unended, lines-line, line-split, lines-behind}
+use Rattle.format.proofs.LineLaws.{joinLines, endsIn, ends-snoc, IsLine, plain-line, join-lines, lines-unended, lines-line, line-split, lines-after}
 use Rattle.scan.proofs.TextLaws.{begins-inside}
 use Rattle.scan.specs.declared.line.Line.{Line}
 use Rattle.scan.specs.declared.line.Line.the-variants.{Ended, Unended}
@@ -147,14 +147,14 @@ module _ (s : Bytes) (at end : ℕ) (f : end ≡ at + indexOf 10 (slice at (leng
 -- the first line from an offset on has the text t and the line end e, and the next line begins at next
 pub record FirstLine (s : Bytes) (at : ℕ) (t : Bytes) (next : ℕ) (e : LineEnd) : Type 0 where
   pub cut : lines (drop at s) ≡ line t e (lines (drop next s))
-  pub next-is : next ≡ behind at t e
+  pub next-is : next ≡ afterLine at t e
 
 -- the other lines are those from behind the first on
 pub lines-first : (s : Bytes) (at : ℕ) (t : Bytes) (e : LineEnd) (l : Lines) → lines (drop at s) ≡ line t e l
-    → FirstLine s at t (behind at t e) e
+    → FirstLine s at t (afterLine at t e) e
 lines-first s at t e l h =
-    let over : at + (length t + length (lineEnd e)) ≡ behind at t e = omega arith in
-    let rest = rw (drop-drop, over) at (lines-behind (drop at s) t e l h) in
+    let over : at + (length t + length (lineEnd e)) ≡ afterLine at t e = omega arith in
+    let rest = rw (drop-drop, over) at (lines-after (drop at s) t e l h) in
     record { cut = h ∙ ap (line t e) rest; next-is = refl }
 
 -- the first line's text begins with a byte that is no part of a line end where the bytes do
@@ -187,7 +187,7 @@ module _ (s : Bytes) (at : ℕ) (r : Line) (read : LineRead s at r) where
         go (unended t) h = let z : _≡_ {A = ℕ} 0 1 = cc (read .is, e, h) in absurd (omega arith)
         go (line t d l) h =
             let to : m ≡ at + length t = cc (read .is, e, h) in
-            let over : next ≡ behind at t d = cc (read .is, e, h) in
+            let over : next ≡ afterLine at t d = cc (read .is, e, h) in
             let ending : k ≡ d = cc (read .is, e, h) in
             let text = ap (take (m - at)) (line-split (drop at s) t d l h) ∙ take-at t _ (m - at) (omega arith) in
             rw (text, over, ending) (lines-first s at t d l h)

@@ -76,7 +76,7 @@ fn ends_in_0d(s: &[u8], at: usize, end: usize) -> bool
 // Whether a line is the one that was asked for.
 pub enum Exact {
     // It is: where the next line begins, and how this one ends.
-    Behind(usize, LineEnd),
+    After(usize, LineEnd),
     Other,
 }
 
@@ -93,7 +93,7 @@ pub fn exact_line(s: &[u8], at: usize, word: &[u8]) -> Exact
         return Exact::Other;
     };
     if text::is(&s[at..text_end], word) {
-        return Exact::Behind(next, ending);
+        return Exact::After(next, ending);
     }
     Exact::Other
 }
@@ -103,10 +103,10 @@ pub fn yaml_line(s: &[u8], at: usize) -> Exact
     ensures { λ r. ⌜ ExactRead (now (s .entry)) yamlLine at r ⌝ }
 {
     if text::begins_at(s, at, b"%YAML 1.1\n") {
-        return Exact::Behind(at + 10, LineEnd::Lf);
+        return Exact::After(at + 10, LineEnd::Lf);
     }
     if text::begins_at(s, at, b"%YAML 1.1\r\n") {
-        return Exact::Behind(at + 11, LineEnd::Crlf);
+        return Exact::After(at + 11, LineEnd::Crlf);
     }
     Exact::Other
 }

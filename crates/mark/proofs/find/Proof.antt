@@ -1,6 +1,6 @@
 -- `mark::find` meets its contract: a mark at once, or the first of the part from the offset on.
 use borrow.Author.Needs.{needs}
-use Rattle.mark.proofs.MarkLaws.{found-behind, found-at-once, found-fits, found-part}
+use Rattle.mark.proofs.MarkLaws.{found-after, found-at-once, found-fits, found-part}
 use Rattle.mark.proofs.find.Statement.{statement}
 use Rattle.mark.proofs.find.Tie as tie
 
@@ -8,7 +8,7 @@ pub find-spec : {M : Type 1} → statement M
 find-spec =
     tie.close
     (tie.spec
-    (λ c. search (found-behind, needs))
+    (λ c. search (found-after, needs))
     (λ c κs. search needs)
     (λ c. search (found-at-once, needs))
     (λ c. search needs)

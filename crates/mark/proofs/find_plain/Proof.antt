@@ -1,6 +1,6 @@
 -- `mark::find_plain` meets its contract: the first mark of the part from the offset on.
 use borrow.Author.Needs.{needs}
-use Rattle.mark.proofs.MarkLaws.{found-behind, found-fits, found-part}
+use Rattle.mark.proofs.MarkLaws.{found-after, found-fits, found-part}
 use Rattle.mark.proofs.find_plain.Statement.{statement}
 use Rattle.mark.proofs.find_plain.Tie as tie
 
@@ -8,7 +8,7 @@ pub find-plain-spec : {M : Type 1} → statement M
 find-plain-spec =
     tie.close
     (tie.spec
-    (λ c. search (found-behind, needs))
+    (λ c. search (found-after, needs))
     (λ c. search needs)
     (λ c. search needs)
     (λ c. search needs)

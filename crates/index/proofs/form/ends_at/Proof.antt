@@ -1,6 +1,6 @@
 -- One law for each way out.
 use borrow.Author.Needs.{needs}
-use Rattle.index.proofs.IndexLaws.{behind-inside, end-other, end-zeros}
+use Rattle.index.proofs.IndexLaws.{after-inside, end-other, end-zeros}
 use Rattle.index.proofs.form.ends_at.Statement.{statement}
 use Rattle.index.proofs.form.ends_at.Tie as tie
 
@@ -13,8 +13,8 @@ ends-at-spec =
     (λ c. search needs)
     (λ c. search needs)
     (λ c. search (end-other, needs))
-    (λ c. search (behind-inside, needs))
-    (λ c. search (behind-inside, needs))
+    (λ c. search (after-inside, needs))
+    (λ c. search (after-inside, needs))
     (λ c. search needs)
     (λ c κs. search needs)
     (λ c. search (end-zeros, needs)))

@@ -1,7 +1,7 @@
 -- A line is the word where its text is.
 use borrow.Author.Needs.{needs}
 use Rattle.scan.proofs.LineLaws.{ended-begin, ended-end}
-use Rattle.scan.proofs.ExactLaws.{exact-unended, exact-behind, exact-other}
+use Rattle.scan.proofs.ExactLaws.{exact-unended, exact-after, exact-other}
 use Rattle.scan.proofs.line.exact_line.Statement.{statement}
 use Rattle.scan.proofs.line.exact_line.Tie as tie
 
@@ -17,5 +17,5 @@ exact-line-spec =
     (λ c. search (ended-begin, needs))
     (λ c. search (ended-end, needs))
     (λ c κs. search needs)
-    (λ c. search (exact-behind, needs))
+    (λ c. search (exact-after, needs))
     (λ c. search (exact-other, needs)))

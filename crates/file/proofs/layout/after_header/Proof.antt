@@ -1,11 +1,11 @@
 -- What the comments' step refuses is refused, and what it accepts is handed on.
 use borrow.Author.Needs.{needs}
 use Rattle.file.proofs.LayoutLaws.{comments-inside, comments-refused, comments-read}
-use Rattle.file.proofs.layout.behind_header.Statement.{statement}
-use Rattle.file.proofs.layout.behind_header.Tie as tie
+use Rattle.file.proofs.layout.after_header.Statement.{statement}
+use Rattle.file.proofs.layout.after_header.Tie as tie
 
-pub behind-header-spec : {M : Type 1} → statement M
-behind-header-spec =
+pub after-header-spec : {M : Type 1} → statement M
+after-header-spec =
     tie.close
     (tie.spec
     (λ c κs. search needs)

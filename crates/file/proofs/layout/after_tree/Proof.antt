@@ -1,11 +1,11 @@
 -- One law for each way out: the blocks begin behind a tree's room, or where the comments end.
 use borrow.Author.Needs.{needs}
-use Rattle.file.proofs.LayoutLaws.{room-inside, blocks-none, here-inside, blocks-behind, blocks-here}
-use Rattle.file.proofs.layout.behind_tree.Statement.{statement}
-use Rattle.file.proofs.layout.behind_tree.Tie as tie
+use Rattle.file.proofs.LayoutLaws.{room-inside, blocks-none, here-inside, blocks-after, blocks-here}
+use Rattle.file.proofs.layout.after_tree.Statement.{statement}
+use Rattle.file.proofs.layout.after_tree.Tie as tie
 
-pub behind-tree-spec : {M : Type 1} → statement M
-behind-tree-spec =
+pub after-tree-spec : {M : Type 1} → statement M
+after-tree-spec =
     tie.close
     (tie.spec
     (λ c. search needs)
@@ -15,5 +15,5 @@ behind-tree-spec =
     (λ c κs. search needs)
     (λ c. search (blocks-none, needs))
     (λ c κs. search (here-inside, needs))
-    (λ c. search (blocks-behind, needs))
+    (λ c. search (blocks-after, needs))
     (λ c. search (blocks-here, needs)))

@@ -1,10 +1,10 @@
 -- What the tree's step refuses is refused, and what it accepts is handed on.
 use borrow.Author.Needs.{needs}
 use Rattle.file.proofs.LayoutLaws.{tree-inside, tree-refused, tree-read}
-use Rattle.file.proofs.layout.behind_comments.Statement.{statement}
-use Rattle.file.proofs.layout.behind_comments.Tie as tie
+use Rattle.file.proofs.layout.after_comments.Statement.{statement}
+use Rattle.file.proofs.layout.after_comments.Tie as tie
 
-pub behind-comments-spec : {M : Type 1} → statement M
-behind-comments-spec =
+pub after-comments-spec : {M : Type 1} → statement M
+after-comments-spec =
     tie.close
     (tie.spec (λ c κs. search needs) (λ c. search needs) (λ c. search needs) (λ c κs. search (tree-inside, needs)) (λ c. search (tree-refused, needs)) (λ c. search (tree-read, needs)))
