@@ -1,4 +1,5 @@
--- A block: its header and its content. All numbers are big-endian, and offsets count from the block's first byte.
+-- A block: its header and its content. All numbers in it are big-endian. The offsets of its fields count from the
+-- block's first byte.
 use Prim.Native.Nat.{ℕ, _+_, _-_, _%_, _≤_}
 use mathlib.Core.Path.{_≡_}
 use mathlib.Core.Bool.{Bool, true, false, not, _||_}
@@ -8,59 +9,69 @@ use Rattle.format.specs.declared.block.Block.{Block}
 use Rattle.format.specs.Bytes.{Bytes, number}
 use Rattle.format.specs.Outcome.{Outcome, accepted, need, _>>_}
 
--- the header's fields, of the bytes from the block's first byte on
+-- The header size. In this definition and the next seven, which are the fields of the header, `t` is the rest of the
+-- file from the block's first byte.
 abbrev pub headerSize : Bytes → ℕ
 headerSize t = number 4 2 t
 
+-- The 32 flag bits.
 abbrev pub flags : Bytes → ℕ
 flags t = number 6 4 t
 
+-- The compression name: four bytes as one number.
 abbrev pub compression : Bytes → ℕ
 compression t = number 10 4 t
 
+-- The allocated size, as it is stored.
 abbrev pub allocatedSize : Bytes → ℕ
 allocatedSize t = number 14 8 t
 
+-- The used size, as it is stored.
 abbrev pub usedSize : Bytes → ℕ
 usedSize t = number 22 8 t
 
+-- The data size, as it is stored.
 abbrev pub dataSize : Bytes → ℕ
 dataSize t = number 30 8 t
 
+-- The first eight of the checksum's sixteen bytes.
 abbrev pub checksumHigh : Bytes → ℕ
 checksumHigh t = number 38 8 t
 
+-- The last eight of the checksum's sixteen bytes.
 abbrev pub checksumLow : Bytes → ℕ
 checksumLow t = number 46 8 t
 
--- the least header size
+-- The smallest header size.
 abbrev pub leastHeader : ℕ
 leastHeader = 48
 
--- the least bytes of a block: its mark, its header size and the least header
+-- The smallest number of bytes in a block: its mark, its header size and the smallest header.
 abbrev pub leastBlock : ℕ
 leastBlock = 6 + leastHeader
 
--- bit 0 of the flags
+-- Whether a block with the flags `f` is streamed: bit 0 is set.
 abbrev pub isStreamed : ℕ → Bool
 isStreamed f = eqb (f % 2) 1
 
--- whether a compression name is one: four zeros are none
+-- Whether a block with this compression name is compressed. Four zero bytes mean that it is not.
 abbrev pub isCompressed : ℕ → Bool
 isCompressed name = not (eqb name 0)
 
--- whether the two halves of a checksum state one: zeros in both do not
+-- Whether these two halves of a checksum state one. Zeros in both mean that there is none.
 abbrev pub hasChecksum : ℕ → ℕ → Bool
 hasChecksum high low = not (eqb high 0) || not (eqb low 0)
 
--- where the content begins, and how many bytes the file has from there on
+-- Where the content begins.
 abbrev pub contentStart : Bytes → ℕ
 contentStart t = 6 + headerSize t
 
+-- How many bytes are left in the file from there.
 abbrev pub bytesLeft : Bytes → ℕ
 bytesLeft t = length t - contentStart t
 
--- the block at offset n with these three sizes
+-- Block `i` of a file, at offset `n`, with these three sizes. The other fields come from the header with which `t`
+-- begins.
 unfoldable pub blockWith : ℕ → ℕ → Bytes → ℕ → ℕ → ℕ → Block
 blockWith i n t allocated used size =
     record {
@@ -76,8 +87,8 @@ blockWith i n t allocated used size =
       «checksum_low» = checksumLow t;
     }
 
--- block i of a file, with which the bytes t from offset n on begin. The chain has found the mark there before, so the mark's four
--- bytes are not looked at again: with others in their place the outcome is the same
+-- Block `i` of a file, at offset `n`; `t` is the rest of the file from there. The chain has already found the mark, so
+-- its four bytes are not checked again: with any other four bytes the outcome would be the same.
 unfoldable pub block : ℕ → ℕ → Bytes → Outcome Block
 block i n t = do
   need (leb 6 (length t)) 11 n
@@ -92,7 +103,7 @@ block i n t = do
       accepted (blockWith i n t (allocatedSize t) (usedSize t) (dataSize t))
   ]
 
--- block i at offset n, where t stands, if nothing is wrong with it
+-- Block `i` of a file, at offset `n`, if nothing is wrong with it; `t` is the rest of the file from there.
 unfoldable pub soundBlock : ℕ → ℕ → Bytes → Block
 soundBlock i n t =
     elim (isStreamed (flags t)) [
@@ -100,13 +111,13 @@ soundBlock i n t =
       | false ↦ blockWith i n t (allocatedSize t) (usedSize t) (dataSize t)
     ]
 
--- nothing is wrong with the three sizes in the header with which t begins
+-- Nothing is wrong with the three sizes in the header with which `t` begins.
 pub record SoundSizes (t : Bytes) : Type 0 where
   pub used : usedSize t ≤ allocatedSize t
   pub data-size : (isCompressed (compression t) || eqb (dataSize t) (usedSize t)) ≡ true
   pub allocated : allocatedSize t ≤ bytesLeft t
 
--- t begins with a block that nothing is wrong with; the sizes of a streamed one are not looked at
+-- `t` begins with a block that nothing is wrong with. The sizes of a streamed block are not checked.
 pub record Sound (t : Bytes) : Type 0 where
   pub least : leastHeader ≤ headerSize t
   pub whole : contentStart t ≤ length t

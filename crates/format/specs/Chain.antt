@@ -1,4 +1,4 @@
--- The chain of blocks, with unallocated space between them, and the tail after the last of them.
+-- The chain of blocks, with unallocated space between them, and the tail after the last block.
 use Prim.Native.Nat.{ℕ, zero, suc, _+_}
 use mathlib.Core.Bool.{Bool, true, false, _||_}
 use mathlib.Core.List.{List, [], _∷_}
@@ -12,57 +12,60 @@ use Rattle.format.specs.Comments.{indexLine}
 use Rattle.format.specs.Tree.{freeSpace}
 use Rattle.format.specs.Block.{block, isStreamed}
 
+-- The highest number of blocks in a file.
 abbrev pub mostBlocks : ℕ
 mostBlocks = 64
 
--- the blocks of a file and what stands after the last of them; after a streamed one nothing does
+-- The blocks of a file and the bytes after the last of them. After a streamed block there are no bytes.
 pub record Chain : Type 0 where
   pub blocks : List Block
   pub tail : Bytes
 
--- how far the end of a block's allocated space is from its first byte
+-- How many bytes there are from a block's first byte to the end of its allocated space.
 abbrev pub extent : Block → ℕ
 extent b = 6 + b .«header_size» + b .allocated
 
--- where the last block's allocated space ends, and n where there is no block
+-- Where the last block's allocated space ends, or `n` if there is no block.
 unfoldable pub blocksEnd : ℕ → List Block → ℕ
 blocksEnd n [] = n
 blocksEnd n (b ∷ bs) = blocksEnd (b .at .0 + extent b) bs
 
--- nothing, zero bytes only, or an index to be judged
+-- Whether `t` may be a tail: nothing, zero bytes only, or an index that is then judged.
 abbrev pub isTail : Bytes → Bool
 isTail t = allZero t || begins indexLine t
 
--- no further block, and t after the last
+-- The chain with no further block and with the tail `t`.
 abbrev pub ended : Bytes → Chain
 ended t = record { blocks = []; tail = t }
 
--- b before the blocks that follow it
+-- The chain `c` with the block `b` before its blocks.
 abbrev pub linked : Block → Chain → Chain
 linked b c = record { blocks = b ∷ c .blocks; tail = c .tail }
 
--- how many bytes stand before the first mark in t, if there is one
+-- How many bytes of `t` come before its first mark, if it has one.
 unfoldable pub markAhead : Bytes → Option ℕ
 markAhead t = elim (ltb (freeSpace t) (length t)) [ true ↦ some (freeSpace t) | false ↦ none ]
 
--- how many bytes stand before the next block in t, if there is one: where an index begins at once, no block follows
+-- How many bytes of `t` come before the next block, if there is one. If `t` begins with `indexLine`, no block follows.
 unfoldable pub nextBlock : Bytes → Option ℕ
 nextBlock t = elim (begins indexLine t) [ true ↦ none | false ↦ markAhead t ]
 
--- what stands at offset n, where no block follows
+-- The end of the chain at offset `n`, if no block follows; `t` is the rest of the file from there.
 unfoldable pub tail : ℕ → Bytes → Outcome Chain
 tail n t = do
   need (isTail t) 17 n
   accepted (ended t)
 
--- block i at offset n, where t stands, and the blocks that `others` reads from its end on; after a streamed one there are none
+-- Block `i` at offset `n`, and the blocks that `others` reads from its end; `t` is the rest of the file from `n`. After
+-- a streamed block there are no others.
 unfoldable pub linkedAt : ℕ → ℕ → Bytes → (ℕ → Bytes → Outcome Chain) → Outcome Chain
 linkedAt i n t others = do
   b ← block i n t
   c ← elim (isStreamed (b .flags)) [ true ↦ accepted (ended []) | false ↦ others (n + extent b) (drop (extent b) t) ]
   accepted (linked b c)
 
--- the blocks from offset n on, where t stands, each at the first mark: the first is number i, and k of them are allowed
+-- The blocks from offset `n`, each at the next mark; `t` is the rest of the file from there. The first argument is how
+-- many blocks are allowed, and `i` is the ordinal of the first of them.
 unfoldable pub chain : ℕ → ℕ → ℕ → Bytes → Outcome Chain
 chain zero i n t = elim (nextBlock t) [ none ↦ tail n t | some g ↦ refused (refusal 16 (n + g)) ]
 chain (suc k) i n t = elim (nextBlock t) [ none ↦ tail n t | some g ↦ linkedAt i (n + g) (drop g t) (chain k (i + 1)) ]

@@ -5,11 +5,11 @@ use Rattle.format.specs.Bytes.{Bytes, text, begins, same}
 use Rattle.format.specs.Outcome.{Outcome, accepted, refused, refusal}
 use Rattle.format.specs.Line.{Lines, unended, line, afterLine}
 
--- the first line of a block index
+-- The first line of a block index.
 abbrev pub indexLine : Bytes
 indexLine = text "#ASDF BLOCK INDEX"
 
--- where the comments end, of the lines from offset n on
+-- Where the comments end. The lines begin at offset `n`.
 unfoldable pub comments : ℕ → Lines → Outcome ℕ
 comments n (unended t) = elim (begins (text "#") t) [ true ↦ refused (refusal 5 n) | false ↦ accepted n ]
 comments n (line t e l) =

@@ -1,4 +1,4 @@
--- The meaning of an ASDF file, front to back.
+-- The meaning of an ASDF file, from front to back.
 pub mod Bytes
 pub mod Numeral
 pub mod Outcome
