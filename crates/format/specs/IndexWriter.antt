@@ -1,4 +1,4 @@
--- The index that is written for a file, and what it is after the file's last block.
+-- The index that is written for a file, and what it means that an index is good after the file's last block.
 use Prim.Native.Nat.{ℕ, _≤_}
 use mathlib.Core.Path.{_≡_}
 use mathlib.Core.Bool.{Bool, false, not}
@@ -14,33 +14,33 @@ use Rattle.format.specs.Chain.{blocksEnd}
 use Rattle.format.specs.Index.{indexText}
 use Rattle.format.specs.File.{mostBytes, File, firstBlock, file, offsets}
 
--- there is a block, and the last is not streamed
+-- Whether a file with these blocks may have an index: there is a block, and the last one is not streamed.
 unfoldable pub mayHaveIndex : List Block → Bool
 mayHaveIndex [] = false
 mayHaveIndex (b ∷ []) = not (isStreamed (b .flags))
 mayHaveIndex (b ∷ c ∷ bs) = mayHaveIndex (c ∷ bs)
 
--- the index of a file; its lines end as the header does
+-- The index of the file `s`. Its lines end as the header does.
 unfoldable pub indexFor : Bytes → Outcome Bytes
 indexFor s = do
   f ← file s
   need (mayHaveIndex (f .blocks)) 22 0
   accepted (indexText (f .header .«line_end») (offsets (f .blocks)))
 
--- the most bytes that it has: 64 offsets of ten digits each, and line ends of two bytes
+-- The highest number of bytes in the index of a file: 64 offsets of ten digits each, and line ends of two bytes.
 abbrev pub mostIndex : ℕ
 mostIndex = 809
 
--- where what stands behind the last block of a file begins
+-- Where the tail of a file begins, after its last block.
 abbrev pub tailStart : File → ℕ
 tailStart f = blocksEnd (firstBlock (f .commentsEnd) (f .tree)) (f .blocks)
 
--- what is found in a file, with another verdict
+-- What is found in a file, with the verdict `v` in place of its own.
 abbrev pub judgedAs : Verdict → File → File
 judgedAs v f = record { header = f .header; commentsEnd = f .commentsEnd; tree = f .tree; blocks = f .blocks; verdict = v }
 
--- s is accepted; cut behind its last block and followed by t, with nothing behind, it reads the same, and t is a good index of it,
--- if the whole is within the size limit
+-- The file `s` is accepted, and `t` is a good index of it. Cut `s` after its last block and put `t` there, with nothing
+-- after it: if the result is within the size limit, it reads the same, with the verdict good.
 pub record GoodAfter (s t : Bytes) : Type 0 where
   pub found : File
   pub is : file s ≡ accepted found
