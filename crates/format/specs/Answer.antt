@@ -1,4 +1,4 @@
--- What each answer says: the value, or the refusal with its number and place.
+-- What each answer of the code says: the value, or the refusal with its number and place.
 use Prim.Native.Nat.{ℕ}
 use mathlib.Core.Option.{Option, none, some}
 use Rattle.format.specs.declared.answer.LayoutAnswer.{LayoutAnswer}
@@ -16,24 +16,29 @@ use Rattle.format.specs.declared.block.Block.{Block}
 use Rattle.format.specs.declared.row.Row.{Row}
 use Rattle.format.specs.Outcome.{Outcome, accepted, refused}
 
+-- What the answer to a question about a layout says.
 unfoldable pub layoutAnswer : LayoutAnswer → Outcome Layout
 layoutAnswer (LayoutAnswer·is.Accepted l) = accepted l
 layoutAnswer (LayoutAnswer·is.Refused r) = refused r
 
+-- What the answer to a question about one block says. It is no refusal if there is no such block.
 unfoldable pub blockAnswer : BlockAnswer → Outcome (Option Block)
 blockAnswer (BlockAnswer·is.Found b) = accepted (some b)
 blockAnswer BlockAnswer·is.NoSuchBlock = accepted none
 blockAnswer (BlockAnswer·is.Refused r) = refused r
 
+-- What the answer to a question about one row says. It is no refusal if there is no such row.
 unfoldable pub rowAnswer : RowAnswer → Outcome (Option Row)
 rowAnswer (RowAnswer·is.Found b) = accepted (some b)
 rowAnswer RowAnswer·is.NoSuchRow = accepted none
 rowAnswer (RowAnswer·is.Refused r) = refused r
 
+-- What the answer of a function that counts or writes says.
 unfoldable pub countAnswer : CountAnswer → Outcome ℕ
 countAnswer (CountAnswer·is.Counted n) = accepted n
 countAnswer (CountAnswer·is.Refused r) = refused r
 
+-- What the answer of the edit says. If the edit is accepted, there is no value to give.
 unfoldable pub editAnswer : EditAnswer → Outcome (Unit {0})
 editAnswer EditAnswer·is.Edited = accepted tt
 editAnswer (EditAnswer·is.Refused r) = refused r

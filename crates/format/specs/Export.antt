@@ -4,15 +4,15 @@ use mathlib.Core.Bool.{true, false}
 use lib.Dec.{ltb}
 use Rattle.format.specs.Outcome.{Outcome, accepted, refused, refusal}
 
--- the least number that is a refusal: the top byte, of eight, is not zero
+-- The smallest number that is a refusal: the top byte, of eight, is not zero.
 abbrev pub leastRefusal : ℕ
 leastRefusal = 2 ^ 56
 
--- an answer as one number: a count, or a refusal's number in the top byte and its place below
+-- An answer as one number: a count, or a refusal with its number in the top byte and its place below.
 abbrev pub word : Outcome ℕ → ℕ
 word (accepted n) = n
 word (refused r) = r .number * leastRefusal + r .place .0 % leastRefusal
 
--- what a number says to those who read it as the C header does: a count where the top byte is zero, else a refusal
+-- What a number says when it is read as the C header does: a count if the top byte is zero, otherwise a refusal.
 abbrev pub said : ℕ → Outcome ℕ
 said r = elim (ltb r leastRefusal) [ true ↦ accepted r | false ↦ refused (refusal (r / leastRefusal) (r % leastRefusal)) ]

@@ -1,4 +1,4 @@
--- What the program prints, and the outline that it writes beside it.
+-- What the program prints, and the outline that is written along with it.
 use Prim.Native.Nat.{ℕ}
 use mathlib.Core.Bool.{true, false}
 use mathlib.Core.List.{List, [], _∷_, _++_, map, flatMap}
@@ -16,50 +16,58 @@ use Rattle.format.specs.File.{file}
 use Rattle.format.specs.Fields.{rowFields}
 use Rattle.format.specs.Outline.{rows, outline}
 
--- the longest input that the program takes
+-- The length of the longest input that the program takes, in bytes.
 abbrev pub mostInput : ℕ
 mostInput = 65536
 
--- words with one space between, and a line end
+-- Words with one space between them, and a line end.
 unfoldable pub sentence : List Bytes → Bytes
 sentence [] = text "\n"
 sentence (w ∷ []) = w ++ text "\n"
 sentence (w ∷ v ∷ ws) = w ++ text " " ++ sentence (v ∷ ws)
 
+-- The line for the tree: where it begins and ends, or that there is none.
 unfoldable pub treeText : Tree → Bytes
 treeText NoTree = sentence (text "tree" ∷ text "none" ∷ [])
 treeText (Found n e m) = sentence (text "tree" ∷ decimal (n .0) ∷ decimal (e .0) ∷ [])
 
+-- The line for a row: its fields as decimal numbers.
 unfoldable pub rowText : Row → Bytes
 rowText r = sentence (map decimal (rowFields r))
 
+-- The word for a verdict.
 unfoldable pub verdictWord : Verdict → Bytes
 verdictWord Absent = text "absent"
 verdictWord Good = text "good"
 verdictWord IgnoredForm = text "ignored-form"
 verdictWord IgnoredList = text "ignored-list"
 
+-- The listing of an accepted file: a line for the tree, a line for each row, and a line for the index.
 unfoldable pub fileListing : Bytes → Outcome Bytes
 fileListing s = do
   f ← file s
   rs ← rows s
   accepted (treeText (f .tree) ++ flatMap rowText rs ++ sentence (text "index" ∷ verdictWord (f .verdict) ∷ []))
 
+-- What is printed: the listing, or one line that reports the refusal.
 unfoldable pub printed : Outcome Bytes → Bytes
 printed (accepted t) = t
 printed (refused r) = sentence (text "refused" ∷ decimal (r .number) ∷ decimal (r .place .0) ∷ [])
 
+-- What the program prints for the input `s`.
 unfoldable pub listing : Bytes → Bytes
 listing s = elim (leb (length s) mostInput) [ true ↦ printed (fileListing s) | false ↦ sentence (text "too long for this program" ∷ []) ]
 
+-- The bytes of an outline, or no bytes if the file is refused.
 unfoldable pub outlineBytes : Outcome Bytes → Bytes
 outlineBytes (accepted b) = b
 outlineBytes (refused r) = []
 
--- the outline that is written beside the text: none of a file that is refused or longer than the program takes
+-- The outline that is written along with the text. It is empty if the file is refused or is longer than the program
+-- takes.
 unfoldable pub outlineFor : Bytes → Bytes
 outlineFor s = elim (leb (length s) mostInput) [ true ↦ outlineBytes (outline s) | false ↦ [] ]
 
--- as many bytes as the program lends for each
+-- How many bytes the program lends for each of the two.
 abbrev pub lentBytes : ℕ
 lentBytes = 65536

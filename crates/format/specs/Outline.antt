@@ -1,4 +1,4 @@
--- The outline: a row of sixteen bytes for each block. And the reader of stored outlines.
+-- The outline, with a row of sixteen bytes for each block, and the reader of stored outlines.
 use Prim.Native.Nat.{ℕ, zero, suc, _+_, _*_, _/_, _%_, _^_}
 use mathlib.Core.Bool.{Bool, _&&_}
 use mathlib.Core.List.{List, [], _∷_, map, flatMap}
@@ -15,13 +15,14 @@ use Rattle.format.specs.Block.{isStreamed, isCompressed, hasChecksum, le
 use Rattle.format.specs.Chain.{mostBlocks}
 use Rattle.format.specs.Nest.{records}
 
--- the number of an inner state in a row
+-- The number of an inner state, in a row and in a record.
 unfoldable pub innerNumber : Inner → ℕ
 innerNumber Plain = 0
 innerNumber Opened = 1
 innerNumber (Refused r) = 2
 innerNumber TooDeep = 3
 
+-- The row of a block, made from its record.
 unfoldable pub rowOf : Record → Row
 rowOf r =
     let b = r .block in
@@ -38,14 +39,16 @@ rowOf r =
       used = b .used;
     }
 
--- how many bits each field of a row takes, the most significant first: depth, streamed, compressed, checksum, inner state,
--- ordinal, header size, offset, allocated, used
+-- How many bits each field of a row takes, the most significant field first: depth, streamed, compressed, checksum,
+-- inner state, ordinal, header size, offset, allocated, used.
 abbrev pub rowWidths : List ℕ
 rowWidths = 3 ∷ 1 ∷ 1 ∷ 1 ∷ 2 ∷ 8 ∷ 16 ∷ 32 ∷ 32 ∷ 32 ∷ []
 
+-- How many bytes a row takes.
 abbrev pub rowBytes : ℕ
 rowBytes = 16
 
+-- The fields of a row as numbers, in the order of `rowWidths`.
 unfoldable pub fieldsOf : Row → List ℕ
 fieldsOf r =
     r .depth ∷ bit (r .streamed) ∷ bit (r .compressed) ∷ bit (r .checksum) ∷ r .inner ∷ r .ordinal ∷ r .«header_size» ∷ r .at .0
@@ -53,6 +56,7 @@ fieldsOf r =
     ∷ r .used
     ∷ []
 
+-- The row with these fields, which come in the same order.
 unfoldable pub rowFrom : List ℕ → Row
 rowFrom fs =
     record {
@@ -68,47 +72,53 @@ rowFrom fs =
       used = getD fs 9 0;
     }
 
+-- The sum of a list of numbers.
 unfoldable pub sum : List ℕ → ℕ
 sum [] = 0
 sum (w ∷ ws) = w + sum ws
 
--- the number whose bits are those of the fields, one after another; a field wider than its bits loses the others
+-- The number whose bits are those of the fields, one after another. The first argument is the width of each field. A
+-- field that is too large for its width loses its upper bits.
 unfoldable pub packed : List ℕ → List ℕ → ℕ
 packed [] fs = 0
 packed (w ∷ ws) [] = 0
 packed (w ∷ ws) (x ∷ fs) = x % 2 ^ w * 2 ^ sum ws + packed ws fs
 
--- the fields of such a number
+-- The fields of such a number.
 unfoldable pub unpacked : List ℕ → ℕ → List ℕ
 unpacked [] x = []
 unpacked (w ∷ ws) x = x / 2 ^ sum ws % 2 ^ w ∷ unpacked ws x
 
+-- The sixteen bytes of a row.
 unfoldable pub encodeRow : Row → Bytes
 encodeRow r = toBytes rowBytes (packed rowWidths (fieldsOf r))
 
+-- The row that sixteen bytes give.
 unfoldable pub decodeRow : Bytes → Row
 decodeRow b = rowFrom (unpacked rowWidths (bigEndian b))
 
--- rows one after another with nothing around them
+-- The outline with these rows, one after another with nothing around them.
 unfoldable pub outlineOf : List Row → Bytes
 outlineOf rs = flatMap encodeRow rs
 
--- the rows of a file, and its outline
+-- The rows of the file `s`.
 unfoldable pub rows : Bytes → Outcome (List Row)
 rows s = do
   rs ← records s
   accepted (map rowOf rs)
 
+-- The outline of the file `s`.
 unfoldable pub outline : Bytes → Outcome Bytes
 outline s = do
   rs ← rows s
   accepted (outlineOf rs)
 
--- whether a stored row keeps the rules, at most so deep
+-- Whether a stored row keeps the rules. Its depth must be at most `most`.
 unfoldable pub isRow : ℕ → Row → Bool
 isRow most r = leb (suc (r .ordinal)) mostBlocks && leb leastHeader (r .«header_size») && leb (r .used) (r .allocated) && leb (r .depth) most
 
--- k stored rows, the first of them at offset n and at most so deep
+-- The stored rows from offset `n`; `b` is the rest of the stored outline from there. The first argument is how many
+-- rows there are, and `most` is the highest depth of the first row.
 unfoldable pub storedFrom : ℕ → ℕ → ℕ → Bytes → Outcome (List Row)
 storedFrom zero n most b = accepted []
 storedFrom (suc k) n most b = do
@@ -116,25 +126,26 @@ storedFrom (suc k) n most b = do
   rs ← storedFrom k (n + rowBytes) (decodeRow (take rowBytes b) .depth + 1) (drop rowBytes b)
   accepted (decodeRow (take rowBytes b) ∷ rs)
 
--- the rows of a stored outline: the first has depth 0, and none is more than one deeper than the one before it
+-- The rows of the stored outline `b`. The first row has depth 0, and no row is more than one level deeper than the row
+-- before it.
 unfoldable pub stored : Bytes → Outcome (List Row)
 stored b = do
   need (eqb (length b % rowBytes) 0) 23 0
   storedFrom (length b / rowBytes) 0 0 b
 
--- how many there are
+-- How many rows the stored outline `b` has.
 unfoldable pub storedCount : Bytes → Outcome ℕ
 storedCount b = do
   rs ← stored b
   accepted (length rs)
 
--- the k-th of them, if there is one
+-- Row `k` of the stored outline `b`, counted from 0, if there is one.
 unfoldable pub storedAt : Bytes → ℕ → Outcome (Option Row)
 storedAt b k = do
   rs ← stored b
   accepted (getElem? rs k)
 
--- a stored outline written again
+-- The stored outline `b`, written again from its rows.
 unfoldable pub rewritten : Bytes → Outcome Bytes
 rewritten b = do
   rs ← stored b
