@@ -6,31 +6,34 @@ use crate::layout::Layout;
 use crate::refusal::Refusal;
 use crate::row::Row;
 
+// The answer to a question about a file's layout.
 pub enum LayoutAnswer {
     Accepted(Layout),
     Refused(Refusal),
 }
 
+// The answer to a question about one block of a file.
 pub enum BlockAnswer {
     Found(Block),
     NoSuchBlock,
     Refused(Refusal),
 }
 
+// The answer to a question about one row of a stored outline.
 pub enum RowAnswer {
     Found(Row),
     NoSuchRow,
     Refused(Refusal),
 }
 
-// Of a question for a number, and of a writer: how many bytes it wrote.
+// The answer to a question for a number, or of a writer: how many bytes it wrote.
 pub enum CountAnswer {
     Counted(u64),
     Refused(Refusal),
 }
 
 impl CountAnswer {
-    // The refusal with this number, at this place of what was lent.
+    // Makes the refusal with this number, at this place of what was lent.
     pub fn refuse(number: u8, place: usize) -> CountAnswer
         ensures { λ r. ⌜ r ≡ CountAnswer.Refused (refusal number place) ⌝ }
     {
@@ -38,12 +41,13 @@ impl CountAnswer {
     }
 }
 
-// The outline of a file, and its layout beside it.
+// The outline of a file, along with its layout.
 pub struct OutlinedAnswer {
     pub layout: LayoutAnswer,
     pub written: CountAnswer,
 }
 
+// The answer of an edit, which changes the lent file.
 pub enum EditAnswer {
     Edited,
     Refused(Refusal),

@@ -1,4 +1,4 @@
-// The types of every answer about an ASDF file, and in specs/ the meaning of the file format.
+// The types of every answer about an ASDF file. The meaning of the file format is in specs/.
 pub mod answer;
 pub mod block;
 pub mod layout;

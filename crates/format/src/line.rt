@@ -1,7 +1,7 @@
 // How a line ends.
 pub enum LineEnd {
-    // 0A
+    // The byte 0A.
     Lf,
-    // 0D 0A
+    // The bytes 0D 0A.
     Crlf,
 }

@@ -1,4 +1,4 @@
-// Offsets inside a file and offsets in the outermost file, kept apart by their types.
+// Offsets inside a file and offsets in the outermost file. Their types keep them apart.
 ghost use mathlib.Core.Path.{_≡_};
 ghost use Rattle.format.specs.Bytes.{wrapped};
 
@@ -9,13 +9,14 @@ pub struct Offset(pub u64);
 pub struct OutermostOffset(u64);
 
 impl OutermostOffset {
-    // Where the outermost file starts.
+    // Returns where the outermost file starts.
     pub fn start() -> OutermostOffset
         ensures { λ r. ⌜ r .0 ≡ 0 ⌝ }
     {
         OutermostOffset(0)
     }
 
+    // Returns the offset as a plain number.
     pub fn number(self) -> u64
         ensures { λ r. ⌜ r ≡ self .0 ⌝ }
     {
@@ -24,8 +25,8 @@ impl OutermostOffset {
 }
 
 impl Offset {
-    // The same byte, counted in the outermost file: the one way from inside a file to the outermost.
-    // `content` is where the file's own first byte stands.
+    // Returns the offset of the same byte in the outermost file. This is the only conversion from inside a file to the
+    // outermost file. `content` is where the first byte of this file is.
     pub fn outermost(self, content: OutermostOffset) -> OutermostOffset
         ensures { λ r. ⌜ r .0 ≡ wrapped (content .0) (self .0) ⌝ }
     {

@@ -1,16 +1,16 @@
-// What is turned away.
+// Refusals: their numbers and places.
 ghost use mathlib.Core.Path.{_≡_};
 ghost use Rattle.format.specs.Outcome.{refusal};
 use crate::offset::Offset;
 
-// The number says why, as in docs/REFUSALS.md. The place is where.
+// The number says why something was refused, as in docs/REFUSALS.md. The place says where.
 pub struct Refusal {
     pub number: u8,
     pub place: Offset,
 }
 
 impl Refusal {
-    // The refusal with this number, at this place of what was lent.
+    // Makes the refusal with this number, at this place of what was lent.
     pub fn new(number: u8, place: usize) -> Refusal
         ensures { λ r. ⌜ r ≡ refusal number place ⌝ }
     {
@@ -21,7 +21,7 @@ impl Refusal {
     }
 }
 
-// The numbers, by the names that the C header gives them. The definitions in specs/ say when each is given.
+// The numbers, under the names that the C header gives them. The definitions in specs/ say when each is given.
 pub const FILE_TOO_LONG: u8 = 1;
 
 pub const NOT_ASDF: u8 = 2;
