@@ -21,13 +21,13 @@ unfoldable pub layoutAnswer : LayoutAnswer → Outcome Layout
 layoutAnswer (LayoutAnswer·is.Accepted l) = accepted l
 layoutAnswer (LayoutAnswer·is.Refused r) = refused r
 
--- What the answer to a question about one block says. It is no refusal if there is no such block.
+-- What the answer to a question about one block says. That there is no such block is not a refusal.
 unfoldable pub blockAnswer : BlockAnswer → Outcome (Option Block)
 blockAnswer (BlockAnswer·is.Found b) = accepted (some b)
 blockAnswer BlockAnswer·is.NoSuchBlock = accepted none
 blockAnswer (BlockAnswer·is.Refused r) = refused r
 
--- What the answer to a question about one row says. It is no refusal if there is no such row.
+-- What the answer to a question about one row says. That there is no such row is not a refusal.
 unfoldable pub rowAnswer : RowAnswer → Outcome (Option Row)
 rowAnswer (RowAnswer·is.Found b) = accepted (some b)
 rowAnswer RowAnswer·is.NoSuchRow = accepted none

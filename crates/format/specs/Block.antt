@@ -9,8 +9,7 @@ use Rattle.format.specs.declared.block.Block.{Block}
 use Rattle.format.specs.Bytes.{Bytes, number}
 use Rattle.format.specs.Outcome.{Outcome, accepted, need, _>>_}
 
--- The header size. In this definition and the next seven, which are the fields of the header, `t` is the rest of the
--- file from the block's first byte.
+-- The header size. For this field and the seven fields below, `t` is the rest of the file from the block's first byte.
 abbrev pub headerSize : Bytes → ℕ
 headerSize t = number 4 2 t
 
@@ -62,7 +61,7 @@ isCompressed name = not (eqb name 0)
 abbrev pub hasChecksum : ℕ → ℕ → Bool
 hasChecksum high low = not (eqb high 0) || not (eqb low 0)
 
--- Where the content begins.
+-- Where the content begins in `t`.
 abbrev pub contentStart : Bytes → ℕ
 contentStart t = 6 + headerSize t
 

@@ -50,7 +50,7 @@ markAhead t = elim (ltb (freeSpace t) (length t)) [ true ↦ some (freeSpace t) 
 unfoldable pub nextBlock : Bytes → Option ℕ
 nextBlock t = elim (begins indexLine t) [ true ↦ none | false ↦ markAhead t ]
 
--- The end of the chain at offset `n`, if no block follows; `t` is the rest of the file from there.
+-- The end of the chain at offset `n`, where no block follows; `t` is the rest of the file from there.
 unfoldable pub tail : ℕ → Bytes → Outcome Chain
 tail n t = do
   need (isTail t) 17 n

@@ -109,7 +109,7 @@ storedRows b = do
   rs ← stored b
   accepted (flatMap encodeStoredRow rs)
 
--- The bytes of what was found, if anything was. `fields` gives its numbers. If nothing was found, there are no bytes.
+-- The bytes of what was found; `fields` gives its numbers. If nothing was found, there are no bytes.
 unfoldable pub foundNumbers : {A : Type 0} → (A → List ℕ) → Option A → Bytes
 foundNumbers fields none = []
 foundNumbers fields (some x) = numberBytes (fields x)

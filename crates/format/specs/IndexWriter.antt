@@ -1,4 +1,4 @@
--- The index that is written for a file, and what it means that an index is good after the file's last block.
+-- The index that is written for a file, and what it means for an index to be good after the file's last block.
 use Prim.Native.Nat.{ℕ, _≤_}
 use mathlib.Core.Path.{_≡_}
 use mathlib.Core.Bool.{Bool, false, not}

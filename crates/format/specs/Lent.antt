@@ -28,6 +28,6 @@ leaves (refused r) out = out
 abbrev pub bothFit : Bytes → Bytes → Bytes → Bytes → Bool
 bothFit b t rows out = leb (length b) (length rows) && leb (length t) (length out)
 
--- The buffer with these bytes at its start if `fit` is true. Otherwise the buffer as it was.
+-- The buffer with these bytes at its start if `fit` is true; otherwise the buffer as it was.
 abbrev pub putIf : Bool → Bytes → Bytes → Bytes
 putIf fit buffer bytes = elim fit [ true ↦ placed buffer 0 bytes | false ↦ buffer ]

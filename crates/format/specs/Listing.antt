@@ -68,6 +68,6 @@ outlineBytes (refused r) = []
 unfoldable pub outlineFor : Bytes → Bytes
 outlineFor s = elim (leb (length s) mostInput) [ true ↦ outlineBytes (outline s) | false ↦ [] ]
 
--- How many bytes the program lends for each of the two.
+-- The length of the buffer that the program lends for each of the two, the text and the outline.
 abbrev pub lentBytes : ℕ
 lentBytes = 65536

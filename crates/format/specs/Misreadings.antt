@@ -43,7 +43,7 @@ abbrev pub misreadings : List Example
 misreadings =
     -- A mark inside a tree does not begin a block.
     Reads (fileA ++ text "%YAML 1.1\n---\n" ++ mark ++ text "\n...\n") (layoutOfA (treeAt 12 35 35) 0 Absent)
-    -- Three characters on a line do not end the tree, and neither does `...` followed by two 0D.
+    -- A line of three characters other than `...` does not end the tree, and neither does `...` followed by two 0D.
     ∷ Reads (fileA ++ text "%YAML 1.1\n---\nabc\n...\r\r\n...\r\n ") (layoutOfA (treeAt 12 41 42) 0 Absent)
     -- A size of all FF does not wrap around.
     ∷ Reads (fileA ++ blockHeader 48 0xFFFF_FFFF_FFFF_FFFF 0 0) (refused (refusal 15 12))
@@ -54,7 +54,7 @@ misreadings =
     ∷ States (fileA ++ blockHolding (text "#ASDF ") ++ emptyBlock) (accepted (Refused (refusal 3 6) ∷ Plain ∷ []))
     -- That refusal is in the record of its block, after the inner state 2.
     ∷ Records (fileA ++ blockHolding (text "#ASDF ")) ((0 ∷ 12 ∷ 2 ∷ 3 ∷ 6 ∷ 0 ∷ 12 ∷ 48 ∷ 0 ∷ 0 ∷ 6 ∷ 6 ∷ 6 ∷ 0 ∷ 0 ∷ []) ∷ [])
-    -- Files are read eight deep. A ninth is too deep.
+    -- Files are read eight deep. The ninth is too deep.
     ∷ States (nested 7) (accepted (replicate 7 Opened ++ (Plain ∷ [])))
     ∷ States (nested 8) (accepted (replicate 7 Opened ++ (TooDeep ∷ [])))
     -- The listing of the nine files: too deep is 3.
@@ -71,11 +71,12 @@ misreadings =
     ++ text "index absent\n")
     -- An index line among the comments is not a comment.
     ∷ Reads (fileA ++ text "#ASDF BLOCK INDEX\n%YAML 1.1\n--- [12]\n...\n") (refused (refusal 6 12))
-    -- An index without a number does not have the form. A number above 2^32 is another list.
+    -- An index without a number does not have the form. With a number above 2^32 it has the form, and its list is
+    -- another one.
     ∷ Reads (fileB ++ indexWith []) (layoutOfA NoTree 1 IgnoredForm)
     ∷ Reads (fileB ++ indexWith (text "4294967308")) (layoutOfA NoTree 1 IgnoredList)
-    -- An index with dashes has spaces only after a number, also before a line end of two bytes. Zero bytes may follow
-    -- the index.
+    -- In an index with dashes, extra spaces may come only after a number, also before a line end of two bytes. Zero
+    -- bytes may follow the index.
     ∷ Reads (fileB ++ indexOfLines (text "---\n- 12\n")) (layoutOfA NoTree 1 Good)
     ∷ Reads (fileB ++ indexOfLines (text "---\r\n- 12  \r\n") ++ (0 ∷ [])) (layoutOfA NoTree 1 Good)
     ∷ Reads (fileB ++ indexOfLines (text "---\n-  12\n")) (layoutOfA NoTree 1 IgnoredForm)
@@ -94,10 +95,10 @@ misreadings =
     ∷ Reads (fileB ++ indexOfLines (text "--- \n- 12\n")) (layoutOfA NoTree 1 IgnoredForm)
     ∷ Reads (fileB ++ indexOfLines (text "--- [12]\n- 12\n")) (layoutOfA NoTree 1 IgnoredForm)
     ∷ Reads (fileB ++ indexOfLines (text "---\n[12]\n")) (layoutOfA NoTree 1 IgnoredForm)
-    -- A file may have 64 blocks. The mark of one more is refused.
+    -- A file may have 64 blocks. At the mark of one more it is refused.
     ∷ Reads (fileA ++ copies 64 emptyBlock) (layoutOfA NoTree 64 Absent)
     ∷ Reads (fileA ++ copies 64 emptyBlock ++ mark) (refused (refusal 16 3468))
-    -- The next block is at the first mark. Zeros, a part of a mark or the end of the block before belong to no mark.
+    -- The next block is at the first mark. Zeros, a part of a mark or the end of the preceding block belong to no mark.
     ∷ Lists (fileB ++ (0 ∷ []) ++ emptyBlock) (text "tree none\n0 0 12 48 0 0 0 0 0 0\n0 1 67 48 0 0 0 0 0 0\nindex absent\n")
     ∷ Lists (fileB ++ (0xD3 ∷ 0x42 ∷ 0x4C ∷ []) ++ emptyBlock) (text "tree none\n0 0 12 48 0 0 0 0 0 0\n0 1 69 48 0 0 0 0 0 0\nindex absent\n")
     ∷ Lists (fileA ++ blockHolding (0xD3 ∷ 0x42 ∷ []) ++ (0x4C ∷ 0x4B ∷ []) ++ emptyBlock)
@@ -133,7 +134,7 @@ misreadings =
     ∷ Indexes (text "#ASDF 1.0.0\r\r\n" ++ emptyBlock) (refused (refusal 3 6))
     -- The listing does not say which line end the header has.
     ∷ Lists (dosA ++ emptyBlock) (text "tree none\n0 0 13 48 0 0 0 0 0 0\nindex absent\n")
-    -- An edit to an equal text turns the free space into spaces. A text ends with its tree.
+    -- An edit to an equal text turns the free space into spaces. The new text has to end with its tree.
     ∷ Edits (fileA ++ text "%YAML 1.1\n---\n...\nxx") (text "%YAML 1.1\n---\n...\n") (accepted (fileA ++ text "%YAML 1.1\n---\n...\n  "))
     ∷ Edits (fileA ++ text "%YAML 1.1\n---\n...\nxx") (text "%YAML 1.1\n---\n...\n ") (refused (refusal 19 0))
     ∷ []

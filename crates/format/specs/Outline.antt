@@ -118,7 +118,7 @@ unfoldable pub isRow : ℕ → Row → Bool
 isRow most r = leb (suc (r .ordinal)) mostBlocks && leb leastHeader (r .«header_size») && leb (r .used) (r .allocated) && leb (r .depth) most
 
 -- The stored rows from offset `n`; `b` is the rest of the stored outline from there. The first argument is how many
--- rows there are, and `most` is the highest depth of the first row.
+-- rows there are, and `most` is the highest depth that the first row may have.
 unfoldable pub storedFrom : ℕ → ℕ → ℕ → Bytes → Outcome (List Row)
 storedFrom zero n most b = accepted []
 storedFrom (suc k) n most b = do

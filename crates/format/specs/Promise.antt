@@ -101,7 +101,8 @@ pub record Done (s t after : Bytes) (r : EditAnswer) : Type 0 where
   pub edited : r ≡ EditAnswer·is.Edited → Edited s t after
 
 -- The outline `b` and the text `t` are put at the start of two buffers if both fit. Otherwise neither buffer changes.
--- `rows` and `out` are the buffers before, `rowsAfter` and `outAfter` are the buffers then, and `r` is the answer.
+-- `rows` and `out` are the buffers before, and `rowsAfter` and `outAfter` are the same buffers afterwards. `r` is the
+-- answer.
 pub record BothPut (b t rows out rowsAfter outAfter : Bytes) (r : CountAnswer) : Type 0 where
   pub answer : countAnswer r ≡ _>>_ (need (bothFit b t rows out) 21 0) (accepted (length t))
   pub outline-put : rowsAfter ≡ putIf (bothFit b t rows out) rows b
@@ -120,8 +121,8 @@ pub record ListedLent (s rows out rowsAfter outAfter : Bytes) (n : ℕ) : Type 0
   pub size : n ≡ length (take n outAfter)
   pub text : take n outAfter ≡ listing s
 
--- `r` is the number that is returned for this answer. If fewer than 2^56 bytes were lent in all, `r` stands for no
--- other answer. `lent` is how many bytes were lent.
+-- `r` is the number that is returned for this answer, and `lent` is how many bytes were lent in all. If they are fewer
+-- than 2^56, `r` stands for no other answer.
 pub record Returned (answer : Outcome ℕ) (lent r : ℕ) : Type 0 where
   pub is : r ≡ word answer
   pub says : lent < leastRefusal → said r ≡ answer

@@ -22,7 +22,7 @@ endLine = text "..."
 abbrev pub isStart : Bytes → Bool
 isStart t = same t (text "---") || begins (text "--- ") t
 
--- Whether a line may come between the first line and the start line.
+-- Whether a line may come between the first line and the start line: it begins with `%` or `#`.
 abbrev pub isDirective : Bytes → Bool
 isDirective t = begins (text "%") t || begins (text "#") t
 

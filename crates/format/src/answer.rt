@@ -26,7 +26,7 @@ pub enum RowAnswer {
     Refused(Refusal),
 }
 
-// The answer to a question for a number, or of a writer: how many bytes it wrote.
+// The answer to a question for a number. A writer answers how many bytes it wrote.
 pub enum CountAnswer {
     Counted(u64),
     Refused(Refusal),
@@ -41,13 +41,13 @@ impl CountAnswer {
     }
 }
 
-// The outline of a file, along with its layout.
+// The answer for the outline of a file, together with the answer for its layout.
 pub struct OutlinedAnswer {
     pub layout: LayoutAnswer,
     pub written: CountAnswer,
 }
 
-// The answer of an edit, which changes the lent file.
+// The answer of an edit. The edited bytes are in the lent file.
 pub enum EditAnswer {
     Edited,
     Refused(Refusal),

@@ -54,8 +54,8 @@ pub fn is_compressed(name: u64) -> bool
     name != 0
 }
 
-// Whether these two halves of a checksum state one. Zeros in both mean that there is none. Both are tested, with no
-// branch.
+// Whether these two halves of a checksum state one. Zeros in both mean that there is none. Both halves are tested,
+// without a branch.
 pub fn has_checksum(high: u64, low: u64) -> bool
     ensures { λ r. ⌜ r ≡ hasChecksum high low ⌝ }
 {

@@ -2,10 +2,10 @@
 ghost use mathlib.Core.Path.{_≡_};
 ghost use Rattle.format.specs.Bytes.{wrapped};
 
-// Counts from the first byte of what was lent: a file at any depth, or a stored outline.
+// An offset from the first byte of what was lent: a file at any depth, or a stored outline.
 pub struct Offset(pub u64);
 
-// Counts from the first byte of the outermost file. Only this module can make one.
+// An offset from the first byte of the outermost file. Only this module can make one.
 pub struct OutermostOffset(u64);
 
 impl OutermostOffset {
@@ -26,7 +26,7 @@ impl OutermostOffset {
 
 impl Offset {
     // Returns the offset of the same byte in the outermost file. This is the only conversion from inside a file to the
-    // outermost file. `content` is where the first byte of this file is.
+    // outermost file. `content` is where the first byte of this file is in the outermost file.
     pub fn outermost(self, content: OutermostOffset) -> OutermostOffset
         ensures { λ r. ⌜ r .0 ≡ wrapped (content .0) (self .0) ⌝ }
     {
