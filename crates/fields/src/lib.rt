@@ -1,4 +1,4 @@
-// What is reported of a file, a block and a row, as lists of numbers.
+// The lists of numbers in which a file, a block and a row are reported.
 ghost use Prim.Native.Nat.{_<_};
 ghost use mathlib.Core.Path.{_≡_};
 ghost use Rattle.format.specs.Bytes.{bit as Bytes·bit};
@@ -13,8 +13,8 @@ use format::layout::Verdict;
 use format::line::LineEnd;
 use format::row::Row;
 
-// A layout: the version, the header's end, the comments' end, the tree, the number of blocks, the verdict, and the header's
-// line end.
+// Returns the numbers of a layout: the version, the end of the header, the end of the comments, the tree, the number of
+// blocks, the verdict and the header's line end.
 pub fn layout_fields(l: Layout) -> [u64; 12]
     ensures { λ r. ⌜ r ≡ layoutFields l ⌝ }
 {
@@ -40,7 +40,7 @@ pub fn layout_fields(l: Layout) -> [u64; 12]
     ]
 }
 
-// Whether there is a tree, its start, its end and the end of its room.
+// Returns whether there is a tree, its start, its end and the end of its room.
 fn tree_fields(t: Tree) -> [u64; 4]
     ensures { λ r. ⌜ r ≡ treeFields t ⌝ }
 {
@@ -54,7 +54,7 @@ fn tree_fields(t: Tree) -> [u64; 4]
     }
 }
 
-// The verdict on the block index.
+// Returns the number of a verdict on the block index.
 fn verdict_number(v: Verdict) -> u64
     ensures { λ r. ⌜ r ≡ verdictNumber v ⌝ }
 {
@@ -66,7 +66,7 @@ fn verdict_number(v: Verdict) -> u64
     }
 }
 
-// The line end of the header.
+// Returns the number of the header's line end.
 fn line_end_number(e: LineEnd) -> u64
     ensures { λ r. ⌜ r ≡ lineEndNumber e ⌝ }
 {
@@ -76,7 +76,7 @@ fn line_end_number(e: LineEnd) -> u64
     }
 }
 
-// A block: its ordinal, place, header size, flags, compression, sizes and checksum.
+// Returns the numbers of a block: its ordinal, offset, header size, flags, compression, sizes and checksum.
 pub fn block_fields(b: Block) -> [u64; 10]
     ensures { λ r. ⌜ r ≡ blockFields b ⌝ }
 {
@@ -94,7 +94,7 @@ pub fn block_fields(b: Block) -> [u64; 10]
     ]
 }
 
-// The number of an inner state.
+// Returns the number of an inner state.
 pub fn inner_number(inner: Inner) -> u8
     ensures { λ n. ⌜ n ≡ innerNumber inner ⌝ }
 {
@@ -106,7 +106,7 @@ pub fn inner_number(inner: Inner) -> u8
     }
 }
 
-// The number and place of an inner file's refusal, or zeros.
+// Returns the number and the place of an inner file's refusal, or zeros if there is none.
 fn refusal_fields(inner: Inner) -> [u64; 2]
     ensures { λ r. ⌜ r ≡ refusalFields inner ⌝ }
 {
@@ -118,7 +118,8 @@ fn refusal_fields(inner: Inner) -> [u64; 2]
     }
 }
 
-// A record: its depth, its offset in the outermost file, the inner state with its refusal, the block.
+// Returns the numbers of a record: its depth, its offset in the outermost file, the inner state with its refusal, and
+// the block.
 pub fn record_fields(r: Record) -> [u64; 15]
     ensures { λ x. ⌜ x ≡ recordFields r ⌝ }
 {
@@ -145,7 +146,8 @@ pub fn record_fields(r: Record) -> [u64; 15]
     ]
 }
 
-// A row: its depth, ordinal, offset, header size and sizes, its flags and its inner state.
+// Returns the numbers of a row: its depth, ordinal, offset, header size, allocated and used size, flags and inner
+// state.
 pub fn row_fields(r: Row) -> [u64; 10]
     ensures { λ x. ⌜ x ≡ rowFields r ⌝ }
 {
@@ -163,7 +165,7 @@ pub fn row_fields(r: Row) -> [u64; 10]
     ]
 }
 
-// A flag as a number.
+// Returns a flag as a number: 1 if it is set, otherwise 0.
 pub fn bit(b: bool) -> u64
     ensures { λ n. ⌜ (n ≡ Bytes·bit b) × (n < 2) ⌝ }
 {

@@ -1,4 +1,4 @@
--- Each state has its number.
+-- Each inner state has its number.
 use borrow.Author.Needs.{needs}
 use Rattle.format.specs.Outline.{innerNumber}
 use Rattle.fields.proofs.inner_number.Statement.{statement}

@@ -1,4 +1,4 @@
--- The tree's four numbers stand among the layout's.
+-- The four numbers of the tree are among the numbers of the layout.
 use borrow.Author.Needs.{needs}
 use Rattle.fields.proofs.FieldLaws.{layout-four}
 use Rattle.fields.proofs.layout_fields.Statement.{statement}

@@ -1,4 +1,4 @@
--- The inner state's number, its refusal's and the block's stand among the record's.
+-- The numbers of the inner state, of its refusal and of the block are among the numbers of the record.
 use borrow.Author.Needs.{needs}
 use Rattle.fields.proofs.FieldLaws.{record-numbers}
 use Rattle.fields.proofs.record_fields.Statement.{statement}

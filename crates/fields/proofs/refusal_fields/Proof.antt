@@ -1,4 +1,4 @@
--- Only a refused state has numbers to give.
+-- Only a refused inner state has numbers to report. The other states give zeros.
 use borrow.Author.Needs.{needs}
 use Rattle.fields.proofs.FieldLaws.{fields-refused}
 use Rattle.fields.proofs.refusal_fields.Statement.{statement}

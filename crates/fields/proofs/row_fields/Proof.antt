@@ -1,4 +1,4 @@
--- The offset and the flags stand among the row's numbers.
+-- The offset and the flags are among the numbers of the row.
 use borrow.Author.Needs.{needs}
 use Rattle.fields.proofs.FieldLaws.{row-numbers}
 use Rattle.fields.proofs.row_fields.Statement.{statement}

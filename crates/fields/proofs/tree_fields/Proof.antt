@@ -1,4 +1,4 @@
--- Each arm gives its tree's numbers.
+-- Each arm of the match gives the numbers of its tree.
 use borrow.Author.Needs.{needs}
 use Rattle.fields.proofs.FieldLaws.{tree-found}
 use Rattle.fields.proofs.tree_fields.Statement.{statement}
