@@ -1,4 +1,5 @@
--- The rules of stored rows, and the count of the rows: what is left to count is what was to be counted.
+-- Laws about the rules of stored rows and about counting them. The invariant of the count: counting on from any row
+-- gives the count of the whole outline.
 use Prim.Native.Nat.{ℕ, suc, _+_, _-_, _/_, _%_, _≤_, _<_}
 use native.Mathlib.Nat.{zero-add, mod-lt}
 use native.Mathlib.Omega.{arith}
@@ -22,61 +23,62 @@ use Rattle.format.specs.Outcome.{Outcome, accepted, refused, refusal, need, _>>
 use Rattle.format.specs.Outline.{rowBytes, rowFrom, unpacked, decodeRow, isRow, storedFrom, stored, storedCount}
 
 module _ (r : Row) (most : ℕ) where
-  -- the ordinal is too high
+  -- If the ordinal is too high, then the row breaks the rules.
   pub ordinal-high : mostBlocks ≤ r .ordinal → false ≡ isRow most r
   unfolding isRow
   ordinal-high h = rw (isRow, lt-leb (suc (r .ordinal)) mostBlocks (omega arith))
 
-  -- the header is too short
+  -- If the header size is too small, then the row breaks the rules.
   pub header-short : r .«header_size» < leastHeader → false ≡ isRow most r
   unfolding isRow
   header-short h = rw (isRow, lt-leb leastHeader (r .«header_size») h, and-false)
 
-  -- more is used than is allocated
+  -- If the used size is larger than the allocated size, then the row breaks the rules.
   pub used-high : r .allocated < r .used → false ≡ isRow most r
   unfolding isRow
   used-high h = rw (isRow, lt-leb (r .used) (r .allocated) h, and-false)
 
-  -- of other rows the depth decides
+  -- If a row keeps these three rules, then its depth decides.
   pub depth-decides : r .ordinal < mostBlocks → leastHeader ≤ r .«header_size» → r .used ≤ r .allocated
       → leb (r .depth) most ≡ isRow most r
   unfolding isRow
   depth-decides o h u =
       rw (isRow, le-leb (suc (r .ordinal)) mostBlocks (omega arith), le-leb leastHeader (r .«header_size») h, le-leb (r .used) (r .allocated) u)
 
--- a depth has three bits
+-- A depth that is read from a row has three bits, so it is below 8.
 depth-small : (b : Bytes) → decodeRow b .depth < 8
 unfolding decodeRow rowFrom unpacked
 depth-small b = mod-lt _ (omega arith)
 
--- so one more fits a byte
+-- Hence a depth that is one higher fits into a byte.
 pub depth-fits : (r : Row) (b : Bytes) → r ≡ decodeRow b → Fits w8 (r .depth + 1)
 depth-fits r b e = rw e (omega (arith, depth-small b))
 
--- rows counted after n others
+-- The number of rows in `o`, added to the `n` rows that were counted before.
 abbrev pub countedFrom : ℕ → Outcome (List Row) → Outcome ℕ
 countedFrom n o = do
   rs ← o
   accepted (n + length rs)
 
--- the rows before an offset are accepted, and what is left to count is what was to be counted
+-- The invariant of the count: the rows before offset `at` are accepted, and counting on from there gives the count of
+-- the whole outline.
 pub record Counting (b : Bytes) (at most : ℕ) : Type 0 where
   pub whole : length b % rowBytes ≡ 0
   pub begin : at % rowBytes ≡ 0
   pub inside : at ≤ length b
   pub left : countedFrom (at / rowBytes) (storedFrom ((length b - at) / rowBytes) at most (drop at b)) ≡ storedCount b
 
--- the bytes are no whole rows
+-- If the bytes are not a whole number of rows, then the count is refused with number 23 at place 0.
 pub count-parts : (b : Bytes) (a : CountAnswer) → a ≡ Refused (refusal 23 0) → (length b % rowBytes ≡ 0 → ⊥) → countAnswer a ≡ storedCount b
 unfolding countAnswer storedCount stored
 count-parts b a e h = rw (e, ne-eqb (length b % rowBytes) 0 h)
 
--- rows counted after none are counted alone
+-- If no rows were counted before, then the count is the number of rows in `o`.
 counted-alone : (o : Outcome (List Row)) → countedFrom 0 o ≡ _>>=_ o (λ rs. accepted (length rs))
 counted-alone (accepted rs) = ap accepted (zero-add (length rs))
 counted-alone (refused r) = refl
 
--- no row is read yet
+-- If the bytes are a whole number of rows, then the invariant holds at offset 0, where no row is read yet.
 pub count-start : (b : Bytes) → length b % rowBytes ≡ 0 → Counting b 0 0
 unfolding storedCount stored
 count-start b h =
@@ -89,21 +91,21 @@ count-start b h =
       left = rw (all, storedCount, stored, eq-eqb (length b % rowBytes) 0 h) (counted-alone rows);
     }
 
--- a row that is tested, and the rows after it
+-- The row `r` and the rows after it. If the test `x` on `r` fails, the refusal is number 24 at place `at`.
 abbrev rowAnd : Bool → ℕ → Row → Outcome (List Row) → Outcome (List Row)
 rowAnd x at r others = do
   need x 24 at
   rs ← others
   accepted (r ∷ rs)
 
--- a row in front of others counts one
+-- A row that passes the test and precedes others adds one to the count.
 counted-next : (n at : ℕ) (r : Row) (others : Outcome (List Row)) → countedFrom n (rowAnd true at r others) ≡ countedFrom (n + 1) others
 counted-next n at r (accepted rs) = ap accepted (omega arith)
 counted-next n at r (refused e) = refl
 
 module _ (b : Bytes) (at most : ℕ) (h : Counting b at most) (p : at < length b) where
   module _ (r : Row) (is : r ≡ decodeRow (take rowBytes (drop at b))) (x : Bool) (test : x ≡ isRow most r) where
-    -- what is left to count is the next row and the rows after it
+    -- Counting on with the next row and the rows after it gives the count of the whole outline.
     next-row : countedFrom (at / rowBytes) (rowAnd x at r (storedFrom ((length b - (at + rowBytes)) / rowBytes) (at + rowBytes) (r .depth + 1) (drop (at + rowBytes) b)))
         ≡ storedCount b
     unfolding storedFrom
@@ -111,12 +113,12 @@ module _ (b : Bytes) (at most : ℕ) (h : Counting b at most) (p : at < length b
         let more : (length b - at) / rowBytes ≡ suc ((length b - (at + rowBytes)) / rowBytes) = omega arith in
         rw (test, is, ← drop-drop rowBytes at b) (rw more at (h .left))
 
-    -- it is against the rules
+    -- If the next row breaks the rules, then the count is refused with number 24 at the offset of that row.
     pub count-bad : not x ≡ true → (a : CountAnswer) → a ≡ Refused (refusal 24 at) → countAnswer a ≡ storedCount b
     unfolding countAnswer
     count-bad e a f = rw f (rw (not-true x e) at next-row)
 
-    -- it keeps the rules
+    -- If the next row keeps the rules, then the invariant also holds at the end of that row.
     pub count-step : not x ≡ false → Counting b (at + rowBytes) (r .depth + 1)
     count-step e =
         let more : at / rowBytes + 1 ≡ (at + rowBytes) / rowBytes = omega arith in
@@ -127,7 +129,7 @@ module _ (b : Bytes) (at most : ℕ) (h : Counting b at most) (p : at < length b
           left = rw (← more, ← counted-next (at / rowBytes) at r _) (rw (not-false x e) at next-row);
         }
 
--- all rows are read
+-- If all rows are read, then the count is the number of rows in the bytes.
 pub count-done : (b : Bytes) (at most : ℕ) → Counting b at most → length b ≤ at → countAnswer (Counted (length b / rowBytes)) ≡ storedCount b
 unfolding countAnswer storedFrom
 count-done b at most h p =

@@ -1,4 +1,4 @@
--- Laws of rows and of stored outlines.
+-- Laws about rows and stored outlines.
 pub mod RowLaws
 pub mod CountLaws
 pub mod StoredLaws

@@ -1,4 +1,5 @@
--- The rows of a stored outline that is counted are those in its bytes, sixteen for each.
+-- Laws about counted outlines: if the rows of a stored outline are counted, then they are the rows in its bytes,
+-- sixteen bytes for each.
 use Prim.Native.Nat.{ℕ, zero, suc, _+_, _*_, _/_, _%_, _^_, _≤_, _<_}
 use native.Mathlib.Omega.{arith}
 use mathlib.Core.Path.{_≡_, refl, ap, _∙_}
@@ -23,12 +24,12 @@ use Rattle.format.specs.Outline.{rowBytes, decodeRow, storedFrom, stored, store
 use Rattle.outline.specs.Row.{rowsIn}
 use Rattle.format.proofs.OutcomeLaws.{Accepts, accepted-holds, accepts-bind, accepts-need}
 
--- rs are all the rows in b
+-- `rs` are all the rows in `b`.
 pub record Read (b : Bytes) (rs : List Row) : Type 0 where
   pub size : length b ≡ length rs * rowBytes
   pub rows : rs ≡ rowsIn (length rs) b
 
--- a row and the rows after it
+-- If `rs` are all the rows after the first sixteen bytes, then the row in these bytes and `rs` are all the rows in `b`.
 read-next : (b : Bytes) (o : Outcome (List Row)) (rs : List Row) → rowBytes ≤ length b → Accepts (Read (drop rowBytes b)) o → o ≡ accepted rs
     → Read b (decodeRow (take rowBytes b) ∷ rs)
 read-next b o rs h others e =
@@ -38,7 +39,7 @@ read-next b o rs h others e =
       rows = ap (λ (l : List Row). decodeRow (take rowBytes b) ∷ l) (after .rows);
     }
 
--- what is accepted are the rows in the bytes
+-- If `b` has the length of `k` rows and they are accepted, then the accepted rows are all the rows in `b`.
 read-from : (k n most : ℕ) (b : Bytes) → length b ≡ k * rowBytes → Accepts (Read b) (storedFrom k n most b)
 unfolding storedFrom
 read-from zero n most b h = record { size = h; rows = refl }
@@ -47,19 +48,19 @@ read-from (suc k) n most b h =
     let long : rowBytes ≤ length b = omega arith in
     search (accepts-need, accepts-bind, read-next)
 
--- also of a whole outline
+-- If a whole outline is accepted, then its rows are all the rows in its bytes.
 pub read-stored : (b : Bytes) → Accepts (Read b) (stored b)
 unfolding stored
 read-stored b =
     accepts-need _ _ 23 0 _
     λ (e : eqb (length b % rowBytes) 0 ≡ true). read-from (length b / rowBytes) 0 0 b (omega (arith, eqb-true (length b % rowBytes) 0 e))
 
--- an outline of n rows
+-- `b` is an outline of `n` rows, which are the rows in its bytes.
 pub record HasRows (b : Bytes) (n : ℕ) : Type 0 where
   pub size : length b ≡ n * rowBytes
   pub is : stored b ≡ accepted (rowsIn n b)
 
--- where n rows are counted the outline has them
+-- If `n` rows are counted, then the outline has these `n` rows.
 pub has-rows : (b : Bytes) (a : CountAnswer) (n : ℕ) → countAnswer a ≡ storedCount b → a ≡ Counted n → HasRows b n
 unfolding countAnswer storedCount
 has-rows b a n h e = go (stored b) refl (read-stored b) (rw e at h)
@@ -70,7 +71,7 @@ has-rows b a n h e = go (stored b) refl (read-stored b) (rw e at h)
         record { size = rw l (read .size); is = rw l (q ∙ ap accepted (read .rows)) }
     go (refused r) q read c = let z : _≡_ {A = ℕ} 0 1 = cc in absurd (omega arith)
 
--- where the count is refused the outline is
+-- If the count is refused, then the outline is refused in the same way.
 pub no-rows : (b : Bytes) (a : CountAnswer) (r : Refusal) → countAnswer a ≡ storedCount b → a ≡ Refused r → stored b ≡ refused r
 unfolding countAnswer storedCount
 no-rows b a r h e = go (stored b) refl (rw e at h)
@@ -79,7 +80,7 @@ no-rows b a r h e = go (stored b) refl (rw e at h)
     go (accepted rs) q c = cc
     go (refused t) q c = cc
 
--- each row is in its sixteen bytes
+-- If `k` is below `n`, then row `k` is the row in its own sixteen bytes.
 row-in : (n k : ℕ) (b : Bytes) → k < n → getElem? (rowsIn n b) k ≡ some (decodeRow (take rowBytes (drop (k * rowBytes) b)))
 row-in zero k b h = absurd (omega arith)
 row-in (suc n) zero b h = refl
@@ -87,33 +88,33 @@ row-in (suc n) (suc k) b h =
     let e : suc k * rowBytes ≡ rowBytes + k * rowBytes = omega arith in
     rw (row-in n k (drop rowBytes b) (omega arith), drop-drop (k * rowBytes) rowBytes b, e)
 
--- there are no others
+-- If `k` is not below `n`, then there is no row `k`.
 row-out : (n k : ℕ) (b : Bytes) → n ≤ k → getElem? (rowsIn n b) k ≡ none
 row-out zero k b h = refl
 row-out (suc n) zero b h = absurd (omega arith)
 row-out (suc n) (suc k) b h = row-out n k (drop rowBytes b) (omega arith)
 
--- the outline is refused
+-- If the count is refused, then reading row `k` is refused in the same way.
 pub row-refused : (b : Bytes) (k : ℕ) (a : CountAnswer) (r : Refusal) → countAnswer a ≡ storedCount b → a ≡ Refused r
     → rowAnswer (RowAnswer·is.Refused r) ≡ storedAt b k
 unfolding rowAnswer storedAt
 row-refused b k a r h e = rw (storedAt, no-rows b a r h e)
 
 module _ (b : Bytes) (k : ℕ) (a : CountAnswer) (n : ℕ) (h : countAnswer a ≡ storedCount b) (e : a ≡ Counted n) where
-  -- there is no such row
+  -- If `k` is not below the count, then there is no such row.
   pub row-none : n ≤ k → rowAnswer RowAnswer·is.NoSuchRow ≡ storedAt b k
   unfolding rowAnswer storedAt
   row-none p = rw (storedAt, has-rows b a n h e .is, row-out n k b p)
 
-  -- there is, and it lies inside
+  -- If `k` is below the count, then row `k` is inside the bytes.
   pub row-inside : k < n → k * rowBytes + rowBytes ≤ length b
   row-inside p = omega (arith, has-rows b a n h e .size)
 
-  -- so its offset fits
+  -- Hence its offset fits into 64 bits.
   pub row-fits : k < n → length b < 2 ^ 64 → Fits w64 (k * rowBytes)
   row-fits p f = omega (arith, row-inside p)
 
-  -- and is the one asked for
+  -- If `k` is below the count, then the row in the sixteen bytes of row `k` is the one asked for.
   pub row-found : (r : Row) → k < n → r ≡ decodeRow (take rowBytes (drop (k * rowBytes) b)) → rowAnswer (RowAnswer·is.Found r) ≡ storedAt b k
   unfolding rowAnswer storedAt
   row-found r p f = rw (storedAt, has-rows b a n h e .is, row-in n k b p, f)

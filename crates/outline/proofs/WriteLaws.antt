@@ -1,4 +1,5 @@
--- The rows of a stored outline are put one after another in a form, and an outline that is accepted is written again as it was.
+-- Laws about writing the rows of a stored outline. They are put one after another in a form, and an accepted outline is
+-- written again as it was.
 use Prim.Native.Nat.{ℕ, zero, suc, _+_, _*_, _-_, _/_, _%_, _^_, _≤_, _<_}
 use native.Mathlib.Nat.{add-comm, suc-mul, div-lt-iff-lt-mul, le-div-iff-mul-le}
 use native.Mathlib.Omega.{arith}
@@ -30,13 +31,13 @@ use Rattle.outline.specs.Row.{rowsIn}
 use Rattle.outline.specs.Form.{formed, formBytes, formedRows, storedIn}
 use Rattle.outline.proofs.StoredLaws.{has-rows, no-rows}
 
--- every row takes the bytes of its form
+-- Every row takes as many bytes as its form states.
 formed-length : (form : RowForm) (r : Row) → length (formed form r) ≡ formBytes form
 unfolding encodeStoredRow
 formed-length AsStored r = encoded-length r
 formed-length AsNumbers r = numbers-length (rowFields r)
 
--- so do all of them
+-- Hence `n` rows take `n` times as many bytes.
 rows-length : (form : RowForm) (n : ℕ) (b : Bytes) → length (formedRows form (rowsIn n b)) ≡ n * formBytes form
 unfolding formedRows flatMap
 rows-length form zero b = sym (omega arith)
@@ -44,21 +45,22 @@ rows-length form (suc n) b =
     rw (length-append, formed-length, rows-length form n (drop rowBytes b), suc-mul) (add-comm (formBytes form) (n * formBytes form))
 
 module _ (form : RowForm) (r : Row) (out after : Bytes) (at : ℕ) where
-  -- a row is put as it is stored
+  -- If the form is `AsStored` and the stored bytes of a row are put, then the row is put in its form.
   pub put-stored : form ≡ AsStored → after ≡ placed out at (encodeRow r) → after ≡ placed out at (formed form r)
   put-stored f p = rw f p
 
-  -- or as its numbers
+  -- If the form is `AsNumbers` and the numbers of a row are put, then the row is put in its form.
   pub put-as-numbers : form ≡ AsNumbers → (numbers : List ℕ) → numbers ≡ rowFields r → after ≡ placed out at (numberBytes numbers)
       → after ≡ placed out at (formed form r)
   unfolding encodeStoredRow
   put-as-numbers f numbers e p = rw (f, encodeStoredRow, ← e) p
 
--- the rows from an offset on
+-- The rows of `b` from offset `from`, in a form.
 abbrev rowsFrom : RowForm → Bytes → ℕ → Bytes
 rowsFrom form b from = formedRows form (rowsIn ((length b - from) / rowBytes) (drop from b))
 
--- the rows before an offset are put: what is left to put is what was to be put, and there is room for it
+-- The invariant of the writer: the rows before offset `from` are put. There is room for the others at `to`, and putting
+-- them there gives the same buffer as putting all rows at its start.
 pub record Putting (form : RowForm) (b before out : Bytes) (from to : ℕ) : Type 0 where
   pub begin : from % rowBytes ≡ 0
   pub inside : from ≤ length b
@@ -66,7 +68,7 @@ pub record Putting (form : RowForm) (b before out : Bytes) (from to : ℕ) : Typ
   pub room : to + length (rowsFrom form b from) ≤ length out
   pub left : placed out to (rowsFrom form b from) ≡ placed before 0 (formedRows form (rowsIn (length b / rowBytes) b))
 
--- no row is put yet
+-- If there is room for all rows, then the invariant holds at the start, where no row is put yet.
 pub rows-start : (form : RowForm) (b out : Bytes) → length (formedRows form (rowsIn (length b / rowBytes) b)) ≤ length out
     → Putting form b out out 0 0
 rows-start form b out h =
@@ -75,7 +77,7 @@ rows-start form b out h =
 
 module _ (form : RowForm) (b before out : Bytes) (from to : ℕ) (h : Putting form b before out from to) where
   module _ (p : from < length b) (whole : length b % rowBytes ≡ 0) where
-    -- the next row, and the rows after it
+    -- The rows from offset `from` are the next row and the rows after it.
     next-row : rowsFrom form b from ≡ formed form (decodeRow (take rowBytes (drop from b))) ++ rowsFrom form b (from + rowBytes)
     unfolding formedRows flatMap
     next-row =
@@ -83,17 +85,17 @@ module _ (form : RowForm) (b before out : Bytes) (from to : ℕ) (h : Putting fo
         rw (more, ← drop-drop rowBytes from b)
 
     module _ (each : ℕ) (width : each ≡ formBytes form) where
-      -- there is room for it
+      -- There is room for the next row and the rows after it.
       next-room : to + each + length (rowsFrom form b (from + rowBytes)) ≤ length out
       next-room =
           let both = simp (length-append, formed-length) at (ap length next-row) in
           omega (arith, h .room)
 
-      -- so its end fits
+      -- Hence the end of the next row fits into 64 bits.
       pub next-fits : length before < 2 ^ 64 → Fits w64 (to + each)
       next-fits f = omega (arith, next-room, h .size)
 
-      -- it is put
+      -- If the next row is put, then the invariant also holds at the end of that row.
       pub rows-step : (r : Row) (after : Bytes) → r ≡ decodeRow (take rowBytes (drop from b)) → after ≡ placed out to (formed form r)
           → Putting form b before after (from + rowBytes) (to + each)
       rows-step r after e f =
@@ -111,25 +113,25 @@ module _ (form : RowForm) (b before out : Bytes) (from to : ℕ) (h : Putting fo
             left = rw long (both ∙ rw e (rw next-row at (h .left)));
           }
 
-  -- all rows are put
+  -- If no row is left, then all rows are put.
   pub rows-done : length b ≤ from → out ≡ placed before 0 (formedRows form (rowsIn (length b / rowBytes) b))
   unfolding formedRows flatMap
   rows-done p =
       let none : (length b - from) / rowBytes ≡ 0 = omega arith in
       placed-nothing out to (omega (arith, h .room)) ∙ rw none at (h .left)
 
--- the outline is refused
+-- If the count is refused, then the writer gives the same refusal and leaves the buffer unchanged.
 pub write-refused : (form : RowForm) (b out : Bytes) (a : CountAnswer) (r : Refusal) → countAnswer a ≡ storedCount b → a ≡ Refused r
     → Written (storedIn form b) out out (Refused r)
 unfolding storedIn
 write-refused form b out a r h e = written-refused (storedIn form b) out r (rw (storedIn, no-rows b a r h e)) (Refused r) refl
 
 module _ (form : RowForm) (b : Bytes) (a : CountAnswer) (m : ℕ) (h : countAnswer a ≡ storedCount b) (e : a ≡ Counted m) where
-  -- it is accepted, and has whole rows
+  -- If the outline is accepted, then its bytes are a whole number of rows.
   pub write-whole : length b % rowBytes ≡ 0
   write-whole = omega (arith, has-rows b a m h e .size)
 
-  -- its rows in the form
+  -- All rows of the outline in the form.
   abbrev rowsOf : Bytes
   rowsOf = formedRows form (rowsIn (length b / rowBytes) b)
 
@@ -143,24 +145,26 @@ module _ (form : RowForm) (b : Bytes) (a : CountAnswer) (m : ℕ) (h : countAnsw
     are-long : length rowsOf ≡ length b / rowBytes * each
     are-long = rows-length form (length b / rowBytes) b ∙ rw width
 
-    -- there is no room for them
+    -- If there is no room for the rows, then the writer refuses with number 21 at place 0 and leaves the buffer
+    -- unchanged.
     pub write-long : length out / each < length b / rowBytes → (x : CountAnswer) → x ≡ Refused (refusal 21 0)
         → Written (storedIn form b) out out x
     write-long p = written-short (storedIn form b) out rowsOf are-rows (rw are-long (div-lt-iff-lt-mul some .0 p))
 
     module _ (p : length b / rowBytes ≤ length out / each) where
-      -- there is
+      -- If the buffer is long enough for that many rows, then their bytes fit into it.
       pub write-room : length rowsOf ≤ length out
       write-room = rw are-long (le-div-iff-mul-le some .0 p)
 
       pub write-fits : length out < 2 ^ 64 → Fits w64 (length b / rowBytes * each)
       write-fits f = omega (arith, write-room, are-long)
 
-      -- they are put
+      -- If the rows are put at the start of the buffer, then they are written, and the answer is how many bytes they
+      -- have.
       pub write-done : (after : Bytes) → after ≡ placed out 0 rowsOf → Written (storedIn form b) out after (Counted (length b / rowBytes * each))
       write-done after f = written-placed (storedIn form b) out rowsOf are-rows write-room after f (length b / rowBytes * each) (sym are-long)
 
--- an outline that is written as it is stored is the same
+-- If an outline is written in the form in which it is stored, then the result is the same outline.
 pub written-again : (b before after : Bytes) (a : CountAnswer) → ((i : ℕ) → Fits w8 (getD b i 0)) → Written (storedIn AsStored b) before after a
     → WrittenAgain b before after a
 unfolding storedIn formedRows rewritten outlineOf

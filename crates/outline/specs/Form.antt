@@ -9,7 +9,7 @@ use Rattle.format.specs.Outline.{encodeRow, rowBytes, stored}
 use Rattle.outline.specs.declared.stored.RowForm.{RowForm}
 use Rattle.outline.specs.declared.stored.RowForm.the-variants.{AsStored, AsNumbers}
 
--- a row in a form, and how many bytes that are
+-- A row in a form, and how many bytes that is.
 abbrev pub formed : RowForm → Row → Bytes
 formed AsStored = encodeRow
 formed AsNumbers = encodeStoredRow
@@ -18,11 +18,11 @@ abbrev pub formBytes : RowForm → ℕ
 formBytes AsStored = rowBytes
 formBytes AsNumbers = storedRowBytes
 
--- rows in a form, one after another
+-- Rows in a form, one after another.
 unfoldable pub formedRows : RowForm → List Row → Bytes
 formedRows form rs = flatMap (formed form) rs
 
--- the rows of a stored outline in a form
+-- The rows of a stored outline in a form.
 unfoldable pub storedIn : RowForm → Bytes → Outcome Bytes
 storedIn form b = do
   rs ← stored b

@@ -1,3 +1,3 @@
--- What the contracts of rows and stored outlines cite.
+-- The definitions that the contracts of rows and stored outlines cite.
 pub mod Row
 pub mod Form

@@ -1,3 +1,3 @@
-// Outlines: a row as sixteen bytes and back, and the reader of stored outlines.
+// Outlines: writing a row as sixteen bytes, reading it back, and reading stored outlines.
 pub mod row;
 pub mod stored;

@@ -1,4 +1,4 @@
-// A row as sixteen bytes, and back.
+// Writes a row as sixteen bytes and reads it back.
 ghost use Prim.Native.Nat.{_+_, _≤_, _<_};
 ghost use mathlib.Core.Path.{_≡_};
 ghost use lib.ListN.{length, take, drop};
@@ -15,7 +15,7 @@ use format::offset::OutermostOffset;
 use format::row::Row;
 use scan::number;
 
-// Puts a row at an offset. Where it does not fit, nothing changes.
+// Puts a row at an offset. If it does not fit, nothing changes.
 pub fn put_row(out: &mut [u8], at: usize, r: Row)
     ensures { λ _. ⌜ now (out .exit) ≡ placed (now (out .entry)) at (encodeRow r) ⌝ }
 {
@@ -31,14 +31,14 @@ pub fn put_row(out: &mut [u8], at: usize, r: Row)
     put::put_number(out, at + 12, 4, r.used);
 }
 
-// The first four bytes of a row: its state, its ordinal and its header size.
+// Returns the first four bytes of a row as a number: its state, its ordinal and its header size.
 fn front(r: Row) -> u64
     ensures { λ n. ⌜ n ≡ frontOf r ⌝ }
 {
     (state(r) * 256 + r.ordinal as u64) * 65536 + r.header_size as u64
 }
 
-// The first byte of a row: its depth, its flags and its inner state.
+// Returns the first byte of a row: its depth, its flags and its inner state.
 fn state(r: Row) -> u64
     ensures { λ n. ⌜ (n ≡ stateOf r) × (n < 256) ⌝ }
 {
@@ -49,7 +49,8 @@ fn state(r: Row) -> u64
         + (r.inner % 4) as u64
 }
 
-// The row in the sixteen bytes at an offset, or that so many are not there. The rows around it are not looked at.
+// Reads the row in the sixteen bytes at an offset. If there are fewer bytes, there is no such row. The rows around it
+// are not looked at.
 pub fn read_row(s: &[u8], at: usize) -> RowAnswer
     ensures { λ r. ⌜ rowAnswer r ≡ accepted (rowAt (now (s .entry)) at) ⌝ }
 {
@@ -62,7 +63,7 @@ pub fn read_row(s: &[u8], at: usize) -> RowAnswer
     RowAnswer::Found(row_at(s, at))
 }
 
-// The same where they are there.
+// Reads the row in the sixteen bytes at an offset. The caller has to guarantee that they are there.
 pub(crate) fn row_at(s: &[u8], at: usize) -> Row
     requires { ⌜ at + rowBytes ≤ length (now s) ⌝ }
     ensures { λ r. ⌜ r ≡ decodeRow (take rowBytes (drop at (now (s .entry)))) ⌝ }
@@ -83,7 +84,7 @@ pub(crate) fn row_at(s: &[u8], at: usize) -> Row
     }
 }
 
-// The number in `width` bytes at an offset.
+// Reads the number in `width` bytes at an offset.
 fn field(s: &[u8], at: usize, width: usize) -> u64
     requires { ⌜ at + width ≤ length (now s) ⌝ }
     requires { ⌜ width ≤ 8 ⌝ }

@@ -1,4 +1,4 @@
-// Stored outlines.
+// Stored outlines: counts their rows, reads one of them, and writes them again.
 ghost use Prim.Native.Nat.{_/_, _%_, _≤_, _<_};
 ghost use mathlib.Core.Path.{_≡_};
 ghost use lib.ListN.{length};
@@ -21,7 +21,7 @@ use format::refusal::OUTLINE_LENGTH;
 use format::refusal::OUTLINE_ROW;
 use format::row::Row;
 
-// How many rows a stored outline has, or its refusal.
+// Returns how many rows a stored outline has, or its refusal.
 pub fn count(b: &[u8]) -> CountAnswer
     ensures { λ r. ⌜ countAnswer r ≡ storedCount (now (b .entry)) ⌝ }
 {
@@ -41,7 +41,7 @@ pub fn count(b: &[u8]) -> CountAnswer
     CountAnswer::Counted((b.len() / ROW_BYTES) as u64)
 }
 
-// Whether a row keeps the rules, at most so deep.
+// Whether a row keeps the rules and is at most `most` deep.
 fn is_row(r: Row, most: u8) -> bool
     ensures { λ x. ⌜ x ≡ isRow most r ⌝ }
 {
@@ -57,7 +57,7 @@ fn is_row(r: Row, most: u8) -> bool
     r.depth <= most
 }
 
-// The row of this number in a stored outline, that there is none, or the outline's refusal.
+// Reads row `k` of a stored outline. The answer is the row, that there is no such row, or the outline's refusal.
 pub fn row(b: &[u8], k: u64) -> RowAnswer
     ensures { λ r. ⌜ rowAnswer r ≡ storedAt (now (b .entry)) k ⌝ }
 {
@@ -79,7 +79,7 @@ pub fn rewrite(b: &[u8], out: &mut [u8]) -> CountAnswer
     write(b, RowForm::AsStored, out)
 }
 
-// Reads a stored outline and writes its rows as numbers, each in eight bytes.
+// Reads a stored outline and writes its rows as numbers, each number in eight bytes.
 pub fn rows(b: &[u8], out: &mut [u8]) -> CountAnswer
     ensures { λ r. ⌜ Written (storedRows (now (b .entry))) (now (out .entry)) (now (out .exit)) r ⌝ }
 {
@@ -87,13 +87,13 @@ pub fn rows(b: &[u8], out: &mut [u8]) -> CountAnswer
 }
 
 enum RowForm {
-    // In the bytes that are stored for a row.
+    // The bytes that are stored for a row.
     AsStored,
-    // As the numbers that the program prints.
+    // The numbers that the program prints.
     AsNumbers,
 }
 
-// How many bytes a row takes.
+// Returns how many bytes a row takes in a form.
 fn bytes_of(form: RowForm) -> usize
     ensures { λ r. ⌜ (r ≡ formBytes form) × (0 < r) ⌝ }
 {
@@ -103,7 +103,8 @@ fn bytes_of(form: RowForm) -> usize
     }
 }
 
-// Writes the rows of a stored outline. All are judged before the first is put, so that a refusal changes nothing.
+// Writes the rows of a stored outline. All of them are judged before the first is put, so that a refusal changes
+// nothing.
 fn write(b: &[u8], form: RowForm, out: &mut [u8]) -> CountAnswer
     ensures { λ r. ⌜ Written (storedIn form (now (b .entry))) (now (out .entry)) (now (out .exit)) r ⌝ }
 {
@@ -121,7 +122,7 @@ fn write(b: &[u8], form: RowForm, out: &mut [u8]) -> CountAnswer
     }
 }
 
-// Puts the rows in b, for which there is room.
+// Puts the rows in `b` at the start of a buffer that has room for them.
 fn put_rows(b: &[u8], form: RowForm, out: &mut [u8])
     requires { ⌜ length (now b) % rowBytes ≡ 0 ⌝ }
     requires { ⌜ length (formedRows form (rowsIn (length (now b) / rowBytes) (now b))) ≤ length (now out) ⌝ }
@@ -137,7 +138,7 @@ fn put_rows(b: &[u8], form: RowForm, out: &mut [u8])
     }
 }
 
-// Puts a row at an offset. Where it does not fit, nothing changes.
+// Puts a row at an offset. If it does not fit, nothing changes.
 fn put_row(out: &mut [u8], at: usize, form: RowForm, r: Row)
     ensures { λ _. ⌜ now (out .exit) ≡ placed (now (out .entry)) at (formed form r) ⌝ }
 {

@@ -1,4 +1,4 @@
--- The bytes from the offset on give the number.
+-- The bytes from the offset give the number.
 use borrow.Author.Needs.{needs}
 use Rattle.outline.proofs.RowLaws.{field-read}
 use Rattle.outline.proofs.row.field.Statement.{statement}

@@ -1,4 +1,4 @@
--- Where the row does not fit nothing changes, and where it fits its four parts are put.
+-- If the row does not fit, nothing changes. If it fits, its four parts are put.
 use borrow.Author.Needs.{needs}
 use Rattle.put.proofs.PutLaws.{placed-outside}
 use Rattle.outline.proofs.RowLaws.{row-long, row-placed}

@@ -1,4 +1,4 @@
--- One law for each way out: the bytes are not there, or the row is read from them.
+-- One law for each return: the bytes are not there, or the row is read from them.
 use borrow.Author.Needs.{needs}
 use Rattle.outline.proofs.RowLaws.{row-outside, row-cut, row-there}
 use Rattle.outline.proofs.row.read_row.Statement.{statement}

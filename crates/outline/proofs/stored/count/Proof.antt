@@ -1,4 +1,4 @@
--- The invariant: what is left to count is what was to be counted.
+-- The invariant: counting on from any row gives the count of the whole outline.
 use Prim.Native.Nat.{_-_}
 use lib.ListN.{length}
 use borrow.Author.Needs.{needs}

@@ -1,4 +1,4 @@
--- The four rules of a stored row, in their order.
+-- The four rules of a stored row are tested in their order.
 use borrow.Author.Needs.{needs}
 use Rattle.outline.proofs.CountLaws.{ordinal-high, header-short, used-high, depth-decides}
 use Rattle.outline.proofs.stored.is_row.Statement.{statement}

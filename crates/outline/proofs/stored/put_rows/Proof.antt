@@ -1,4 +1,4 @@
--- The invariant: what is left to put is what was to be put.
+-- The invariant: putting the rows that are left gives the same buffer as putting all rows at its start.
 use Prim.Native.Nat.{_-_}
 use lib.ListN.{length}
 use borrow.Author.Needs.{needs}

@@ -1,4 +1,4 @@
--- An outline whose rows are written as they are stored is the same.
+-- If the rows of an outline are written as they are stored, then the result is the same outline.
 use borrow.Author.Needs.{needs}
 use Rattle.outline.proofs.WriteLaws.{written-again}
 use Rattle.outline.proofs.stored.rewrite.Statement.{statement}

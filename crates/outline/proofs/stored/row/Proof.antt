@@ -1,4 +1,4 @@
--- The rows that are counted are those in the bytes, sixteen for each.
+-- The rows that are counted are the rows in the bytes, sixteen bytes for each.
 use borrow.Author.Needs.{needs}
 use Rattle.outline.proofs.StoredLaws.{row-refused, row-none, row-fits, row-inside, row-found}
 use Rattle.outline.proofs.stored.row.Statement.{statement}

@@ -1,4 +1,4 @@
--- A refused outline is refused, its rows do not fit, or they are put.
+-- There are three cases: the outline is refused, its rows do not fit, or they are put.
 use borrow.Author.Needs.{needs}
 use Rattle.put.proofs.PutLaws.{placed-length}
 use Rattle.outline.proofs.WriteLaws.{write-refused, write-whole, write-long, write-room, write-fits, write-done}
