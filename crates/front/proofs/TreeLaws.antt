@@ -1,4 +1,5 @@
--- The tree: one law for each way out of the tests on a line, of the walks over lines and of the reading of the tree.
+-- Laws about the tree: one for each return of the tests on a line, of the walks over lines and of the functions that
+-- read a tree.
 use Prim.Native.Nat.{ℕ, _-_}
 use mathlib.Core.Path.{_≡_, refl, sym, ap, _∙_}
 use mathlib.Core.Bool.{Bool, true, false, _||_, not}
@@ -28,66 +29,66 @@ use Rattle.front.specs.declared.step.TreeStep.the-variants.{Read, Refuse
 use Rattle.front.specs.Step.{endOutcome, treeOutcome}
 
 module _ (a b x : Bool) (h : x ≡ a) where
-  -- where the first of two tests holds, one of them does
+  -- If the first of two tests holds, then one of them does.
   pub either-first : x ≡ true → true ≡ (a || b)
   either-first p = rw (sym h ∙ p)
 
-  -- where it does not, the second decides
+  -- If the first test does not hold, then the second decides.
   pub either-second : (y : Bool) → x ≡ false → y ≡ b → y ≡ (a || b)
   either-second y p k = rw (sym h ∙ p) k
 
 module _ (s : Bytes) (at : ℕ) (r : Line) (read : LineRead s at r) (x : Outcome ℕ) where
-  -- no line is left to end the tree, behind its start line
+  -- If no line is left after the start line to end the tree, then the tree is refused with number 10 at place `at`.
   pub content-unended : content at (lines (drop at s)) ≡ x → (y : Refusal) → r ≡ Unended → y ≡ refusal 10 at → endOutcome (End.Refused y) ≡ x
   unfolding endOutcome content
   content-unended left y e q = ap refused q ∙ rw (unended-lines s at r read e) at left
 
-  -- no line is left to end the tree, before its start line
+  -- If no line is left before a start line is found, then the tree is refused with number 10 at place `at`.
   pub directives-unended : directives at (lines (drop at s)) ≡ x → (y : Refusal) → r ≡ Unended → y ≡ refusal 10 at → endOutcome (End.Refused y) ≡ x
   unfolding endOutcome directives
   directives-unended left y e q = ap refused q ∙ rw (unended-lines s at r read e) at left
 
   module _ (m next : ℕ) (ending : LineEnd) (e : r ≡ Ended m next ending) where
-    -- the line that was read is the first from here on
+    -- The line that was read is the first line from `at`.
     first : FirstLine s at (take (m - at) (drop at s)) next ending
     first = ended-first s at r read m next ending e
 
     module _ (left : content at (lines (drop at s)) ≡ x) (b : Bool) (h : b ≡ same (take (m - at) (drop at s)) endLine) where
-      -- it ends the tree
+      -- If the line is the end line, then the tree ends after it.
       pub content-done : b ≡ true → endOutcome (End.At next) ≡ x
       unfolding endOutcome content
       content-done p = rw (first .cut, content, sym h ∙ p, ← first .next-is) at left
 
       module _ (p : b ≡ false) (d : Bool) (k : d ≡ isStart (take (m - at) (drop at s))) where
-        -- it would start a second tree
+        -- If the line would start a second tree, then the tree is refused with number 9 at place `at`.
         pub content-start : (y : Refusal) → d ≡ true → y ≡ refusal 9 at → endOutcome (End.Refused y) ≡ x
         unfolding endOutcome content
         content-start y z q = ap refused q ∙ rw (first .cut, content, sym h ∙ p, sym k ∙ z) at left
 
-        -- it is content
+        -- Otherwise the line is content, and the outcome is the same from the next line.
         pub content-step : d ≡ false → content next (lines (drop next s)) ≡ x
         unfolding content
         content-step z = rw (first .cut, content, sym h ∙ p, sym k ∙ z, ← first .next-is) at left
 
     module _ (left : directives at (lines (drop at s)) ≡ x) (b : Bool) (h : b ≡ isStart (take (m - at) (drop at s))) where
-      -- it starts the content
+      -- If the line is a start line, then the outcome is that of the content after it.
       pub directives-done : (y : EndStep) → b ≡ true → endOutcome y ≡ content next (lines (drop next s)) → endOutcome y ≡ x
       unfolding directives
       directives-done y p q = q ∙ rw (first .cut, directives, sym h ∙ p, ← first .next-is) at left
 
       module _ (p : b ≡ false) (d : Bool) (k : d ≡ isDirective (take (m - at) (drop at s))) where
-        -- it is neither a start line nor a directive
+        -- If the line is neither a start line nor a directive, then the tree is refused with number 8 at place `at`.
         pub directives-other : (y : Refusal) → not d ≡ true → y ≡ refusal 8 at → endOutcome (End.Refused y) ≡ x
         unfolding endOutcome directives
         directives-other y z q = ap refused q ∙ rw (first .cut, directives, sym h ∙ p, sym k ∙ not-true d z) at left
 
-        -- it is a directive
+        -- If the line is a directive, then the outcome is the same from the next line.
         pub directives-step : not d ≡ false → directives next (lines (drop next s)) ≡ x
         unfolding directives
         directives-step z = rw (first .cut, directives, sym h ∙ p, sym k ∙ not-false d z, ← first .next-is) at left
 
 module _ (s : Bytes) (at : ℕ) (r : Exact) (read : ExactRead s yamlLine at r) where
-  -- where the first line is another, there is no tree to end
+  -- If the first line is not that of a tree, then there is no tree to end.
   no-end : r ≡ Other → treeEnd at (lines (drop at s)) ≡ accepted none
   unfolding treeEnd
   no-end p = go (lines (drop at s)) refl
@@ -96,43 +97,43 @@ module _ (s : Bytes) (at : ℕ) (r : Exact) (read : ExactRead s yamlLine at r) w
       go (unended t) h = refl
       go (line t e l) h = rw (other-text s yamlLine at r read t e l p h, treeEnd)
 
-  -- no tree begins here
+  -- If the first line is not that of a tree, then no tree begins here.
   pub tree-none : r ≡ Other → treeOutcome (Read NoTree) ≡ tree at s
   unfolding treeOutcome tree withRoom
   tree-none p = rw (no-end p)
 
   module _ (next : ℕ) (ending : LineEnd) (p : r ≡ After next ending) (z : EndStep) (h : endOutcome z ≡ directives next (lines (drop next s))) where
-    -- the walk over the lines behind the first says where the tree ends, if it does
+    -- The walk over the lines after the first states where the tree ends, or its refusal.
     tree-end : treeEnd at (lines (drop at s)) ≡ (do m ← endOutcome z; accepted (some m))
     unfolding treeEnd
     tree-end =
         let first = after-first s yamlLine at r read next ending p in
         rw (first .cut, treeEnd, ← first .next-is, h)
 
-    -- it does not end
+    -- If the walk refuses, then the tree is refused in the same way.
     pub tree-refused : (y : Refusal) → z ≡ End.Refused y → treeOutcome (Refused y) ≡ tree at s
     unfolding endOutcome treeOutcome tree
     tree-refused y e = rw (tree-end, e)
 
-    -- it ends, and free space follows up to a mark
+    -- If the tree ends, then it is read. The free space after it runs up to the first mark, or to the end of the file.
     pub tree-read : (end room : ℕ) → z ≡ End.At end → MarkFound s end room
         → treeOutcome (Read (Found (record { 0 = at }) (record { 0 = end }) (record { 0 = room }))) ≡ tree at s
     unfolding endOutcome treeOutcome tree withRoom
     tree-read end room e f = rw (f .is, tree-end, e)
 
 module _ (t : Bytes) (r : Exact) (read : ExactRead t yamlLine 0 r) where
-  -- a text that begins with another line is no tree
+  -- If the first line of a text is not that of a tree, then the text is no tree.
   pub one-tree-none : r ≡ Other → false ≡ isOneTree t
   unfolding isOneTree endsAt
   one-tree-none p = rw (no-end t 0 r read p)
 
   module _ (next : ℕ) (ending : LineEnd) (p : r ≡ After next ending) (z : EndStep) (h : endOutcome z ≡ directives next (lines (drop next t))) where
-    -- nor is one that does not end
+    -- If the walk refuses, then the text is no tree.
     pub one-tree-refused : (y : Refusal) → z ≡ End.Refused y → false ≡ isOneTree t
     unfolding isOneTree endsAt endOutcome
     one-tree-refused y e = rw (tree-end t 0 r read next ending p z h, e)
 
-    -- one that ends is a tree if the text ends there
+    -- If the tree ends, then the text is exactly one tree if and only if the text ends there too.
     pub one-tree-read : (end : ℕ) → z ≡ End.At end → eqb end (length t) ≡ isOneTree t
     unfolding isOneTree endsAt endOutcome
     one-tree-read end e = rw (tree-end t 0 r read next ending p z h, e)

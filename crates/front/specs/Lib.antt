@@ -1,2 +1,2 @@
--- What the contracts of the front cite.
+-- The definitions that the contracts of the front cite.
 pub mod Step

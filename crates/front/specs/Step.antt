@@ -1,4 +1,4 @@
--- What the readers of the front answer, as outcomes.
+-- The answers of the readers of the front, as outcomes.
 use Prim.Native.Nat.{ℕ}
 use mathlib.Core.Option.{Option, none, some}
 use Rattle.format.specs.Outcome.{Outcome, accepted, refused}

@@ -12,7 +12,7 @@ use scan::line;
 use scan::line::Line;
 use scan::text;
 
-// Where the comments from an offset on end.
+// Returns where the comments from an offset end.
 pub fn comments_end(s: &[u8], from: usize) -> EndStep
     ensures { λ r. ⌜ endOutcome r ≡ comments from (lines (drop from (now (s .entry)))) ⌝ }
 {

@@ -1,4 +1,4 @@
-// The header: `#ASDF`, one space, a version, a line end.
+// The header: `#ASDF`, one space, a version and a line end.
 ghost use mathlib.Core.Path.{_≡_};
 ghost use Rattle.format.specs.Header.{header, version};
 ghost use Rattle.front.specs.Step.{headerOutcome, versionFound};
@@ -17,7 +17,7 @@ use scan::number;
 use scan::number::Number;
 use scan::text;
 
-// The header of a file.
+// Reads the header of a file.
 pub fn read_header(s: &[u8]) -> HeaderStep
     ensures { λ r. ⌜ headerOutcome r ≡ header (now (s .entry)) ⌝ }
 {
@@ -45,7 +45,7 @@ pub fn read_header(s: &[u8]) -> HeaderStep
     })
 }
 
-// Three numbers of 1 to 4 digits, joined by points.
+// Reads a version: three numbers of 1 to 4 digits, joined by points.
 fn read_version(t: &[u8]) -> VersionStep
     ensures { λ r. ⌜ versionFound r ≡ version (now (t .entry)) ⌝ }
 {

@@ -1,4 +1,5 @@
-// What stands before the blocks of a file: the header, the comments and the tree. And what is a tree by itself.
+// The front of a file, which comes before its blocks: the header, the comments and the tree. It also tests whether a
+// text is exactly one tree.
 pub mod comments;
 pub mod header;
 pub mod step;

@@ -1,4 +1,4 @@
-// What the readers of the front answer.
+// The answers of the readers of the front.
 use format::layout::Header;
 use format::layout::Tree;
 use format::layout::Version;
@@ -14,7 +14,7 @@ pub enum HeaderStep {
     Refused(Refusal),
 }
 
-// Where something ends.
+// Where something ends, or its refusal.
 pub enum EndStep {
     At(usize),
     Refused(Refusal),

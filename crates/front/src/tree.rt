@@ -1,4 +1,4 @@
-// The tree and the free space behind it.
+// The tree and the free space after it.
 ghost use mathlib.Core.Path.{_≡_};
 ghost use lib.ListN.{drop};
 ghost use Rattle.format.specs.Line.{lines};
@@ -18,7 +18,7 @@ use scan::line::Exact;
 use scan::line::Line;
 use scan::text;
 
-// What stands at an offset: no tree, or one, with its room.
+// Reads what is at an offset: no tree, or a tree with its room.
 pub fn read_tree(s: &[u8], at: usize) -> TreeStep
     ensures { λ r. ⌜ treeOutcome r ≡ tree at (now (s .entry)) ⌝ }
 {
@@ -35,7 +35,7 @@ pub fn read_tree(s: &[u8], at: usize) -> TreeStep
     }
 }
 
-// Whether a text is exactly one tree, with nothing before or after.
+// Whether a text is exactly one tree, with nothing before or after it.
 pub fn is_one_tree(t: &[u8]) -> bool
     ensures { λ r. ⌜ r ≡ isOneTree (now (t .entry)) ⌝ }
 {
@@ -48,7 +48,7 @@ pub fn is_one_tree(t: &[u8]) -> bool
     }
 }
 
-// Where a tree ends, from the line behind its first on.
+// Returns where a tree ends. The line after its first line begins at `from`.
 fn directives_end(s: &[u8], from: usize) -> EndStep
     ensures { λ r. ⌜ endOutcome r ≡ directives from (lines (drop from (now (s .entry)))) ⌝ }
 {
@@ -67,7 +67,7 @@ fn directives_end(s: &[u8], from: usize) -> EndStep
     }
 }
 
-// Where a tree ends, from the line behind its start line on.
+// Returns where a tree ends. The line after its start line begins at `from`.
 fn content_end(s: &[u8], from: usize) -> EndStep
     ensures { λ r. ⌜ endOutcome r ≡ content from (lines (drop from (now (s .entry)))) ⌝ }
 {
@@ -86,7 +86,7 @@ fn content_end(s: &[u8], from: usize) -> EndStep
     }
 }
 
-// `---` alone, or `---` and a space and anything.
+// Whether a line is a start line: `---` alone, or `---`, a space and anything after it.
 fn is_start(t: &[u8]) -> bool
     ensures { λ r. ⌜ r ≡ isStart (now (t .entry)) ⌝ }
 {

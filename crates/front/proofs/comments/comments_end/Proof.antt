@@ -1,4 +1,4 @@
--- From here on the comments end where they do from the start on.
+-- The invariant: the comments from the current offset end where the comments from the first offset end.
 use Prim.Native.Nat.{_-_}
 use mathlib.Core.Path.{_≡_}
 use lib.ListN.{length, drop}

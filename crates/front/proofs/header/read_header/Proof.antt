@@ -1,4 +1,4 @@
--- Each test refuses what the definition refuses, in its order.
+-- Each test refuses what the definition refuses, in the same order.
 use borrow.Author.Needs.{needs}
 use Rattle.scan.proofs.LineLaws.{ended-begin, ended-end}
 use Rattle.front.proofs.HeaderLaws.{header-token, header-unended, header-malformed, header-other, header-read}

@@ -1,4 +1,4 @@
--- The parts of the version are what stands before the first point, what stands before the second, and what is left.
+-- The parts of the version are the bytes before the first point, the bytes between it and the second, and what is left.
 use lib.Seq.{length-take-le}
 use borrow.Author.Needs.{needs}
 use Rattle.front.proofs.HeaderLaws.{part-fits, version-one, version-two, version-major, version-minor, version-patch, version-read}

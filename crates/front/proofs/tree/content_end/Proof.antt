@@ -1,4 +1,4 @@
--- From here on the content ends where it does from the start on.
+-- The invariant: the content from the current offset ends where the content from the first offset ends.
 use Prim.Native.Nat.{_-_}
 use mathlib.Core.Path.{_≡_}
 use lib.ListN.{length, drop}

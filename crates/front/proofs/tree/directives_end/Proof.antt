@@ -1,4 +1,4 @@
--- From here on the tree ends where it does from the start on.
+-- The invariant: read from the current offset, the tree ends where it ends when read from the first offset.
 use Prim.Native.Nat.{_-_}
 use mathlib.Core.Path.{_≡_}
 use lib.ListN.{length, drop}

@@ -1,4 +1,4 @@
--- The first test decides, or else the second.
+-- If the first test holds, it decides. Otherwise the second test decides.
 use borrow.Author.Needs.{needs}
 use Rattle.front.proofs.TreeLaws.{either-first, either-second}
 use Rattle.front.proofs.tree.is_directive.Statement.{statement}

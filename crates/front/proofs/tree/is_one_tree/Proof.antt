@@ -1,4 +1,4 @@
--- A text is one tree if its lines say so and the last of them ends it.
+-- A text is exactly one tree if its lines are those of a tree and the last of them ends it.
 use borrow.Author.Needs.{needs}
 use Rattle.front.proofs.TreeLaws.{one-tree-none, one-tree-refused, one-tree-read}
 use Rattle.front.proofs.tree.is_one_tree.Statement.{statement}

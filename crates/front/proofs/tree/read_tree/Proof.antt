@@ -1,4 +1,4 @@
--- A tree begins with its first line and ends where the walk over the lines behind it says.
+-- A tree begins with its first line. It ends at the offset that the walk over the following lines returns.
 use borrow.Author.Needs.{needs}
 use Rattle.front.proofs.TreeLaws.{tree-none, tree-refused, tree-read}
 use Rattle.front.proofs.tree.read_tree.Statement.{statement}
