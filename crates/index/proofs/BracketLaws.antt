@@ -1,4 +1,4 @@
--- What stands between the brackets of a line: one law for each way out.
+-- Laws about the list in brackets on a line: one for each return.
 use Prim.Native.Nat.{ℕ, zero, suc, _+_, _-_, _≤_, _<_}
 use native.Mathlib.Omega.{arith}
 use mathlib.Core.Path.{_≡_, refl, sym, ap, _∙_}
@@ -16,11 +16,11 @@ use Rattle.index.specs.declared.form.ListStep.the-variants.{Between, Now
 use Rattle.index.specs.Verdict.{ListRead}
 use Rattle.index.proofs.TrimLaws.{last-byte}
 
--- the opening bracket and what has to stand before it
+-- The opening bracket and the bytes that have to precede it.
 abbrev opening : Bytes
 opening = text "--- ["
 
--- what is left after p, where p stands, is all but p
+-- If `s` begins with `p`, then `without p s` is all of `s` except `p`. Otherwise it is none.
 pub without-begins : (p s : Bytes) → without p s ≡ elim (begins p s) [ true ↦ some (drop (length p) s) | false ↦ none ]
 unfolding without
 without-begins [] s = refl
@@ -32,7 +32,7 @@ without-begins (a ∷ p) (b ∷ s) = go (eqb a b) refl (without-begins p s)
     go true e i = rw (e, without) i
     go false e i = rw (e, without)
 
--- whether bytes begin with p is seen in as many of them
+-- If `p` has at most `n` bytes, then whether bytes begin with `p` can be seen in the first `n` of them.
 begins-take : (p s : Bytes) (n : ℕ) → length p ≤ n → begins p (take n s) ≡ begins p s
 begins-take [] s n h = refl
 begins-take (a ∷ p) s zero h = absurd (omega arith)
@@ -40,43 +40,43 @@ begins-take (a ∷ p) [] (suc n) h = refl
 begins-take (a ∷ p) (b ∷ s) (suc n) h = ap (λ (x : Bool). eqb a b && x) (begins-take p s n (omega arith))
 
 module _ (c : Bytes) where
-  -- no bracket opens
+  -- If no bracket opens, then nothing is in brackets.
   none-opens : begins opening c ≡ false → inBrackets c ≡ none
   unfolding inBrackets
   none-opens h = rw (without-begins opening c, h, inBrackets)
 
-  -- a bracket opens, and nothing stands after it
+  -- If a bracket opens and no byte follows it, then nothing is in brackets.
   opens-alone : begins opening c ≡ true → length c < 6 → inBrackets c ≡ none
   unfolding inBrackets without
   opens-alone h k = let all : length c ≤ 5 = omega arith in rw (without-begins opening c, h, drop-of-length-le c all, inBrackets)
 
   module _ (u : Bytes) (b : ℕ) (h : begins opening c ≡ true) (last : drop 5 c ≡ u ++ (b ∷ [])) where
-    -- a bracket opens, and none closes
+    -- If a bracket opens and the last byte does not close it, then nothing is in brackets.
     none-closes : (b ≡ 93 → ⊥) → inBrackets c ≡ none
     unfolding inBrackets without
     none-closes n = rw (without-begins opening c, h, last, reverse-append u (b ∷ []), ne-eqb 93 b (λ e. n (sym e)), inBrackets, without)
 
-    -- u stands between the brackets
+    -- If a bracket opens and the last byte closes it, then `u` is between the brackets.
     closes : b ≡ 93 → inBrackets c ≡ some u
     unfolding inBrackets without
     closes e =
         rw (without-begins opening c, h, last, reverse-append u (b ∷ []), eq-eqb 93 b (sym e), inBrackets, without) (ap some (reverse-reverse u))
 
--- where there are no numbers there is no list
+-- If there are no numbers, then the list is nowhere.
 pub nowhere : (t : Bytes) (numbers : Option (List ℕ)) → numbers ≡ none → ListRead t numbers Nowhere
 nowhere t numbers h = record { is = h; inside = tt }
 
--- the answer r for the line from one offset of t to another
+-- `r` is the answer for the line from one offset of `t` to another.
 abbrev BracketsRead : Bytes → ℕ → ℕ → ListStep → Type 0
 BracketsRead t from to r = ListRead t (listed (inBrackets (take (to - from) (drop from t)))) r
 
 module _ (t : Bytes) (from to : ℕ) where
-  -- a line that lacks a bracket has no list
+  -- If a line lacks a bracket, then it has no list.
   unbracketed : inBrackets (take (to - from) (drop from t)) ≡ none → BracketsRead t from to Nowhere
   unfolding listed
   unbracketed h = nowhere t _ (ap listed h)
 
-  -- the line is too short for both brackets
+  -- If the line is too short for both brackets, then it has no list.
   pub brackets-short : to - from < 6 → BracketsRead t from to Nowhere
   brackets-short h = unbracketed (go (begins opening (take (to - from) (drop from t))) refl)
     where
@@ -85,19 +85,19 @@ module _ (t : Bytes) (from to : ℕ) where
       go false e = none-opens _ e
 
   module _ (inside : to ≤ length t) (long : 6 ≤ to - from) (x : Bool) (b : x ≡ begins opening (drop from t)) where
-    -- the line begins as the bytes there do
+    -- The line begins with an opening bracket exactly if the bytes from `from` do.
     line-begins : x ≡ begins opening (take (to - from) (drop from t))
     line-begins = b ∙ sym (begins-take opening (drop from t) (to - from) (omega arith))
 
-    -- no bracket opens
+    -- If no bracket opens, then the line has no list.
     pub brackets-other : not x ≡ true → BracketsRead t from to Nowhere
     brackets-other h = unbracketed (none-opens _ (sym line-begins ∙ not-true x h))
 
-    -- what is to stand between the brackets
+    -- The bytes that have to be between the brackets.
     abbrev inner : Bytes
     inner = take (to - 1 - (from + 5)) (drop (from + 5) t)
 
-    -- after the bracket that opens stands that, and the line's last byte
+    -- These bytes follow the opening bracket, and then comes the last byte of the line.
     line-last : drop 5 (take (to - from) (drop from t)) ≡ inner ++ (getD t (to - 1) 0 ∷ [])
     line-last =
         let front : 5 + (to - (from + 5)) ≡ to - from = omega arith in
@@ -107,11 +107,11 @@ module _ (t : Bytes) (from to : ℕ) where
         ∙ rw drop-drop (last-byte t (from + 5) to (omega arith) inside)
 
     module _ (h : not x ≡ false) where
-      -- no bracket closes
+      -- If no bracket closes, then the line has no list.
       pub brackets-open : (getD t (to - 1) 0 ≡ 93 → ⊥) → BracketsRead t from to Nowhere
       brackets-open n = unbracketed (none-closes _ inner _ (sym line-begins ∙ not-false x h) line-last n)
 
-      -- both brackets stand there
+      -- If both brackets are there, then the list is between them.
       pub brackets-found : getD t (to - 1) 0 ≡ 93 → BracketsRead t from to (Between (from + 5) (to - 1))
       brackets-found e = record {
         is = ap listed (closes _ inner _ (sym line-begins ∙ not-false x h) line-last e);

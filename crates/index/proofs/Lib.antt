@@ -1,4 +1,4 @@
--- Laws of an index: its text, and the verdict on it.
+-- Laws about a block index: its text, and the verdict on it.
 pub mod TextLaws
 pub mod TrimLaws
 pub mod ListLaws

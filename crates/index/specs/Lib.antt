@@ -1,3 +1,3 @@
--- What the contracts of the index cite.
+-- The definitions that the contracts of the index cite.
 pub mod Text
 pub mod Verdict

@@ -11,33 +11,33 @@ use Rattle.format.specs.Index.{indexText}
 use Rattle.format.specs.Outcome.{Outcome, accepted, need, _>>_}
 use Rattle.put.specs.Put.{mostDecimals}
 
--- the index of these offsets, if a file may have so many blocks
+-- The index of these offsets, if a file can have that many blocks.
 unfoldable pub offsetsIndex : LineEnd → List ℕ → Outcome Bytes
 offsetsIndex e offsets = do
   need (leb (length offsets) mostBlocks) 22 0
   accepted (indexText e offsets)
 
--- what stands before the list of an index
+-- The text before the list of an index.
 abbrev pub frontText : LineEnd → Bytes
 frontText Lf = text "#ASDF BLOCK INDEX\n%YAML 1.1\n--- ["
 frontText Crlf = text "#ASDF BLOCK INDEX\r\n%YAML 1.1\r\n--- ["
 
--- what stands after it
+-- The text after the list of an index.
 abbrev pub backText : LineEnd → Bytes
 backText Lf = text "]\n...\n"
 backText Crlf = text "]\r\n...\r\n"
 
--- the most bytes that each of them has
+-- The maximum number of bytes in each of these two texts.
 abbrev pub mostFront : ℕ
 mostFront = 35
 
 abbrev pub mostBack : ℕ
 mostBack = 8
 
--- what stands between two numbers of the list
+-- The text between two numbers of the list.
 abbrev pub comma : Bytes
 comma = text ", "
 
--- the most bytes of an index whose offsets may take all of their 64 bits
+-- The maximum number of bytes in an index whose offsets may take all of their 64 bits.
 abbrev pub mostText : ℕ
 mostText = mostFront + (mostDecimals comma mostBlocks + mostBack)

@@ -1,4 +1,4 @@
-// The numbers of an index that stand on lines of their own, each after a dash.
+// The numbers of an index with dashes: each is on a line of its own, after a dash.
 ghost use mathlib.Core.Path.{_≡_};
 ghost use mathlib.Core.Bool.{_&&_};
 ghost use lib.ListN.{length};
@@ -17,8 +17,8 @@ use scan::number;
 use scan::number::Number;
 use scan::text;
 
-// What to think of the numbers on the lines of t, up to the end line. All of them are read, also after one that does not
-// agree: the form comes first.
+// Judges the numbers on the lines of `t`, up to the end line. All of them are read, even after one that does not agree,
+// because the form comes first.
 pub(crate) fn judge_lines(t: &[u8], offsets: &[u64]) -> Verdict
     ensures { λ r. ⌜ r ≡ judged (now (offsets .entry)) (atLeastOne (dashNumbers (lines (now (t .entry))))) ⌝ }
 {
@@ -41,7 +41,8 @@ pub(crate) fn judge_lines(t: &[u8], offsets: &[u64]) -> Verdict
     }
 }
 
-// The verdict on k numbers, which agree with the offsets or do not, where t follows their end line.
+// Returns the verdict on `k` numbers. `equal` states whether they agree with the offsets, and `t` follows their end
+// line.
 fn judge_end(t: &[u8], equal: bool, offsets: &[u64], k: usize) -> Verdict
     ensures { λ r. ⌜ r ≡ judgedIf (ltb 0 k && allZero (now (t .entry))) (equal && eqb (length (now (offsets .entry))) k) ⌝ }
 {
@@ -54,7 +55,7 @@ fn judge_end(t: &[u8], equal: bool, offsets: &[u64], k: usize) -> Verdict
     list::all_agree(equal, offsets, k)
 }
 
-// The number on a line: a dash, one space, the number, and any spaces.
+// Reads the number on a line: a dash, one space, the number, and any number of spaces.
 fn dash_number(t: &[u8]) -> Number
     ensures { λ r. ⌜ numberOf r ≡ dashed (now (t .entry)) ⌝ }
 {

@@ -1,4 +1,4 @@
-// The form of an index around its list.
+// The form of an index: the text around its list.
 ghost use Prim.Native.Nat.{_-_, _≤_};
 ghost use lib.ListN.{length, take, drop};
 ghost use Rattle.format.specs.Line.{lines};
@@ -9,16 +9,16 @@ use scan::line::Exact;
 use scan::line::Line;
 use scan::text;
 
-// Where the list of an index stands.
+// Where the list of an index is.
 pub enum ListStep {
-    // Between brackets.
+    // The list is between brackets.
     Between { from: usize, to: usize },
-    // On the lines from here on, each number after a dash. The end line is not looked for yet.
+    // The list is on the lines from here, each number after a dash. The end line is not looked for yet.
     Dashes(usize),
     Nowhere,
 }
 
-// Where the list stands in a tail that has the form of an index around it.
+// Finds the list in a tail that has the form of an index around it.
 pub(crate) fn index_list(t: &[u8]) -> ListStep
     ensures { λ r. ⌜ ListRead (now (t .entry)) (indexed (lines (now (t .entry)))) r ⌝ }
 {
@@ -31,7 +31,7 @@ pub(crate) fn index_list(t: &[u8]) -> ListStep
     styled_list(t, third)
 }
 
-// Where the list stands whose start line begins at an offset. That line tells the style.
+// Finds the list whose start line begins at an offset. That line determines the style.
 fn styled_list(t: &[u8], at: usize) -> ListStep
     ensures { λ r. ⌜ ListRead (now (t .entry)) (styled (lines (drop at (now (t .entry))))) r ⌝ }
 {
@@ -57,7 +57,7 @@ fn ends_at(t: &[u8], at: usize) -> bool
     text::only_zeros(&t[end..])
 }
 
-// What stands between `--- [` and the `]` at the end of a line.
+// Finds the list between `--- [` and the `]` at the end of a line.
 fn in_brackets(t: &[u8], from: usize, to: usize) -> ListStep
     requires { ⌜ (from ≤ to) × (to ≤ length (now t)) ⌝ }
     ensures { λ r. ⌜ ListRead (now (t .entry)) (listed (inBrackets (take (to - from) (drop from (now (t .entry)))))) r ⌝ }

@@ -1,4 +1,4 @@
-// A block index, over offsets alone: the verdict on one, and its text.
+// The block index, given only offsets: the verdict on an index, and the text of one.
 mod dashes;
 mod form;
 mod list;

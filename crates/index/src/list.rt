@@ -1,4 +1,4 @@
-// The numbers of an index, compared with the offsets where the blocks begin.
+// Compares the numbers of an index with the offsets where the blocks begin.
 ghost use mathlib.Core.Path.{_≡_};
 ghost use mathlib.Core.Bool.{_&&_};
 ghost use mathlib.Core.Option.{some};
@@ -11,7 +11,7 @@ use format::layout::Verdict;
 use scan::number;
 use scan::number::Number;
 
-// What to think of the numbers in a list. All of them are read, also after one that does not agree: the form comes first.
+// Judges the numbers in a list. All of them are read, even after one that does not agree, because the form comes first.
 pub(crate) fn judge_list(list: &[u8], offsets: &[u64]) -> Verdict
     ensures { λ r. ⌜ r ≡ judged (now (offsets .entry)) (listed (some (now (list .entry)))) ⌝ }
 {
@@ -33,7 +33,7 @@ pub(crate) fn judge_list(list: &[u8], offsets: &[u64]) -> Verdict
     }
 }
 
-// Whether the numbers so far agree with the offsets, and x with offset k.
+// Whether the numbers so far agree with the offsets, and `x` agrees with offset `k`.
 pub(crate) fn agrees(agree: bool, offsets: &[u64], k: usize, x: u64) -> bool
     ensures { λ r. ⌜ r ≡ agreesAt agree (now (offsets .entry)) k x ⌝ }
 {
@@ -46,7 +46,7 @@ pub(crate) fn agrees(agree: bool, offsets: &[u64], k: usize, x: u64) -> bool
     x == offsets[k]
 }
 
-// The verdict on k numbers that agree with the offsets, or do not.
+// Returns the verdict on `k` numbers. `equal` states whether they agree with the offsets.
 pub(crate) fn all_agree(equal: bool, offsets: &[u64], k: usize) -> Verdict
     ensures { λ r. ⌜ r ≡ goodIf (equal && eqb (length (now (offsets .entry))) k) ⌝ }
 {

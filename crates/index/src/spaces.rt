@@ -1,10 +1,10 @@
-// Spaces around a number.
+// The spaces around a number.
 ghost use Prim.Native.Nat.{_-_, _≤_};
 ghost use mathlib.Core.Path.{_≡_};
 ghost use lib.ListN.{length, take, drop};
 ghost use Rattle.format.specs.Index.{trimStart, trimEnd, trim as Index·trim};
 
-// t without its spaces in front and at the end.
+// Returns `t` without the spaces at its start and at its end.
 pub(crate) fn trim(t: &[u8]) -> &[u8]
     ensures { λ r. ⌜ now r ≡ Index·trim (now (t .entry)) ⌝ }
 {
@@ -26,7 +26,7 @@ fn spaces_in_front(t: &[u8]) -> usize
     i
 }
 
-// Where the spaces at the end of t begin. Spaces before an offset do not count.
+// Returns where the spaces at the end of `t` begin. Spaces before offset `from` do not count.
 pub(crate) fn spaces_at_end(t: &[u8], from: usize) -> usize
     requires { ⌜ from ≤ length (now t) ⌝ }
     ensures { λ r. ⌜ (from ≤ r) × (r ≤ length (now (t .entry))) × (take (r - from) (drop from (now (t .entry))) ≡ trimEnd (drop from (now (t .entry)))) ⌝ }

@@ -8,8 +8,8 @@ use crate::form::ListStep;
 use crate::list;
 use format::layout::Verdict;
 
-// What to think of the tail t of a file whose blocks begin at these offsets. Whether there is an index at all is told before:
-// here a tail of zeros only has the wrong form.
+// Judges the tail `t` of a file whose blocks begin at these offsets. Whether there is an index at all is decided
+// before: here, a tail of only zeros has the wrong form.
 pub fn judge(t: &[u8], offsets: &[u64]) -> Verdict
     ensures { λ r. ⌜ r ≡ judged (now (offsets .entry)) (indexed (lines (now (t .entry)))) ⌝ }
 {

@@ -1,4 +1,4 @@
--- One law for each way out.
+-- One law for each return.
 use borrow.Author.Needs.{needs}
 use Rattle.index.proofs.DashLaws.{dash-other, dash-inside, dash-numeral}
 use Rattle.index.proofs.dashes.dash_number.Statement.{statement}

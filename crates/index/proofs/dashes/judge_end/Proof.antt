@@ -1,4 +1,4 @@
--- One law for each way out.
+-- One law for each return.
 use borrow.Author.Needs.{needs}
 use Rattle.index.proofs.DashLaws.{end-none, end-other, end-numbers}
 use Rattle.index.proofs.dashes.judge_end.Statement.{statement}

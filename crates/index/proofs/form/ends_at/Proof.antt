@@ -1,4 +1,4 @@
--- One law for each way out.
+-- One law for each return.
 use borrow.Author.Needs.{needs}
 use Rattle.index.proofs.IndexLaws.{after-inside, end-other, end-zeros}
 use Rattle.index.proofs.form.ends_at.Statement.{statement}

@@ -1,4 +1,4 @@
--- One law for each way out: a line without one of the brackets has no list.
+-- One law for each return: a line that lacks a bracket has no list.
 use borrow.Author.Needs.{needs}
 use Rattle.index.proofs.BracketLaws.{brackets-short, brackets-other, brackets-open, brackets-found}
 use Rattle.index.proofs.form.in_brackets.Statement.{statement}

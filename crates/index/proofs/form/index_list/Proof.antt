@@ -1,4 +1,4 @@
--- One law for each way out: the lines are read one by one.
+-- One law for each return: the lines are read one by one.
 use borrow.Author.Needs.{needs}
 use Rattle.index.proofs.IndexLaws.{index-other, yaml-other, yaml-after}
 use Rattle.index.proofs.form.index_list.Statement.{statement}

@@ -1,4 +1,4 @@
--- One law for each way out: the start line tells the style.
+-- One law for each return: the start line determines the style.
 use borrow.Author.Needs.{needs}
 use Rattle.scan.proofs.LineLaws.{ended-begin, ended-end}
 use Rattle.index.proofs.IndexLaws.{start-unended, start-dashes, start-other, start-brackets}

@@ -1,4 +1,4 @@
--- One law for each way out.
+-- One law for each return.
 use borrow.Author.Needs.{needs}
 use Rattle.index.proofs.ListLaws.{agrees-not, agrees-none, agrees-next}
 use Rattle.index.proofs.list.agrees.Statement.{statement}

@@ -1,4 +1,4 @@
--- One law for each way out.
+-- One law for each return.
 use borrow.Author.Needs.{needs}
 use Rattle.index.proofs.ListLaws.{all-not, all-others, all-good}
 use Rattle.index.proofs.list.all_agree.Statement.{statement}

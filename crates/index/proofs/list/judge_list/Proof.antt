@@ -1,4 +1,5 @@
--- What is to be thought of the numbers from an offset on, after k numbers that agree or do not, is the verdict on all of them.
+-- The invariant: the verdict on the numbers from `at`, after `k` numbers that agree or do not, is the verdict on all
+-- numbers.
 use Prim.Native.Nat.{_-_, _≤_}
 use mathlib.Core.Path.{_≡_}
 use mathlib.Core.Option.{some}

@@ -1,4 +1,4 @@
--- What is left up to i, trimmed at the end, is all of it trimmed at the end.
+-- The invariant: trimming the bytes from `from` to `i` at the end gives the same as trimming all bytes from `from`.
 use Prim.Native.Nat.{_-_, _≤_}
 use mathlib.Core.Path.{_≡_}
 use lib.ListN.{length, take, drop}

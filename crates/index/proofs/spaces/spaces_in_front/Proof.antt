@@ -1,4 +1,4 @@
--- What is left from i on, trimmed in front, is all of t trimmed in front.
+-- The invariant: trimming the bytes from `i` at the start gives the same as trimming all of `t`.
 use Prim.Native.Nat.{_-_, _≤_}
 use mathlib.Core.Path.{_≡_}
 use lib.ListN.{length, drop}

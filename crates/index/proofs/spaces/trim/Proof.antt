@@ -1,4 +1,4 @@
--- Trimmed in front and then at the end.
+-- The text is trimmed at the start and then at the end.
 use borrow.Author.Needs.{needs}
 use Rattle.index.proofs.TrimLaws.{trimmed}
 use Rattle.index.proofs.spaces.trim.Statement.{statement}

@@ -1,4 +1,4 @@
--- The list is put after what stands before it, and what stands after it comes last.
+-- The text before the list is put first, then the list, then the text after it.
 use borrow.Author.Needs.{needs}
 use Rattle.index.proofs.TextLaws.{index-put}
 use Rattle.index.proofs.text.put_index.Statement.{statement}

@@ -1,4 +1,4 @@
--- There are too many offsets, or the text is made and copied.
+-- There are two cases: there are too many offsets, or the text is made and copied.
 use borrow.Author.Needs.{needs}
 use Rattle.put.proofs.WrittenLaws.{own-inside, own-length}
 use Rattle.index.proofs.TextLaws.{index-many, index-own}

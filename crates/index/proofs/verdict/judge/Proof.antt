@@ -1,4 +1,4 @@
--- The verdict on a list is that on the lines around it.
+-- The verdict on the list is the verdict on the index around it.
 use borrow.Author.Needs.{needs}
 use Rattle.index.proofs.IndexLaws.{between-order, between-end, dashes-inside, verdict-nowhere, verdict-between, verdict-dashes}
 use Rattle.index.proofs.verdict.judge.Statement.{statement}
