@@ -111,8 +111,8 @@ module _ (t : Bytes) (first : ℕ) (f : first ≡ 0 + indexOf 46 (slice 0 (lengt
     version-two e = rw (two-parts, others-none 46 t second e) (sym (not-three _ (λ z. omega arith)))
 
     module _ (n′ : second ≡ length t → ⊥) (h′ : second ≤ length t) where
-      -- If `t` has a second point, then its version is that of three parts, and all that follows this point is the
-      -- third.
+      -- If `t` has a second point, then its version is that of three parts. The third part is all that follows this
+      -- point.
       three-parts : Header.version t
           ≡ Header.versionOf (numerals 4 (take first t
           ∷ take (second - (first + 1)) (drop (first + 1) t)
@@ -152,7 +152,7 @@ module _ (s : Bytes) (b : Bool) (h : b ≡ begins Header.token s) where
   header-token y p q = rw (← h, not-true b p) (ap refused q)
 
   module _ (p : not b ≡ false) (r : Line) (read : LineRead s 6 r) where
-    -- If the file begins with the token, then the line of the version follows.
+    -- If the file begins with the token, then the line of the version follows and decides the header.
     header-line : Header.header s ≡ Header.versionLine (lines (drop 6 s))
     unfolding Header.header
     header-line = rw (← h, not-false b p)

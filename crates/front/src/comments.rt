@@ -12,7 +12,7 @@ use scan::line;
 use scan::line::Line;
 use scan::text;
 
-// Returns where the comments from an offset end.
+// Returns the end of the comments that begin at an offset.
 pub fn comments_end(s: &[u8], from: usize) -> EndStep
     ensures { λ r. ⌜ endOutcome r ≡ comments from (lines (drop from (now (s .entry)))) ⌝ }
 {

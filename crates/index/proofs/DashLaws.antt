@@ -78,7 +78,7 @@ unfolding afterOthers atLeastOne
 others-none zero = refl
 others-none (suc k) = refl
 
--- If a number is read, then there is at least one.
+-- A list that begins with the number of a line is never empty, so `afterOthers` does not change it.
 others-both : (k : ℕ) (x : Option ℕ) (o : Option (List ℕ)) → afterOthers k (both x o) ≡ both x o
 unfolding afterOthers atLeastOne both
 others-both (suc k) x o = refl

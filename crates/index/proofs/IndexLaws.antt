@@ -67,7 +67,7 @@ abbrev IndexRead : Bytes → ListStep → Type 0
 IndexRead t r = ListRead t (indexed (lines t)) r
 
 module _ (t : Bytes) (a : Exact) (first : ExactRead t indexLine 0 a) where
-  -- If the first line is another, then the list is nowhere.
+  -- If the first line is not that of an index, then the list is nowhere.
   pub index-other : a ≡ Other → IndexRead t Nowhere
   unfolding indexed
   index-other h = nowhere t _ (word-other t 0 indexLine a first _ h)
@@ -78,7 +78,7 @@ module _ (t : Bytes) (a : Exact) (first : ExactRead t indexLine 0 a) where
     unfolding indexed
     index-after = word-after t 0 indexLine a first _ second ending p
 
-    -- If the second line is another, then the list is nowhere.
+    -- If the second line is not that of an index, then the list is nowhere.
     pub yaml-other : b ≡ Other → IndexRead t Nowhere
     yaml-other h = nowhere t _ (index-after ∙ word-other t second yamlLine b then _ h)
 

@@ -45,7 +45,7 @@ module _ (equal : Bool) (count k : ℕ) where
   pub all-others : (count ≡ k → ⊥) → IgnoredList ≡ goodIf (equal && eqb count k)
   all-others n = rw (ne-eqb count k n, and-false)
 
-  -- If the numbers agree and there are as many as offsets, then the index is good.
+  -- If the numbers agree and there are as many numbers as offsets, then the index is good.
   pub all-good : not equal ≡ false → count ≡ k → Good ≡ goodIf (equal && eqb count k)
   all-good h e = rw (not-false equal h, eq-eqb count k e)
 
@@ -54,7 +54,7 @@ unfoldable pub judgedFrom : Bool → ℕ → List ℕ → Option (List ℕ) → 
 judgedFrom equal k offsets none = IgnoredForm
 judgedFrom equal k offsets (some ns) = goodIf (equal && same ns (drop k offsets))
 
--- If there are no others before, then it is the verdict on the index.
+-- If there are no others before, then `judgedFrom` is the verdict on the index.
 pub judged-begin : (offsets : List ℕ) (o : Option (List ℕ)) → judgedFrom true 0 offsets o ≡ judged offsets o
 unfolding judgedFrom judged
 judged-begin offsets none = refl
@@ -72,7 +72,7 @@ judged-next equal k offsets x (some ns) = ap goodIf (go (ltb k (length offsets))
     go true e = rw (drop-cons offsets k 0 (ltb-true k (length offsets) e), add-one k, and-true equal) (sym (and-assoc equal _ _))
     go false e = rw (drop-of-length-le offsets (ltb-false k (length offsets) e), and-false equal)
 
--- If the numbers agree, then there are not more of them than offsets.
+-- If the numbers agree, then there are at most as many numbers as offsets.
 pub agrees-inside : (equal : Bool) (offsets : List ℕ) (k x : ℕ) (agree : Bool) → agree ≡ agreesAt equal offsets k x
     → agree ≡ true → k + 1 ≤ length offsets
 agrees-inside equal offsets k x agree a e =

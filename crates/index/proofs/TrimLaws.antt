@@ -29,7 +29,7 @@ module _ (t : Bytes) (i : ℕ) (x : Bytes) (left : trimStart (drop i t) ≡ x) w
   pub front-step : i < length t → getD t i 0 ≡ 32 → trimStart (drop (i + 1) t) ≡ x
   front-step h e = rw add-one (sym (start-space _ _ e) ∙ rw (drop-cons t i 0 h) at left)
 
-  -- If no byte is left, then nothing is left to trim.
+  -- If no byte is left, then no byte remains after trimming.
   pub front-done : length t ≤ i → drop i t ≡ x
   unfolding trimStart
   front-done h = rw (drop-of-length-le t h) (rw (drop-of-length-le t h) at left)
@@ -70,7 +70,7 @@ module _ (t : Bytes) (from i : ℕ) (x : Bytes) (left : trimEnd (take (i - from)
   pub end-step : from < i → i ≤ length t → getD t (i - 1) 0 ≡ 32 → trimEnd (take (i - 1 - from) (drop from t)) ≡ x
   end-step h k e = sym (end-space (take (i - 1 - from) (drop from t)) _ e) ∙ rw (last-byte t from i h k) at left
 
-  -- If no byte is left, then nothing is left to trim.
+  -- If no byte is left, then no byte remains after trimming.
   pub end-done : i ≤ from → take (i - from) (drop from t) ≡ x
   unfolding trimStart
   end-done h = let none : i - from ≡ 0 = omega arith in rw none (rw none at left)

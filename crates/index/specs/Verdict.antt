@@ -21,7 +21,7 @@ numbersIn t Nowhere = none
 numbersIn t (Between n m) = listed (some (take (m - n) (drop n t)))
 numbersIn t (Dashes n) = atLeastOne (dashNumbers (lines (drop n t)))
 
--- What an answer points to is inside the first `size` bytes.
+-- What an answer points to is inside a tail of `size` bytes.
 abbrev pub ListInside : ℕ → ListStep → Type 0
 ListInside size Nowhere = Unit {0}
 ListInside size (Between n m) = (n ≤ m) × (m ≤ size)
@@ -40,7 +40,7 @@ pub record EndRead (t : Bytes) (at : ℕ) (r : Bool) : Type 0 where
 abbrev pub agreesAt : Bool → List ℕ → ℕ → ℕ → Bool
 agreesAt agree offsets k x = agree && ltb k (length offsets) && eqb x (getD offsets k 0)
 
--- The verdict on a list: it is good if its numbers are the offsets.
+-- The verdict on a list: good if its numbers are the offsets, otherwise ignored for its list.
 abbrev pub goodIf : Bool → Verdict
 goodIf x = elim x [ true ↦ Good | false ↦ IgnoredList ]
 

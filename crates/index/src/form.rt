@@ -11,7 +11,7 @@ use scan::text;
 
 // Where the list of an index is.
 pub enum ListStep {
-    // The list is between brackets.
+    // The list is between brackets, from `from` to `to`.
     Between { from: usize, to: usize },
     // The list is on the lines from here, each number after a dash. The end line is not looked for yet.
     Dashes(usize),
@@ -47,7 +47,7 @@ fn styled_list(t: &[u8], at: usize) -> ListStep
     in_brackets(t, at, text_end)
 }
 
-// Whether an index ends at an offset: with the end line, and zeros after it.
+// Whether an index ends at an offset: with the end line, and only zeros after it.
 fn ends_at(t: &[u8], at: usize) -> bool
     ensures { λ r. ⌜ EndRead (now (t .entry)) at r ⌝ }
 {

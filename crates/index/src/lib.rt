@@ -1,4 +1,4 @@
-// The block index, given only offsets: the verdict on an index, and the text of one.
+// The block index: the verdict on an index, and the text of one. Of the blocks, only the offsets are needed.
 mod dashes;
 mod form;
 mod list;

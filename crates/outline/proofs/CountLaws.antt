@@ -1,4 +1,4 @@
--- Laws about the rules of stored rows and about counting them. The invariant of the count: counting on from any row
+-- Laws about the rules of stored rows and about counting them. The invariant of the count: continuing it at any row
 -- gives the count of the whole outline.
 use Prim.Native.Nat.{ℕ, suc, _+_, _-_, _/_, _%_, _≤_, _<_}
 use native.Mathlib.Nat.{zero-add, mod-lt}
@@ -60,8 +60,8 @@ countedFrom n o = do
   rs ← o
   accepted (n + length rs)
 
--- The invariant of the count: the rows before offset `at` are accepted, and counting on from there gives the count of
--- the whole outline.
+-- The invariant of the count: the rows before offset `at` are accepted, and continuing the count there gives the count
+-- of the whole outline.
 pub record Counting (b : Bytes) (at most : ℕ) : Type 0 where
   pub whole : length b % rowBytes ≡ 0
   pub begin : at % rowBytes ≡ 0
@@ -105,7 +105,7 @@ counted-next n at r (refused e) = refl
 
 module _ (b : Bytes) (at most : ℕ) (h : Counting b at most) (p : at < length b) where
   module _ (r : Row) (is : r ≡ decodeRow (take rowBytes (drop at b))) (x : Bool) (test : x ≡ isRow most r) where
-    -- Counting on with the next row and the rows after it gives the count of the whole outline.
+    -- Continuing the count with the next row and the rows after it gives the count of the whole outline.
     next-row : countedFrom (at / rowBytes) (rowAnd x at r (storedFrom ((length b - (at + rowBytes)) / rowBytes) (at + rowBytes) (r .depth + 1) (drop (at + rowBytes) b)))
         ≡ storedCount b
     unfolding storedFrom

@@ -141,8 +141,8 @@ state-same x h =
 front-same : (front : ℕ) (place : OutermostOffset) (allocated used : ℕ) → front < 256 ^ 4 → frontOf (rowWith front place allocated used) ≡ front
 front-same front place allocated used h = simp (bit-of-flag, state-same (front / 16777216) (omega arith)) (omega arith)
 
--- If the four parts are read from sixteen bytes, then the row with these parts is the row in these bytes, because it is
--- written as them.
+-- If the four parts are read from sixteen bytes, then the row with these parts is the row in these bytes. This is so
+-- because it is written as the same bytes.
 pub row-read : (s : Bytes) (at front p a u : ℕ) (start place : OutermostOffset) → ((i : ℕ) → Fits w8 (getD s i 0)) → at + 16 ≤ length s
     → Field s at 4 front
     → Field s (at + 4) 4 p

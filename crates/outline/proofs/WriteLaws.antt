@@ -152,7 +152,7 @@ module _ (form : RowForm) (b : Bytes) (a : CountAnswer) (m : ℕ) (h : countAnsw
     write-long p = written-short (storedIn form b) out rowsOf are-rows (rw are-long (div-lt-iff-lt-mul some .0 p))
 
     module _ (p : length b / rowBytes ≤ length out / each) where
-      -- If the buffer is long enough for that many rows, then their bytes fit into it.
+      -- If `length out / each` is at least the number of rows, then the rows fit into the buffer.
       pub write-room : length rowsOf ≤ length out
       write-room = rw are-long (le-div-iff-mul-le some .0 p)
 

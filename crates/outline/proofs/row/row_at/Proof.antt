@@ -1,4 +1,4 @@
--- The row with the four parts that are read is written as the sixteen bytes. So it is the row in them.
+-- The row with the four parts that are read is written as the sixteen bytes. So it is the row in these bytes.
 use borrow.Author.Needs.{needs}
 use Rattle.outline.proofs.RowLaws.{row-read}
 use Rattle.outline.proofs.row.row_at.Statement.{statement}

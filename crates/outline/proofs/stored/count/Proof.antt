@@ -1,4 +1,4 @@
--- The invariant: counting on from any row gives the count of the whole outline.
+-- The invariant: continuing the count at any row gives the count of the whole outline.
 use Prim.Native.Nat.{_-_}
 use lib.ListN.{length}
 use borrow.Author.Needs.{needs}
