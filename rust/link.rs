@@ -2,10 +2,10 @@
 
 use std::path::Path;
 
-/// The repository's root, from a package's folder.
+/// The root of the repository, as seen from a package's folder.
 const ROOT: &str = concat!(env!("CARGO_MANIFEST_DIR"), "/../..");
 
-/// Links `target/staticlib/libNAME.a`, or says how to get it.
+/// Links `target/staticlib/libNAME.a`, or reports how to make it.
 fn link(name: &str) {
     let folder = Path::new(ROOT).join("target/staticlib");
     let library = folder.join(format!("lib{name}.a"));

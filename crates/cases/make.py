@@ -51,7 +51,7 @@ B = A + block()
 T = A + TREE + b" " * 10 + block()
 
 CASES = {
-    # P1 to P12; P13 is a refused edit, which prints nothing
+    # P1 to P12. P13 is missing, because it is a refused edit, which prints nothing.
     "p01-empty": b"",
     "p02-header": A,
     "p03-unended-header": A[:-1],
@@ -64,7 +64,7 @@ CASES = {
     "p10-file-inside": inside(B, 1),
     "p11-tree": T,
     "p12-edited-tree": A + LONGER_TREE + block(),
-    # both sides of each limit
+    # Both sides of each limit.
     "blocks-64": A + block() * 64,
     "blocks-65": A + block() * 65,
     "depth-7": inside(B, 7),
@@ -74,10 +74,10 @@ CASES = {
     "streamed-empty": A + block(flags=1),
     "sizes-of-all-ff": A + block(allocated=ALL_FF, used=ALL_FF, data_size=ALL_FF),
     "streamed-sizes-of-all-ff": A + block(b"ab", flags=1, allocated=ALL_FF, used=ALL_FF, data_size=ALL_FF),
-    # free space that is searched in blocks of 64
+    # Free space, which is searched in blocks of 64 bytes.
     "mark-over-64-bytes": A + TREE + b"\xd3BL" * 21 + block(),
     "part-of-a-mark-at-the-end": A + TREE + b" " * 128 + b"\xd3BL",
-    # space between blocks
+    # Gaps between blocks.
     "gap-of-zeros": B + bytes(5) + block(),
     "gap-of-parts-of-marks": B + b"\xd3BL" * 21 + block(),
     "gap-of-16-of-the-17-bytes": B + INDEX_LINE[:16] + block(),
@@ -95,7 +95,7 @@ CASES = {
     "gap-inside": inside(B + bytes(2) + block(), 1),
     "gap-after-a-refused-file": A + block(B + b"q") + b"gap" + block(),
     "gap-before-the-first": A + b" " + block(),
-    # an index with dashes
+    # Indexes with dashes.
     "dashes-good": B + dashes(b"- 12\n"),
     "dashes-spaces-line-ends-zeros": B + block() + dashes(b"- 12  \r\n- 66 \n", b"---\r\n") + bytes(3),
     "dashes-of-64-blocks": A + block() * 64 + dashes(b"".join(b"- %d\n" % (12 + 54 * i) for i in range(64))),
@@ -112,7 +112,7 @@ CASES = {
     "dashes-empty-line": B + dashes(b"- 12\n\n"),
     "dashes-no-end-line": B + dashes(b"- 12\n")[:-4],
     "dashes-more-than-zeros": B + dashes(b"- 12\n") + b"\0x",
-    # line ends of two bytes
+    # Line ends of two bytes.
     "dos-header": DOS_A,
     "dos-one-block": DOS_A + block(),
     "dos-good-index": DOS_A + block() + dos_index(b"13"),

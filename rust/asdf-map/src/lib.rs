@@ -1,7 +1,8 @@
-//! Private memory maps of files and of zeros, by libc's own functions. x86-64 Linux.
+//! Private memory maps of files and of zeros, made by libc's own functions on x86-64 Linux.
 //!
-//! **What is assumed of a mapped file**: nobody changes or shortens it while it is mapped. A private map may show what
-//! others write to the file, and a page that is no longer in the file ends the process.
+//! **What is assumed about a mapped file**: nobody changes or shortens it while it is mapped. A
+//! private map may show what others write to the file, and access to a page that is no longer in
+//! the file ends the process.
 
 use std::ffi::{c_int, c_void};
 use std::fs::File;
@@ -31,27 +32,28 @@ const MAP_ANONYMOUS: c_int = 0x20;
 const MAP_NORESERVE: c_int = 0x4000;
 const NO_FILE: c_int = -1;
 
-/// Mapped bytes. They can be read; to be changed they are lent. What is changed takes memory, and no file sees it.
+/// Mapped bytes. They can be read, and they are lent to be changed. Changed bytes take memory, and
+/// the changes do not reach the file.
 pub struct Map {
-    /// Nowhere where there are no bytes, since the system makes no such map.
+    /// Null if there are no bytes, because the system does not make an empty map.
     start: *mut c_void,
     length: usize,
 }
 
 impl Map {
-    /// The bytes of a file.
+    /// Maps the bytes of a file.
     pub fn of_file(file: &File) -> io::Result<Map> {
         let length = usize::try_from(file.metadata()?.len()).map_err(io::Error::other)?;
         Map::new(length, MAP_PRIVATE | MAP_NORESERVE, file.as_raw_fd())
     }
 
-    /// So many zeros.
+    /// Maps `length` zeros.
     pub fn of_zeros(length: usize) -> io::Result<Map> {
         let flags = MAP_PRIVATE | MAP_ANONYMOUS | MAP_NORESERVE;
         Map::new(length, flags, NO_FILE)
     }
 
-    /// A new map.
+    /// Makes a new map, which can only be read.
     fn new(length: usize, flags: c_int, file: c_int) -> io::Result<Map> {
         if length == 0 {
             let start = null_mut();
@@ -59,29 +61,31 @@ impl Map {
         }
         // SAFETY: a new map at an address that the system chooses touches no memory in use.
         let start = unsafe { mmap(null_mut(), length, PROT_READ, flags, file, 0) };
-        // Failure is the address of all ones.
+        // A failed call returns the address whose bits are all ones.
         if start as isize == -1 {
             return Err(io::Error::last_os_error());
         }
         Ok(Map { start, length })
     }
 
-    /// The bytes to be changed.
+    /// Lends the bytes to be changed.
     pub fn lend(&mut self) -> io::Result<&mut [u8]> {
         self.allow(PROT_READ | PROT_WRITE)?;
         if self.length == 0 {
             return Ok(&mut []);
         }
-        // SAFETY: a map of this length begins there, is writable now, and is lent with `self` alone.
+        // SAFETY: a map of this length begins there and is writable now, and only the borrower of
+        // `self` has the slice.
         Ok(unsafe { slice::from_raw_parts_mut(self.start.cast(), self.length) })
     }
 
-    /// After bytes were lent: the system ends a process that writes to them again without that.
+    /// Makes the bytes read-only again after they were lent. The system then ends a process that
+    /// writes to them, until they are lent again.
     pub fn protect(&mut self) -> io::Result<()> {
         self.allow(PROT_READ)
     }
 
-    /// Says what may be done with the bytes; they are always readable.
+    /// Sets what may be done with the bytes. They are always readable.
     fn allow(&mut self, protection: c_int) -> io::Result<()> {
         // SAFETY: the map has this length and is ours alone, and no slice of it is lent now.
         match unsafe { mprotect(self.start, self.length, protection) } {
@@ -116,7 +120,7 @@ impl Drop for Map {
 mod tests {
     use super::*;
 
-    /// This source text, as a file.
+    /// This source file, opened.
     fn this_file() -> io::Result<File> {
         File::open(concat!(env!("CARGO_MANIFEST_DIR"), "/src/lib.rs"))
     }

@@ -1,4 +1,4 @@
-//! What is asked for on the command line.
+//! The command line, understood as a command.
 
 use crate::failure::Failure;
 use crate::help;
@@ -6,7 +6,7 @@ use crate::source::is_standard;
 use std::ffi::OsString;
 use std::path::PathBuf;
 
-/// What is to be done.
+/// What the tool has to do.
 #[derive(Debug, PartialEq)]
 pub enum Command {
     Help(&'static str),
@@ -28,7 +28,7 @@ pub enum Form {
     Json,
 }
 
-/// The words behind a command's name.
+/// The words after a command's name, sorted by what they are.
 #[derive(Default)]
 struct Words {
     options: Vec<String>,
@@ -36,7 +36,7 @@ struct Words {
     out: Option<PathBuf>,
 }
 
-/// Understands the words of the command line.
+/// Turns the words of the command line into a command.
 pub fn parse(words: Vec<OsString>) -> Result<Command, Failure> {
     let mut words = words.into_iter();
     let name = words.next().unwrap_or_default();
@@ -53,7 +53,7 @@ pub fn parse(words: Vec<OsString>) -> Result<Command, Failure> {
     words.command(&name).ok_or_else(|| Failure::usage(wrong()))
 }
 
-/// What `--help` prints for a command.
+/// The text that `--help` prints for a command. None if there is no such command.
 fn help_of(name: &str) -> Option<&'static str> {
     match name {
         "--help" | "help" => Some(help::ALL),
@@ -68,7 +68,7 @@ fn help_of(name: &str) -> Option<&'static str> {
 }
 
 impl Words {
-    /// Tells options and files apart.
+    /// Separates options from files.
     fn sorted(mut words: impl Iterator<Item = OsString>) -> Words {
         let mut sorted = Words::default();
         while let Some(word) = words.next() {
@@ -84,7 +84,7 @@ impl Words {
         sorted
     }
 
-    /// The command of this name with these words, if they are the right ones.
+    /// The command of this name with these words. None if the words do not fit it.
     fn command(self, name: &str) -> Option<Command> {
         let options: Vec<&str> = self.options.iter().map(String::as_str).collect();
         let mut files = self.files.into_iter();
@@ -113,7 +113,7 @@ impl Words {
     }
 }
 
-/// The form that the options of a listing name.
+/// The form of a listing that the options name.
 fn form(options: &[&str]) -> Option<Form> {
     match options {
         [] => Some(Form::Table),
@@ -127,7 +127,7 @@ fn form(options: &[&str]) -> Option<Form> {
 mod tests {
     use super::*;
 
-    /// The command of a line.
+    /// The command of a line of words. None if the call is wrong.
     fn parsed(line: &str) -> Option<Command> {
         parse(line.split_whitespace().map(OsString::from).collect()).ok()
     }

@@ -1,4 +1,5 @@
-//! The edit of a file in place, which never leaves it half edited: what is there before is kept until the new is whole.
+//! Edits a file in place. The old room is kept until the new one is complete, so that an
+//! interrupted edit can be undone.
 
 use crate::failure::Failure;
 use crate::kept::{self, Kept};
@@ -19,7 +20,7 @@ pub fn edit(path: &Path, text: &Source) -> Result<(), Failure> {
     let bytes = target.changeable(&mut map)?;
     let refused = |refusal| Failure::refused(path.display(), refusal);
     asdf_layout::edit(bytes, text).map_err(refused)?;
-    // An edit leaves the room where it was.
+    // An edit does not move the room, so this is also where the old room is.
     let room = room_of(bytes).map_err(refused)?;
     let room = room.expect("an edited file has a tree");
     let mut steps = Steps::new();
@@ -36,20 +37,21 @@ pub fn restore(path: &Path) -> Result<(), Failure> {
     };
     let mut map = target.map()?;
     let bytes = target.changeable(&mut map)?;
-    // The proved reader has to find the old room again, else it is of another file.
+    // The proved reader has to find the old room again. Otherwise the kept room belongs to another
+    // file.
     if !kept.put_into(bytes) || room_of(bytes).ok().flatten() != Some(kept.room()) {
         return Err(kept.of_another_file(&target));
     }
     finish(&target, bytes, kept.room(), &mut Steps::new())
 }
 
-/// The room of a file's tree, if it has one.
+/// The room of a file's tree, if the file has a tree.
 fn room_of(bytes: &[u8]) -> Result<Option<Range<usize>>, Refusal> {
     let tree = Layout::read(bytes)?.tree;
     Ok(tree.map(|tree| tree.room()))
 }
 
-/// Writes the room to the file, and removes what was kept of it.
+/// Writes the room to the file, then removes the kept room.
 fn finish(
     target: &Target,
     bytes: &[u8],

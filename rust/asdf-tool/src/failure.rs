@@ -1,4 +1,4 @@
-//! Why a command did not do what was asked for: one sentence, and the exit status.
+//! Why a command did not do what was asked: one sentence and the exit status.
 
 use asdf_layout::Refusal;
 use std::fmt::{self, Display};
@@ -6,12 +6,12 @@ use std::io;
 use std::path::Path;
 use std::process::ExitCode;
 
-/// The status of what a proved function turns away.
+/// The status when a proved function refuses something.
 const REFUSED: u8 = 1;
-/// The status of a wrong call, and of what the system does not do.
+/// The status of a wrong call, and of an operation that the system does not carry out.
 const NOT_DONE: u8 = 2;
 
-/// A sentence and a status.
+/// What a failed command prints, and its exit status.
 #[derive(Debug)]
 pub struct Failure {
     status: u8,
@@ -19,7 +19,7 @@ pub struct Failure {
 }
 
 impl Failure {
-    /// A proved function turns something away.
+    /// A proved function refused something.
     pub fn refused(name: impl Display, refusal: Refusal) -> Failure {
         Failure {
             status: REFUSED,
@@ -27,7 +27,7 @@ impl Failure {
         }
     }
 
-    /// The tool is not called as it has to be.
+    /// The command cannot be carried out as it was called.
     pub fn usage(sentence: impl Into<String>) -> Failure {
         Failure {
             status: NOT_DONE,
@@ -35,17 +35,17 @@ impl Failure {
         }
     }
 
-    /// The system does not do something.
+    /// The system did not carry out an operation.
     pub fn system(what: impl Display, error: io::Error) -> Failure {
         Failure::usage(format!("{what}: {error}"))
     }
 
-    /// The system does not do something with a file.
+    /// The system did not carry out an operation on a file.
     pub fn at(what: &str, path: &Path, error: io::Error) -> Failure {
         Failure::system(format_args!("{what} {}", path.display()), error)
     }
 
-    /// The same, with advice.
+    /// The same failure, with what holds now or what to do next.
     pub fn with_advice(mut self, advice: impl Display) -> Failure {
         self.sentence = format!("{}; {advice}", self.sentence);
         self

@@ -1,4 +1,4 @@
-//! What `--help` prints.
+//! The texts that `--help` prints.
 
 pub const ALL: &str = "\
 Says where everything lies in an ASDF file, also in the files inside its blocks.

@@ -1,7 +1,9 @@
-//! The old room of a file that is being edited, kept beside it until the edit is finished.
+//! The old room of a file that is being edited, kept in a second file beside it until the edit is
+//! finished.
 //!
-//! It holds a line with three numbers (where the room begins, its length, the length of the file) and the room's bytes.
-//! It is written under another name first: where it has its own name, it is whole and on the disk.
+//! The second file holds a line with three numbers (where the room begins, its length, the length
+//! of the file) and the room's bytes. It is first written under another name. So if it has its
+//! final name, it is complete and on the disk.
 
 use crate::failure::Failure;
 use crate::steps::Steps;
@@ -13,21 +15,21 @@ use std::ops::Range;
 use std::os::unix::fs::OpenOptionsExt;
 use std::path::{Path, PathBuf};
 
-/// The name behind that of the file.
+/// The final name of the kept room is the name of the file with this suffix.
 const SUFFIX: &str = ".old-room";
-/// The name while it is written.
+/// The suffix while the kept room is being written.
 const UNFINISHED_SUFFIX: &str = ".old-room.part";
 /// The word before the three numbers.
 const WORD: &str = "asdf-layout-room";
-/// Only the owner may read it: the file itself may be private.
+/// Only the owner may read the kept room, because the file itself may be private.
 const MODE: u32 = 0o600;
 
-/// Whether an edit of this file was not finished.
+/// Whether an edit of this file was not finished: then its old room is kept beside it.
 pub fn is_beside(path: &Path) -> bool {
     fs::canonicalize(path).is_ok_and(|path| beside(&path, SUFFIX).exists())
 }
 
-/// The sentence that says so.
+/// The sentence that reports an edit that was not finished.
 pub fn unfinished(path: &Path) -> String {
     let path = path.display();
     format!(
@@ -35,7 +37,7 @@ pub fn unfinished(path: &Path) -> String {
     )
 }
 
-/// The path with a suffix behind its name.
+/// The path with a suffix after its name.
 fn beside(path: &Path, suffix: &str) -> PathBuf {
     let mut name = path.as_os_str().to_owned();
     name.push(suffix);
@@ -50,19 +52,19 @@ pub struct Kept {
     file_length: usize,
 }
 
-/// Keeps the room of a file: behind this it is on the disk.
+/// Keeps the room of a file. When this returns without a failure, the kept room is on the disk.
 pub fn keep(target: &Target, room: Range<usize>, steps: &mut Steps) -> Result<(), Failure> {
     let part = beside(&target.path, UNFINISHED_SUFFIX);
     let path = beside(&target.path, SUFFIX);
     let kept = write_part(target, room, &part, steps).and_then(|()| give_name(&part, &path, steps));
     kept.map_err(|error| {
-        // What could not be written whole is of no use, and may be long.
+        // An incomplete kept room is of no use, and it may be long.
         let _ = fs::remove_file(&part);
         Failure::at("cannot keep the old room in", &path, error)
     })
 }
 
-/// Gives its own name to what is kept, and brings the name to the disk.
+/// Gives the kept room its final name, and brings the name to the disk.
 fn give_name(part: &Path, path: &Path, steps: &mut Steps) -> io::Result<()> {
     fs::rename(part, path)?;
     steps.done();
@@ -71,14 +73,15 @@ fn give_name(part: &Path, path: &Path, steps: &mut Steps) -> io::Result<()> {
     Ok(())
 }
 
-/// Writes what is kept under its first name.
+/// Writes the kept room under its first name.
 fn write_part(
     target: &Target,
     room: Range<usize>,
     part: &Path,
     steps: &mut Steps,
 ) -> io::Result<()> {
-    // One that is left from a stopped edit is of no use: the file was not touched then.
+    // What a stopped edit left under this name is of no use, because that edit did not change the
+    // file.
     remove_if_there(part)?;
     let bytes = Map::of_file(&target.file)?;
     let line = line(&room, bytes.len());
@@ -94,12 +97,12 @@ fn write_part(
     Ok(())
 }
 
-/// The line before the room.
+/// The line before the bytes of the room.
 fn line(room: &Range<usize>, file_length: usize) -> String {
     format!("{WORD} {} {} {file_length}\n", room.start, room.len())
 }
 
-/// Removes a file, if it is there.
+/// Removes a file if it exists.
 fn remove_if_there(path: &Path) -> io::Result<()> {
     match fs::remove_file(path) {
         Err(error) if error.kind() == ErrorKind::NotFound => Ok(()),
@@ -107,7 +110,7 @@ fn remove_if_there(path: &Path) -> io::Result<()> {
     }
 }
 
-/// Removes what is kept of a file, which is whole again.
+/// Removes the kept room of a file that is whole again.
 pub fn remove(target: &Target, steps: &mut Steps) -> Result<(), Failure> {
     let path = beside(&target.path, SUFFIX);
     let failed = |error| Failure::at("cannot remove", &path, error);
@@ -119,7 +122,7 @@ pub fn remove(target: &Target, steps: &mut Steps) -> Result<(), Failure> {
 }
 
 impl Kept {
-    /// What is kept of a file, if anything is.
+    /// Reads the kept room of a file, if there is one.
     pub fn read(target: &Target) -> Result<Option<Kept>, Failure> {
         let path = beside(&target.path, SUFFIX);
         let opened = File::open(&path).and_then(|file| Map::of_file(&file));
@@ -130,7 +133,7 @@ impl Kept {
         }
     }
 
-    /// What a kept file says; its form has to be exact.
+    /// Reads what a kept room states. Its form has to be exact.
     fn parse(path: PathBuf, bytes: Map) -> Result<Kept, Failure> {
         let kept = numbers(&bytes).and_then(|[start, length, file_length]| {
             let room = start..start.checked_add(length)?;
@@ -151,12 +154,13 @@ impl Kept {
         }
     }
 
-    /// Where the room is.
+    /// Where the room is in the file.
     pub fn room(&self) -> Range<usize> {
         self.room.clone()
     }
 
-    /// Puts the old room into the file's bytes, if they are as many as they were.
+    /// Puts the old room into the file's bytes and returns true, if the file still has the length
+    /// it had.
     pub fn put_into(&self, file: &mut [u8]) -> bool {
         let old = &self.bytes[self.bytes.len() - self.room.len()..];
         let fits = file.len() == self.file_length && self.room.end <= file.len();
@@ -166,7 +170,7 @@ impl Kept {
         fits
     }
 
-    /// The failure that says that this is not of the file.
+    /// The failure that reports that this kept room does not fit the file.
     pub fn of_another_file(&self, target: &Target) -> Failure {
         let (path, file) = (self.path.display(), target.path.display());
         Failure::usage(format!(
@@ -175,7 +179,7 @@ impl Kept {
     }
 }
 
-/// The three numbers of the line.
+/// The three numbers of the first line.
 fn numbers(bytes: &[u8]) -> Option<[usize; 3]> {
     let end = bytes.iter().position(|&byte| byte == b'\n')?;
     let line = str::from_utf8(&bytes[..end]).ok()?;

@@ -1,4 +1,5 @@
-//! The tool `asdf-layout`: what the proved functions say of a file, for people and for other programs.
+//! The tool `asdf-layout`: shows what the proved functions report about a file, for people and for
+//! other programs.
 
 #![forbid(unsafe_code)]
 
@@ -36,7 +37,7 @@ fn main() -> ExitCode {
     }
 }
 
-/// Does what is asked for.
+/// Carries out a command.
 fn run(command: Command) -> Result<(), Failure> {
     match command {
         Command::Help(text) => print(text.as_bytes()),
@@ -58,7 +59,8 @@ fn print(bytes: &[u8]) -> Result<(), Failure> {
     written.map_err(|error| Failure::system("cannot write standard output", error))
 }
 
-/// Prints a listing. The forms for programs tell a refusal too, before it is told in a sentence.
+/// Prints a listing. The forms for programs also print a refusal, before it is reported in a
+/// sentence on standard error.
 fn list(source: &Source, form: Form) -> Result<(), Failure> {
     let listing = match form {
         Form::Table => table::listing(source),
@@ -79,20 +81,20 @@ fn list(source: &Source, form: Form) -> Result<(), Failure> {
     }
 }
 
-/// Prints the text of the tree; nothing where there is none.
+/// Prints the text of the tree, or nothing if there is no tree.
 fn print_tree(source: &Source) -> Result<(), Failure> {
     let layout = source.accepted(Layout::read(source))?;
     let text = layout.tree.map_or(0..0, |tree| tree.text());
     print(&source[text])
 }
 
-/// Prints what is to be thought of the index.
+/// Prints the verdict on the index.
 fn print_verdict(source: &Source) -> Result<(), Failure> {
     let layout = source.accepted(Layout::read(source))?;
     print(format!("{}\n", words::verdict(layout.index)).as_bytes())
 }
 
-/// Prints the text of an index for the file.
+/// Prints the text of the correct index for the file.
 fn print_index(source: &Source) -> Result<(), Failure> {
     print(&source.accepted(index_text(source))?)
 }

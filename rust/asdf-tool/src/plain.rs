@@ -1,8 +1,9 @@
-//! The listing for programs: a line for the tree, one for each row, one for the verdict; or one for the refusal.
+//! The listing for programs: a line for the tree, one for each row and one for the verdict. If the
+//! file is refused, it is one line for the refusal.
 
 use asdf_layout::{Layout, Outline, Refusal, Tree};
 
-/// The listing of a file that is accepted.
+/// The listing of an accepted file.
 pub fn listing(file: &[u8]) -> Result<String, Refusal> {
     let layout = Layout::read(file)?;
     let rows = rows(&Outline::of_file(file)?);
@@ -10,12 +11,12 @@ pub fn listing(file: &[u8]) -> Result<String, Refusal> {
     Ok(format!("tree {tree}\n{rows}index {}\n", layout.index))
 }
 
-/// The listing of a file that is refused.
+/// The listing of a refused file.
 pub fn refused(refusal: &Refusal) -> String {
     format!("refused {} {}\n", refusal.number, refusal.place)
 }
 
-/// The lines of an outline's rows.
+/// The rows of an outline, one on each line.
 pub fn rows(outline: &Outline) -> String {
     outline.rows().map(|row| format!("{row}\n")).collect()
 }

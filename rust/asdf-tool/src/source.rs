@@ -10,9 +10,9 @@ use std::ops::Deref;
 use std::os::unix::fs::MetadataExt;
 use std::path::{Path, PathBuf};
 
-/// The word for standard input and output.
+/// The word that means standard input or output.
 const STANDARD: &str = "-";
-/// A file that is so long is refused, whatever else it holds.
+/// A file of this length or more is refused, whatever it holds.
 const TOO_LONG: u64 = 1 << 32;
 
 /// Whether a path means standard input or output.
@@ -20,7 +20,7 @@ pub fn is_standard(path: &Path) -> bool {
     path == Path::new(STANDARD)
 }
 
-/// What the input at a path is called.
+/// The name of the input at a path, for messages.
 fn name(path: &Path) -> String {
     match is_standard(path) {
         true => "standard input".to_string(),
@@ -28,25 +28,26 @@ fn name(path: &Path) -> String {
     }
 }
 
-/// Bytes, and where they are from.
+/// Bytes, and where they come from.
 pub struct Source {
     path: PathBuf,
     bytes: Bytes,
 }
 
-/// Where the bytes are now.
+/// How the bytes are held.
 enum Bytes {
-    /// In a file, which stays locked against edits while it is open.
+    /// They are mapped from a file, which stays locked against edits while it is open.
     Mapped(Map, File),
     Read(Vec<u8>),
 }
 
 impl Source {
-    /// The bytes of an ASDF file. Waits until no edit of it runs, and says so where one was not finished.
+    /// The bytes of an ASDF file. Waits until no edit of it is running, and warns if an edit was
+    /// not finished.
     pub fn file(path: &Path) -> Result<Source, Failure> {
         let source = Source::open(path, TOO_LONG)?;
         if let Bytes::Mapped(_, file) = &source.bytes {
-            // Where there are no locks, the file is taken as it is.
+            // If the file cannot be locked, it is read as it is.
             let _ = file.lock_shared();
         }
         if kept::is_beside(path) {
@@ -55,12 +56,12 @@ impl Source {
         Ok(source)
     }
 
-    /// The bytes of anything else, which has no limit of its own.
+    /// The bytes of any other input, whose length has no limit here.
     pub fn whole(path: &Path) -> Result<Source, Failure> {
         Source::open(path, u64::MAX)
     }
 
-    /// Opens; of what cannot be mapped no more than `enough` bytes are read.
+    /// Opens an input. If it cannot be mapped, it is read, but no more than `enough` bytes of it.
     fn open(path: &Path, enough: u64) -> Result<Source, Failure> {
         let bytes = match is_standard(path) {
             true => read(io::stdin(), enough),
@@ -73,17 +74,17 @@ impl Source {
         })
     }
 
-    /// What a proved function says of these bytes, or the failure that tells its refusal.
+    /// What a proved function reports about these bytes, or the failure that states its refusal.
     pub fn accepted<T>(&self, result: Result<T, Refusal>) -> Result<T, Failure> {
         result.map_err(|refusal| Failure::refused(self.name(), refusal))
     }
 
-    /// What the bytes are called.
+    /// The name of the bytes, for messages.
     pub fn name(&self) -> String {
         name(&self.path)
     }
 
-    /// Whether these bytes are those of the file at a path.
+    /// Whether these bytes are those of the file at `path`, even if its name differs.
     pub fn is_at(&self, path: &Path) -> bool {
         let identity = |path: &Path| fs::metadata(path).map(|file| (file.dev(), file.ino()));
         match (identity(&self.path), identity(path)) {
@@ -104,7 +105,7 @@ impl Deref for Source {
     }
 }
 
-/// The bytes of an opened file: mapped, or read where it is a pipe.
+/// The bytes of an opened file: mapped, or read if it is not a regular file, such as a pipe.
 fn bytes_of(file: File, enough: u64) -> io::Result<Bytes> {
     if !file.metadata()?.is_file() {
         return read(file, enough);
@@ -112,7 +113,7 @@ fn bytes_of(file: File, enough: u64) -> io::Result<Bytes> {
     Ok(Bytes::Mapped(Map::of_file(&file)?, file))
 }
 
-/// Reads to the end, or as much as is enough.
+/// Reads to the end, but no more than `enough` bytes.
 fn read(input: impl Read, enough: u64) -> io::Result<Bytes> {
     let mut bytes = Vec::new();
     input.take(enough).read_to_end(&mut bytes)?;

@@ -5,7 +5,7 @@ use crate::words;
 use asdf_layout::{Layout, Record, Records, Refusal, Tree};
 use std::ops::Range;
 
-/// The columns of the table of blocks.
+/// The number of columns in the table of blocks.
 const COLUMNS: usize = 7;
 const HEADINGS: [&str; COLUMNS] = [
     "block",
@@ -16,10 +16,10 @@ const HEADINGS: [&str; COLUMNS] = [
     "checksum",
     "content",
 ];
-/// Spaces before the ordinal of a block, for each file around its own.
+/// The number of spaces before the ordinal of a block, for each file around the file of the block.
 const INDENTATION: usize = 2;
 
-/// The listing of a file that is accepted.
+/// The listing of an accepted file.
 pub fn listing(file: &Source) -> Result<String, Refusal> {
     let layout = Layout::read(file)?;
     let records = Records::read(file)?;
@@ -35,7 +35,7 @@ pub fn listing(file: &Source) -> Result<String, Refusal> {
     Ok(format!("{front}{}index     {verdict}\n", blocks(&records)))
 }
 
-/// Where something is.
+/// Where something is in the file.
 fn stretch(range: Range<usize>) -> String {
     match range.is_empty() {
         true => "none".to_string(),
@@ -43,13 +43,13 @@ fn stretch(range: Range<usize>) -> String {
     }
 }
 
-/// Where the tree is, and how much an edit may fill.
+/// Where the tree is, and how many bytes an edit may fill.
 fn tree(tree: Tree) -> String {
     let room = words::size(tree.room().len());
     format!("{}, in a room of {room}", stretch(tree.text()))
 }
 
-/// The table of all blocks; nothing where there are none.
+/// The table of all blocks, or a line that says that there are none.
 fn blocks(records: &Records) -> String {
     let mut rows: Vec<[String; COLUMNS]> = records.iter().map(row).collect();
     if rows.is_empty() {
@@ -79,7 +79,7 @@ fn row(record: Record) -> [String; COLUMNS] {
     ]
 }
 
-/// Lines of columns, each as wide as its widest word, with two spaces between.
+/// Lines of columns. Each column is as wide as its longest word, and two spaces separate columns.
 fn aligned(rows: &[[String; COLUMNS]]) -> String {
     let width = |column: usize| rows.iter().map(|row| row[column].len()).max();
     let widths: [usize; COLUMNS] = std::array::from_fn(|column| width(column).unwrap_or(0));

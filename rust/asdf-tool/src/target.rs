@@ -9,18 +9,18 @@ use std::ops::Range;
 use std::os::unix::fs::FileExt;
 use std::path::{Path, PathBuf};
 
-/// Bytes are written in pieces of this length, so that a test can stop the tool between two of them.
+/// Bytes are written in pieces of this length, so that a test can stop the tool between two pieces.
 const PIECE: usize = 1 << 16;
 
-/// A file that nobody else changes by this tool until it is dropped.
+/// A file that no other call of this tool changes until this value is dropped.
 pub struct Target {
-    /// Its own path, with every link followed.
+    /// The path of the file itself, with every link followed.
     pub path: PathBuf,
     pub file: File,
 }
 
 impl Target {
-    /// Opens a file, and waits until no other edit of it runs.
+    /// Opens a file, and waits until no other edit of it is running.
     pub fn open(path: &Path) -> Result<Target, Failure> {
         let failed = |error| Failure::at("cannot open", path, error);
         let path = fs::canonicalize(path).map_err(failed)?;
@@ -39,13 +39,14 @@ impl Target {
         Map::of_file(&self.file).map_err(|error| Failure::at("cannot read", &self.path, error))
     }
 
-    /// Mapped bytes, to be changed without the file.
+    /// Lends the mapped bytes. Changes to them do not reach the file.
     pub fn changeable<'a>(&self, map: &'a mut Map) -> Result<&'a mut [u8], Failure> {
         map.lend()
             .map_err(|error| Failure::at("cannot copy", &self.path, error))
     }
 
-    /// Writes the room of changed bytes to the file: behind this it is on the disk.
+    /// Writes the room of the changed bytes to the file. When this returns without a failure, the
+    /// room is on the disk.
     pub fn write_room(
         &self,
         bytes: &[u8],
@@ -61,7 +62,7 @@ impl Target {
     }
 }
 
-/// Writes bytes to a place of a file, each piece a step.
+/// Writes bytes at a place in a file. Each piece is one step.
 pub fn write_at(file: &File, bytes: &[u8], place: u64, steps: &mut Steps) -> io::Result<()> {
     let places = (place..).step_by(PIECE);
     for (piece, place) in bytes.chunks(PIECE).zip(places) {
@@ -71,7 +72,7 @@ pub fn write_at(file: &File, bytes: &[u8], place: u64, steps: &mut Steps) -> io:
     Ok(())
 }
 
-/// Brings the names in the folder of a path to the disk.
+/// Brings the names in the folder of `path` to the disk.
 pub fn sync_folder(path: &Path) -> io::Result<()> {
     let folder = path.parent().unwrap_or(Path::new("/"));
     File::open(folder)?.sync_all()

@@ -1,8 +1,8 @@
-//! What is reported, in words.
+//! The words for what is reported.
 
 use asdf_layout::{Block, Inner, Verdict};
 
-/// The units of sizes, each 1,024 times the one before.
+/// The units of sizes. Each is 1,024 times the one before it.
 const UNITS: [&str; 3] = ["KiB", "MiB", "GiB"];
 
 /// A verdict on the index.
@@ -25,7 +25,7 @@ pub fn inner(inner: Inner) -> String {
     }
 }
 
-/// A number of bytes, also in the greatest unit that it fills.
+/// A number of bytes. From 1,024 on it is also given in the largest unit that it fills.
 pub fn size(bytes: usize) -> String {
     let scaled = UNITS.iter().scan(bytes as f64, |size, unit| {
         *size /= 1024.0;
@@ -37,7 +37,8 @@ pub fn size(bytes: usize) -> String {
     }
 }
 
-/// The name of a block's compression, without the zeros behind it; what cannot be printed is escaped.
+/// The name of a block's compression, without the zeros at its end. Bytes that cannot be printed
+/// are escaped.
 pub fn compression(block: &Block) -> Option<String> {
     let mut name = &block.compression[..];
     while let [front @ .., 0] = name {

@@ -1,4 +1,4 @@
-//! What the documents show is what the tool prints.
+//! Compares what the documents show with what the tool prints.
 
 mod common;
 

@@ -1,4 +1,4 @@
-//! Edits in place, also those that are stopped at any step.
+//! Tests edits in place, including edits that are stopped at any step.
 
 mod common;
 
@@ -9,12 +9,12 @@ use std::os::unix::fs::{symlink, FileExt, MetadataExt, PermissionsExt};
 use std::path::{Path, PathBuf};
 use std::thread;
 
-/// The room of the files here takes more than one piece of writing.
+/// So large that the room of the files here is written in more than one piece.
 const SPACES: usize = 200_000;
-/// No edit here has more steps.
+/// No edit here takes this many steps.
 const MOST_STEPS: u32 = 100;
 
-/// A file to be edited, and the text for it.
+/// A file to edit, the text for it, and the file's bytes before and after.
 struct Case {
     file: PathBuf,
     text: PathBuf,
@@ -23,7 +23,7 @@ struct Case {
 }
 
 impl Case {
-    /// A case in a folder of its own.
+    /// Makes a case in its own folder.
     fn new(test: &str) -> Case {
         let folder = folder(test);
         let content = "a: 1\n".repeat(30_000);
@@ -47,7 +47,7 @@ impl Case {
         case
     }
 
-    /// The old file, with nothing beside it.
+    /// Puts the old file back, with nothing kept beside it.
     fn reset(&self) {
         let _ = fs::remove_file(self.kept());
         fs::write(&self.file, &self.old).unwrap();
@@ -58,7 +58,7 @@ impl Case {
         self.file.with_extension("asdf.old-room")
     }
 
-    /// What the file holds.
+    /// The bytes of the file.
     fn bytes(&self) -> Vec<u8> {
         fs::read(&self.file).unwrap()
     }
@@ -67,7 +67,7 @@ impl Case {
         run(&["edit", word(&self.file), word(&self.text)])
     }
 
-    /// Edits, and is stopped behind a step.
+    /// Edits the file, but stops after a step.
     fn edit_stopped_after(&self, step: u32) -> Ran {
         stopped_after(step, &["edit", word(&self.file), word(&self.text)])
     }
@@ -89,13 +89,14 @@ impl Case {
         }
     }
 
-    /// Nothing of an edit is left beside the file.
+    /// Checks that nothing of an edit is left beside the file.
     fn assert_nothing_beside(&self) {
         let expected = BTreeSet::from(["file.asdf", "text"].map(String::from));
         assert_eq!(names(self.file.parent().unwrap()), expected);
     }
 
-    /// After a stopped edit: the next call says so, and the old file comes back.
+    /// Checks that the next calls after a stopped edit report it, and that `restore` brings the old
+    /// file back.
     fn assert_restorable(&self) {
         let before = self.bytes();
         let edit = self.edit();
@@ -129,7 +130,7 @@ enum State {
     KeptNew,
 }
 
-/// Runs the tool, which is stopped behind a step.
+/// Runs the tool, which stops after a step.
 fn stopped_after(step: u32, words: &[&str]) -> Ran {
     let step = step.to_string();
     let mut command = command(words);
@@ -171,7 +172,7 @@ fn refused_edit_changes_nothing() {
     assert!(refused(b"no tree").ends_with("text is not exactly one tree (refusal 19)\n"));
     let long = format!("%YAML 1.1\n---\n{}\n...\n", "x".repeat(SPACES));
     assert!(refused(long.as_bytes()).ends_with("(refusal 20)\n"));
-    // The file itself in the place of the text is no tree either.
+    // The file itself, given as the text, is not exactly one tree either.
     let ran = run(&["edit", word(&case.file), word(&case.file)]);
     assert!(ran.errors.ends_with("(refusal 19)\n"));
 }
@@ -244,7 +245,7 @@ fn what_is_kept_of_another_file_is_not_restored() {
     assert!(first_kept.is_some());
     for bytes in [
         file_with_room(SPACES + 1),
-        // The length is right, and there is no block behind the room.
+        // The length is right, but no block follows the room.
         [HEADER, &vec![b' '; SPACES + TREE.len() + 57]].concat(),
         HEADER.to_vec(),
         Vec::new(),
@@ -307,7 +308,8 @@ fn longest_file_is_edited_without_being_copied() {
     assert_eq!(found, expected);
     let metadata = file.metadata().unwrap();
     assert_eq!(metadata.len(), length);
-    // Blocks of 512 bytes: what was not edited is still a hole.
+    // The system counts in blocks of 512 bytes. The part of the file that was not edited is still a
+    // hole.
     assert!(metadata.blocks() < 1_000);
 }
 

@@ -1,4 +1,4 @@
-//! Listings.
+//! Tests the listings, and the messages of calls that fail.
 
 mod common;
 
@@ -6,7 +6,7 @@ use common::*;
 use std::fs;
 use std::path::Path;
 
-/// The real files that are there; more may come, none may get lost.
+/// The minimum number of real files. More may be added, but none may get lost.
 const AT_LEAST: usize = 18;
 
 /// The path of a real file.
@@ -74,7 +74,7 @@ fn table_tells_why_an_inner_file_is_refused() {
 #[test]
 fn json_is_one_object() {
     let mut file = [HEADER, b"#c\n", TREE, b" ", &block_header(3), b"abc"].concat();
-    // Its name would break a careless string.
+    // This name of a compression would break a string that is not escaped.
     file[34 + 10..34 + 14].copy_from_slice(b"\"\\\x01\0");
     let expected = concat!(
         r#"{"bytes":91,"version":"1.0.0","header_end":12,"line_end":"0A","comments":{"start":12,"end":15},"#,

@@ -1,4 +1,4 @@
-//! The tree's text, the index and stored outlines.
+//! Tests the tree's text, the index and stored outlines.
 
 mod common;
 

@@ -1,6 +1,6 @@
 //! Runs the tool, and makes files for it.
 
-// Each test program uses only a part of this.
+// Each test program uses only a part of this file.
 #![allow(dead_code)]
 
 use std::fs::{self, File};
@@ -9,7 +9,7 @@ use std::os::unix::fs::FileExt;
 use std::path::{Path, PathBuf};
 use std::process::{Command, Output, Stdio};
 
-/// The real files.
+/// The folder of the real files.
 pub const DATA: &str = concat!(env!("CARGO_MANIFEST_DIR"), "/../../tests/data");
 /// A header line.
 pub const HEADER: &[u8] = b"#ASDF 1.0.0\n";
@@ -18,10 +18,10 @@ pub const DOS_HEADER: &[u8] = b"#ASDF 1.0.0\r\n";
 /// The smallest tree.
 pub const TREE: &[u8] = b"%YAML 1.1\n---\n...\n";
 
-/// What came of a run.
+/// How a run of the tool ended, and what it printed.
 #[derive(Debug, PartialEq)]
 pub struct Ran {
-    /// None where it was stopped.
+    /// None if the run was stopped.
     pub status: Option<i32>,
     pub output: String,
     pub errors: String,
@@ -38,7 +38,7 @@ impl From<Output> for Ran {
     }
 }
 
-/// The tool with these words.
+/// The tool, to be called with these words.
 pub fn command(words: &[&str]) -> Command {
     let mut command = Command::new(env!("CARGO_BIN_EXE_asdf-layout"));
     command.args(words);
@@ -50,7 +50,7 @@ pub fn run(words: &[&str]) -> Ran {
     command(words).output().unwrap().into()
 }
 
-/// Runs the tool with standard input.
+/// Runs the tool with `input` as standard input.
 pub fn run_with_input(words: &[&str], input: &[u8]) -> Ran {
     let mut command = command(words);
     let piped = command
@@ -62,7 +62,8 @@ pub fn run_with_input(words: &[&str], input: &[u8]) -> Ran {
     child.wait_with_output().unwrap().into()
 }
 
-/// Runs the tool, which has to succeed silently on standard error, and gives what it prints.
+/// Runs the tool and returns what it prints. It has to succeed, and to print nothing on standard
+/// error.
 pub fn printed(words: &[&str]) -> String {
     let ran = run(words);
     assert_eq!(
@@ -94,13 +95,13 @@ pub fn block_header(size: u64) -> Vec<u8> {
     header
 }
 
-/// A tree, so many spaces behind it, and a block with some content.
+/// A file with a tree, `spaces` spaces after it, and a block with some content.
 pub fn file_with_room(spaces: usize) -> Vec<u8> {
     let spaces = vec![b' '; spaces];
     [HEADER, TREE, &spaces, &block_header(3), b"abc"].concat()
 }
 
-/// A file of zeros with other bytes at some places; the zeros take no room on the disk.
+/// Makes a file of zeros with other bytes at some places. The zeros take no space on the disk.
 pub fn sparse_file(path: &Path, length: u64, parts: &[(u64, &[u8])]) -> File {
     let file = File::options()
         .read(true)
