@@ -14,6 +14,6 @@ fn link(name: &str) {
         println!("cargo::rustc-link-search=native={}", folder.display());
         println!("cargo::rustc-link-lib=static={name}");
     } else {
-        println!("cargo::error=there is no target/staticlib/lib{name}.a: run ./test, or rt staticlib {name}, first");
+        println!("cargo::error=target/staticlib/lib{name}.a is missing: run `./test` or `rt staticlib {name}` first");
     }
 }

@@ -42,14 +42,21 @@ pub fn parse(words: Vec<OsString>) -> Result<Command, Failure> {
     let name = words.next().unwrap_or_default();
     let name = name.to_string_lossy();
     let Some(help) = help_of(&name) else {
-        let sentence = "the first word is not one of the commands: see `asdf-layout --help`";
+        let problem = match name.is_empty() {
+            true => "no command was given".to_string(),
+            false => format!("`{name}` is not a command"),
+        };
+        let sentence = format!("{problem}; `asdf-layout --help` lists the commands");
         return Err(Failure::usage(sentence));
     };
     let words = Words::sorted(words);
     if words.options.iter().any(|option| option == "--help") {
         return Ok(Command::Help(help));
     }
-    let wrong = || format!("wrong words for `{name}`: see `asdf-layout {name} --help`");
+    let wrong = || {
+        let help = format!("`asdf-layout {name} --help` shows how to call it");
+        format!("wrong or missing arguments for `{name}`; {help}")
+    };
     words.command(&name).ok_or_else(|| Failure::usage(wrong()))
 }
 
@@ -133,7 +140,7 @@ mod tests {
     }
 
     #[test]
-    fn options_stand_anywhere_behind_the_name() {
+    fn options_may_be_anywhere_after_the_name() {
         let outline = |file: &str, out: &str| Command::Outline {
             file: file.into(),
             out: out.into(),

@@ -14,11 +14,13 @@ use std::path::Path;
 pub fn edit(path: &Path, text: &Source) -> Result<(), Failure> {
     let target = Target::open(path)?;
     if kept::is_beside(&target.path) {
-        return Err(Failure::usage(kept::unfinished(path)));
+        let sentence = format!("{}, then edit again", kept::unfinished(path));
+        return Err(Failure::usage(sentence));
     }
     let mut map = target.map()?;
     let bytes = target.changeable(&mut map)?;
-    let refused = |refusal| Failure::refused(path.display(), refusal);
+    let name = format!("{} was not edited", path.display());
+    let refused = |refusal| Failure::refused(&name, refusal);
     asdf_layout::edit(bytes, text).map_err(refused)?;
     // An edit does not move the room, so this is also where the old room is.
     let room = room_of(bytes).map_err(refused)?;
@@ -33,7 +35,8 @@ pub fn restore(path: &Path) -> Result<(), Failure> {
     let target = Target::open(path)?;
     let Some(kept) = Kept::read(&target)? else {
         let path = path.display();
-        return Err(Failure::usage(format!("no edit of {path} was interrupted")));
+        let sentence = format!("nothing to restore: no edit of {path} was interrupted");
+        return Err(Failure::usage(sentence));
     };
     let mut map = target.map()?;
     let bytes = target.changeable(&mut map)?;

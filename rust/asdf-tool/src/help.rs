@@ -1,46 +1,61 @@
 //! The texts that `--help` prints.
 
 pub const ALL: &str = "\
-Says where everything lies in an ASDF file, also in the files inside its blocks.
+Shows where everything is in an ASDF file, including the ASDF files inside its blocks.
 
-  asdf-layout list FILE [--plain | --json]   the layout and all blocks
-  asdf-layout tree FILE                      the text of the tree
-  asdf-layout index FILE [--write]           the verdict on the block index, or the text of one
-  asdf-layout outline FILE -o OUT            store sixteen bytes for each block
-  asdf-layout outline --read OUT             the rows of a stored outline
-  asdf-layout edit FILE TREE                 replace the tree, in place
-  asdf-layout restore FILE                   undo an edit that was not finished
-  asdf-layout COMMAND --help                 more about a command
+  asdf-layout list FILE [--plain | --json]   prints the layout and all blocks
+  asdf-layout tree FILE                      prints the text of the tree
+  asdf-layout index FILE [--write]           prints the verdict on the block index, or the text of the correct index
+  asdf-layout outline FILE -o OUT            stores the outline of FILE, sixteen bytes for each block
+  asdf-layout outline --read OUT             prints the rows of a stored outline
+  asdf-layout edit FILE TREE                 replaces the tree in place
+  asdf-layout restore FILE                   undoes an edit that was not finished
+  asdf-layout COMMAND --help                 prints more about a command
 
-`-` in the place of a file that is read stands for standard input. The status is 0, or 1 where something is refused,
-or 2 where the call is wrong or a file cannot be read or written; standard error says why in a sentence.
+A file that is only read can be given as `-`, which means standard input.
+
+The exit status is 0 if the command succeeded, 1 if something was refused, and 2 if the call was wrong or a file could
+not be read or written. If it is not 0, a sentence on standard error says why.
 ";
 
 pub const LIST: &str = "\
 asdf-layout list FILE [--plain | --json]
 
-Prints where header, comments and tree are, a line for each block and the verdict on the block index. The blocks of a
-file inside a block stand below that block, indented; every offset counts from the first byte of FILE.
+Prints where the header, the comments and the tree are, one line for each block, and the verdict on the block index.
 
-  --plain   for programs: `tree START END` or `tree none`; for each block depth, ordinal, offset, header size,
-            allocated, used, streamed, compressed, checksum and inner state (0 plain, 1 opened, 2 refused, 3 too deep);
-            `index VERDICT`. A refused file gives `refused NUMBER PLACE`.
-  --json    one object with all that is known of the file and of each block; a refused file gives an object with
-            `refused`. `line_end` is how the header line ends: `0A` or `0D 0A`.
+If a block contains an ASDF file, the blocks of that inner file follow below it, indented. Every offset counts from
+the first byte of FILE. If an inner file is refused, the place of the refusal counts from its own first byte. The
+room of the tree is the space that an edit may fill: from the tree's first byte to the first block, or to the end of
+the file.
+
+  --plain   prints lines for programs:
+              - `tree START END` or `tree none`;
+              - for each block ten numbers: depth, ordinal, offset, header size, allocated, used, streamed,
+                compressed, checksum, inner state (0 plain, 1 opened, 2 refused, 3 too deep);
+              - `index VERDICT`, where VERDICT is `absent`, `good`, `ignored-form` or `ignored-list`.
+            For a refused file it prints only `refused NUMBER PLACE`.
+  --json    prints one JSON object with all that is known about the file and each block. For a refused file the
+            object has only the key `refused`. The key `line_end` states how the header line ends: `0A` or `0D 0A`.
 ";
 
 pub const TREE: &str = "\
 asdf-layout tree FILE
 
-Prints the text of the tree, from `%YAML 1.1` through `...`; nothing where there is no tree.
+Prints the text of the tree, from `%YAML 1.1` through `...`. If the file has no tree, it prints nothing.
 ";
 
 pub const INDEX: &str = "\
 asdf-layout index FILE [--write]
 
-Prints what is to be thought of the block index, which may be written in brackets or with dashes.
+Prints the verdict on the block index, which may be written in brackets or with dashes:
 
-  --write   prints the text of the right index instead, in brackets, to be set directly after the last block; its
+  absent    the file has no block index
+  good      the index lists the offsets of the blocks
+  ignored   the text does not have the form of an index, or the offsets it lists are not those of the blocks
+
+After `good` and `ignored` the reason follows. The offsets in the index are never used to find blocks.
+
+  --write   prints the text of the correct index instead, in brackets, to be put directly after the last block; its
             lines end as the header line does
 ";
 
@@ -48,24 +63,28 @@ pub const OUTLINE: &str = "\
 asdf-layout outline FILE -o OUT
 asdf-layout outline --read OUT
 
-Stores the outline of FILE in OUT, sixteen bytes for each block; `-` for OUT is standard output.
+Stores the outline of FILE in OUT, sixteen bytes for each block. If OUT is `-`, the outline goes to standard output.
 
-  --read    prints the rows of a stored outline: depth, ordinal, offset, header size, allocated, used, streamed,
-            compressed, checksum, inner state (0 plain, 1 opened, 2 refused, 3 too deep)
+  --read    prints the rows of a stored outline instead, one on each line: depth, ordinal, offset, header size,
+            allocated, used, streamed, compressed, checksum, inner state (0 plain, 1 opened, 2 refused, 3 too deep)
 ";
 
 pub const EDIT: &str = "\
 asdf-layout edit FILE TREE
 
-Replaces the tree of FILE by the text in TREE, which has to be exactly one tree, and fills the rest of its room with
-spaces. No other byte of FILE changes. Where it is refused, nothing changes.
+Replaces the tree of FILE by the text in TREE, in place.
 
-The old room is kept in FILE.old-room until the new one is on the disk. If the edit is interrupted, `restore` brings
-the old tree back; until then FILE cannot be edited.
+The text has to be exactly one tree and has to fit into the room of the old tree. The rest of the room is filled with
+spaces, and no other byte of FILE changes. If the edit is refused, nothing changes. TREE may be `-`, FILE may not.
+
+The old room is kept in FILE.old-room until the new one is on the disk. If the edit is interrupted, FILE.old-room
+remains: `asdf-layout restore FILE` brings the old tree back, and until then FILE cannot be edited.
 ";
 
 pub const RESTORE: &str = "\
 asdf-layout restore FILE
 
 Brings back the tree that FILE had before an edit that was not finished, from FILE.old-room.
+
+If there is no FILE.old-room, or if it does not fit FILE, nothing changes and the exit status is 2.
 ";

@@ -33,7 +33,8 @@ pub fn is_beside(path: &Path) -> bool {
 pub fn unfinished(path: &Path) -> String {
     let path = path.display();
     format!(
-        "an edit of {path} was not finished; `asdf-layout restore {path}` brings the old tree back"
+        "an edit of {path} was not finished, so the file may be half edited; \
+         run `asdf-layout restore {path}` to bring the old tree back"
     )
 }
 
@@ -60,7 +61,8 @@ pub fn keep(target: &Target, room: Range<usize>, steps: &mut Steps) -> Result<()
     kept.map_err(|error| {
         // An incomplete kept room is of no use, and it may be long.
         let _ = fs::remove_file(&part);
-        Failure::at("cannot keep the old room in", &path, error)
+        let failure = Failure::at("cannot keep the old tree in", &path, error);
+        failure.with_advice("the file itself was not changed")
     })
 }
 
@@ -113,7 +115,11 @@ fn remove_if_there(path: &Path) -> io::Result<()> {
 /// Removes the kept room of a file that is whole again.
 pub fn remove(target: &Target, steps: &mut Steps) -> Result<(), Failure> {
     let path = beside(&target.path, SUFFIX);
-    let failed = |error| Failure::at("cannot remove", &path, error);
+    let failed = |error| {
+        let (file, kept) = (target.path.display(), path.display());
+        let advice = format!("{file} is complete, so remove {kept} by hand if it still exists");
+        Failure::at("cannot remove", &path, error).with_advice(advice)
+    };
     fs::remove_file(&path).map_err(failed)?;
     steps.done();
     sync_folder(&path).map_err(failed)?;
@@ -148,7 +154,7 @@ impl Kept {
                 file_length,
             }),
             None => Err(Failure::usage(format!(
-                "{} does not hold the old room of a file",
+                "{} is damaged or was not written by an edit; nothing was restored",
                 path.display()
             ))),
         }
@@ -174,7 +180,7 @@ impl Kept {
     pub fn of_another_file(&self, target: &Target) -> Failure {
         let (path, file) = (self.path.display(), target.path.display());
         Failure::usage(format!(
-            "{path} is not the old room of {file}, which stays as it is"
+            "{path} does not fit {file}, which may have changed since the edit; nothing was restored"
         ))
     }
 }

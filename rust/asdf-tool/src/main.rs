@@ -56,7 +56,7 @@ fn run(command: Command) -> Result<(), Failure> {
 fn print(bytes: &[u8]) -> Result<(), Failure> {
     let mut output = io::stdout();
     let written = output.write_all(bytes).and_then(|()| output.flush());
-    written.map_err(|error| Failure::system("cannot write standard output", error))
+    written.map_err(|error| Failure::system("cannot write to standard output", error))
 }
 
 /// Prints a listing. The forms for programs also print a refusal, before it is reported in a
@@ -107,7 +107,7 @@ fn write_outline(source: &Source, out: &Path) -> Result<(), Failure> {
     }
     if source.is_at(out) {
         return Err(Failure::usage(
-            "the outline would take the place of its file",
+            "FILE and OUT are the same file, which the outline would overwrite; choose another OUT",
         ));
     }
     fs::write(out, outline.as_bytes()).map_err(|error| Failure::at("cannot write", out, error))

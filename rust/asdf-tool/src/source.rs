@@ -51,7 +51,7 @@ impl Source {
             let _ = file.lock_shared();
         }
         if kept::is_beside(path) {
-            eprintln!("asdf-layout: {}", kept::unfinished(path));
+            eprintln!("asdf-layout: warning: {}", kept::unfinished(path));
         }
         Ok(source)
     }

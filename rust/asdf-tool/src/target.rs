@@ -27,10 +27,14 @@ impl Target {
         let file = File::options().read(true).write(true).open(&path);
         let file = file.map_err(failed)?;
         if !file.metadata().map_err(failed)?.is_file() {
-            return Err(Failure::usage(format!("{} is not a file", path.display())));
+            let path = path.display();
+            let sentence = format!("{path} is not a regular file and cannot be changed in place");
+            return Err(Failure::usage(sentence));
         }
         let locked = file.lock();
-        locked.map_err(|error| Failure::at("cannot lock", &path, error))?;
+        locked.map_err(|error| {
+            Failure::at("cannot lock", &path, error).with_advice("the file was not changed")
+        })?;
         Ok(Target { path, file })
     }
 
@@ -42,7 +46,7 @@ impl Target {
     /// Lends the mapped bytes. Changes to them do not reach the file.
     pub fn changeable<'a>(&self, map: &'a mut Map) -> Result<&'a mut [u8], Failure> {
         map.lend()
-            .map_err(|error| Failure::at("cannot copy", &self.path, error))
+            .map_err(|error| Failure::at("cannot make a private copy of", &self.path, error))
     }
 
     /// Writes the room of the changed bytes to the file. When this returns without a failure, the

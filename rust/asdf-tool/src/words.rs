@@ -10,8 +10,8 @@ pub fn verdict(verdict: Verdict) -> &'static str {
     match verdict {
         Verdict::Absent => "absent",
         Verdict::Good => "good: it lists the offsets of the blocks",
-        Verdict::IgnoredForm => "ignored: its text has not the form of an index",
-        Verdict::IgnoredList => "ignored: it lists other offsets than those of the blocks",
+        Verdict::IgnoredForm => "ignored: its text does not have the form of an index",
+        Verdict::IgnoredList => "ignored: the offsets it lists are not those of the blocks",
     }
 }
 
@@ -20,7 +20,7 @@ pub fn inner(inner: Inner) -> String {
     match inner {
         Inner::Plain => "plain".to_string(),
         Inner::Opened => "a file, opened".to_string(),
-        Inner::Refused(refusal) => format!("refused as a file: {refusal}"),
+        Inner::Refused(refusal) => format!("a file, refused: {refusal}"),
         Inner::TooDeep => "a file, too deep to be read".to_string(),
     }
 }

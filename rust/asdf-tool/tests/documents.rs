@@ -10,9 +10,9 @@ use std::path::Path;
 fn listing_in_the_documents_is_what_is_printed() {
     let root = Path::new(DATA).join("../..");
     let document = fs::read_to_string(root.join("docs/USING.md")).unwrap();
-    let (_, behind) = document.split_once("    $ asdf-layout list ").unwrap();
-    let (name, behind) = behind.split_once('\n').unwrap();
-    let shown = behind
+    let (_, rest) = document.split_once("    $ asdf-layout list ").unwrap();
+    let (name, rest) = rest.split_once('\n').unwrap();
+    let shown = rest
         .lines()
         .take_while(|line| line.is_empty() || line.starts_with("    "))
         .map(|line| line.strip_prefix("    ").unwrap_or(""));

@@ -103,7 +103,7 @@ impl Case {
         assert_eq!(edit.status, Some(2));
         assert!(edit
             .errors
-            .contains("was not finished; `asdf-layout restore "));
+            .contains("half edited; run `asdf-layout restore "));
         assert!(run(&["list", word(&self.file)])
             .errors
             .contains("was not finished"));
@@ -254,7 +254,7 @@ fn what_is_kept_of_another_file_is_not_restored() {
         let ran = case.restore();
         assert_eq!(ran.status, Some(2));
         assert!(case.bytes() == bytes);
-        assert!(ran.errors.contains("is not the old room of"));
+        assert!(ran.errors.contains("does not fit "));
     }
     fs::write(&case.file, &case.old).unwrap();
     for broken in [
@@ -267,7 +267,7 @@ fn what_is_kept_of_another_file_is_not_restored() {
         assert_eq!((ran.status, case.state()), (Some(2), State::KeptOld));
         assert!(ran
             .errors
-            .ends_with("does not hold the old room of a file\n"));
+            .ends_with("not written by an edit; nothing was restored\n"));
     }
 }
 

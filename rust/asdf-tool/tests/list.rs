@@ -66,7 +66,7 @@ fn table_tells_why_an_inner_file_is_refused() {
     let inner = b"#ASDF 2.0.0\n";
     let file = [HEADER, &block_header(inner.len() as u64), inner].concat();
     let ran = run_with_input(&["list", "-"], &file);
-    let refused = "refused as a file: first version number is not 1, at 6 (refusal 4)\n";
+    let refused = "a file, refused: first version number is not 1, at 6 (refusal 4)\n";
     assert!(ran.output.contains(refused), "{}", ran.output);
     assert!(ran.output.starts_with("standard input: ASDF 1.0.0, "));
 }

@@ -53,7 +53,7 @@ fn index_with_dashes_is_judged_and_the_written_one_has_brackets() {
     );
     assert_eq!(
         verdict("updated-stale"),
-        "ignored: it lists other offsets than those of the blocks\n"
+        "ignored: the offsets it lists are not those of the blocks\n"
     );
     assert_eq!(
         printed(&["index", "--write", &path("updated-stale")]),
