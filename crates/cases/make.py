@@ -1,10 +1,12 @@
 #!/usr/bin/python3
-"""Writes the cases of this folder: data/, the order of their names in args, and in stdout what the second program prints.
+"""Writes the cases of this folder.
+
+data/ gets the files, args the order of their names, and stdout what the second program prints for them.
 
     cargo build --release --offline --package asdf-second
     python3 crates/cases/make.py
 
-The tests never run this: they read the committed files. The listings come from the second program and never from ours.
+The tests never run this program: they read the committed files. The listings come from the second program, never from ours.
 """
 
 import os
@@ -22,7 +24,7 @@ ALL_FF = 2**64 - 1
 
 
 def block(content=b"", header_size=48, flags=0, allocated=None, used=None, data_size=None):
-    """A block; a size that is not given is the content's length."""
+    """A block. A size that is not given is the length of the content."""
     sizes = [len(content) if size is None else size for size in (allocated, used, data_size)]
     header = b"\xd3BLK" + header_size.to_bytes(2, "big") + flags.to_bytes(4, "big") + bytes(4)
     return header + b"".join(size.to_bytes(8, "big") for size in sizes) + bytes(16) + content
@@ -41,7 +43,7 @@ def dashes(lines, start=b"---\n"):
 
 
 def inside(file, times):
-    """A file in a block of a file, in a block of a file: so many around it."""
+    """A file in a block of a file, in a block of a file, and so on: `times` files around it."""
     for _ in range(times):
         file = A + block(file)
     return file

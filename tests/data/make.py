@@ -4,8 +4,8 @@
     apt-get install python3-asdf        # Debian 12; used: 2.14.3-1+deb12u1
     /usr/bin/python3 tests/data/make.py
 
-The tests never run this: they read the committed files, and need neither Python nor the library. README.md says what else has
-to be done where a file has changed.
+The tests never run this program: they read the committed files, and need neither Python nor the library. README.md describes
+what else must be done when a file has changed.
 """
 
 import os
@@ -15,7 +15,7 @@ import numpy
 
 
 def numbers(count, first=0):
-    """So many bytes that count up: an array of its own, and so a block of its own."""
+    """An array of `count` bytes that count up from `first`. It is a new array, so the library gives it its own block."""
     return (numpy.arange(count) + first).astype(numpy.uint8)
 
 
@@ -37,7 +37,7 @@ def three_blocks():
 
 
 def padded():
-    """Room behind the tree and inside the blocks. How much follows from the file system's block size, here 4,096."""
+    """Free space after the tree and inside the blocks. How much depends on the file system's block size, here 4,096."""
     asdf.AsdfFile({"first": numbers(32), "second": numbers(7)}).write_to("padded.asdf", pad_blocks=True)
 
 
@@ -47,7 +47,7 @@ def compressed(name):
 
 
 def streamed():
-    """A block of fixed size, then the streamed one, to which rows are written as they come."""
+    """A block of fixed size, then a streamed block, to which rows are written one after another."""
     tree = {"fixed": numbers(10), "rows": asdf.Stream([8], numpy.uint8)}
     with open("streamed.asdf", "wb") as file:
         asdf.AsdfFile(tree).write_to(file)
@@ -56,13 +56,13 @@ def streamed():
 
 
 def exploded():
-    """The main file, without a block, and beside it exploded0000.asdf and exploded0001.asdf with one block each."""
+    """The main file, which has no block, and beside it exploded0000.asdf and exploded0001.asdf with one block each."""
     tree = {"first": numbers(32), "second": numbers(7)}
     asdf.AsdfFile(tree).write_to("exploded.asdf", all_array_storage="external")
 
 
 def nested(depth):
-    """The file of one_block inside a block of another file, and so on: so many files inside the outermost."""
+    """The file of one_block inside a block of another file, and so on: `depth` files inside the outermost file."""
     with open("one-block.asdf", "rb") as file:
         inner = file.read()
     name = f"nested-{depth}.asdf"
@@ -78,7 +78,7 @@ def sixty_blocks():
 
 
 def update(name, change, **how):
-    """Writes a file of three blocks, changes its tree and has the library update the file in place."""
+    """Writes a file of three blocks, changes its tree and lets the library update the file in place."""
     tree = {"first": numbers(1000), "second": numbers(1000, first=1), "third": numbers(1000, first=2)}
     asdf.AsdfFile(tree).write_to(name, **how)
     with asdf.open(name, mode="rw") as file:
@@ -96,17 +96,17 @@ def shorten_first(file):
 
 
 def updated():
-    """The block before the dropped one takes over its space."""
+    """The block before the dropped block takes over its space."""
     update("updated.asdf", drop_second)
 
 
 def updated_stale():
-    """A compressed block takes over nothing: the dropped block is still there, only the index leaves it out."""
+    """A compressed block takes over nothing: the dropped block is still there, and only the index leaves it out."""
     update("updated-stale.asdf", drop_second, all_array_compression="zlib")
 
 
 def updated_gap():
-    """A compressed block leaves the rest of its space to nobody: there is a gap between two blocks."""
+    """No block takes over the rest of a compressed block's space, so there is a gap between two blocks."""
     update("updated-gap.asdf", shorten_first, all_array_compression="zlib")
 
 
