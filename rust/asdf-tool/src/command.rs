@@ -1,4 +1,4 @@
-//! The command line, understood as a command.
+//! The commands of the tool, and how they are read from the command line.
 
 use crate::failure::Failure;
 use crate::help;
@@ -60,7 +60,7 @@ pub fn parse(words: Vec<OsString>) -> Result<Command, Failure> {
     words.command(&name).ok_or_else(|| Failure::usage(wrong()))
 }
 
-/// The text that `--help` prints for a command. None if there is no such command.
+/// Returns the text that `--help` prints for a command, or None if there is no such command.
 fn help_of(name: &str) -> Option<&'static str> {
     match name {
         "--help" | "help" => Some(help::ALL),
@@ -91,7 +91,7 @@ impl Words {
         sorted
     }
 
-    /// The command of this name with these words. None if the words do not fit it.
+    /// Returns the command of this name with these words, or None if the words do not fit it.
     fn command(self, name: &str) -> Option<Command> {
         let options: Vec<&str> = self.options.iter().map(String::as_str).collect();
         let mut files = self.files.into_iter();
@@ -120,7 +120,7 @@ impl Words {
     }
 }
 
-/// The form of a listing that the options name.
+/// Returns the form of a listing that the options name, or None if they name no single form.
 fn form(options: &[&str]) -> Option<Form> {
     match options {
         [] => Some(Form::Table),
@@ -134,7 +134,7 @@ fn form(options: &[&str]) -> Option<Form> {
 mod tests {
     use super::*;
 
-    /// The command of a line of words. None if the call is wrong.
+    /// Returns the command of a line, or None if the call is wrong.
     fn parsed(line: &str) -> Option<Command> {
         parse(line.split_whitespace().map(OsString::from).collect()).ok()
     }

@@ -48,7 +48,7 @@ pub fn restore(path: &Path) -> Result<(), Failure> {
     finish(&target, bytes, kept.room(), &mut Steps::new())
 }
 
-/// The room of a file's tree, if the file has a tree.
+/// Returns the room of a file's tree, if the file has a tree.
 fn room_of(bytes: &[u8]) -> Result<Option<Range<usize>>, Refusal> {
     let tree = Layout::read(bytes)?.tree;
     Ok(tree.map(|tree| tree.room()))

@@ -19,7 +19,7 @@ pub struct Failure {
 }
 
 impl Failure {
-    /// A proved function refused something.
+    /// Reports that a proved function refused something.
     pub fn refused(name: impl Display, refusal: Refusal) -> Failure {
         Failure {
             status: REFUSED,
@@ -27,7 +27,7 @@ impl Failure {
         }
     }
 
-    /// The command cannot be carried out as it was called.
+    /// Reports that the command cannot be carried out as it was called.
     pub fn usage(sentence: impl Into<String>) -> Failure {
         Failure {
             status: NOT_DONE,
@@ -35,17 +35,17 @@ impl Failure {
         }
     }
 
-    /// The system did not carry out an operation.
+    /// Reports that the system did not carry out an operation.
     pub fn system(what: impl Display, error: io::Error) -> Failure {
         Failure::usage(format!("{what}: {error}"))
     }
 
-    /// The system did not carry out an operation on a file.
+    /// Reports that the system did not carry out an operation on a file.
     pub fn at(what: &str, path: &Path, error: io::Error) -> Failure {
         Failure::system(format_args!("{what} {}", path.display()), error)
     }
 
-    /// The same failure, with what holds now or what to do next.
+    /// Adds what holds now or what to do next.
     pub fn with_advice(mut self, advice: impl Display) -> Failure {
         self.sentence = format!("{}; {advice}", self.sentence);
         self

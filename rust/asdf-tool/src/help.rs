@@ -23,10 +23,10 @@ asdf-layout list FILE [--plain | --json]
 
 Prints where the header, the comments and the tree are, one line for each block, and the verdict on the block index.
 
-If a block contains an ASDF file, the blocks of that inner file follow below it, indented. Every offset counts from
-the first byte of FILE. If an inner file is refused, the place of the refusal counts from its own first byte. The
-room of the tree is the space that an edit may fill: from the tree's first byte to the first block, or to the end of
-the file.
+If the content of a block is an ASDF file, the blocks of this inner file follow below it, indented. Every offset
+counts from the first byte of FILE; only the place of an inner file's refusal counts from that inner file's first
+byte. The room of the tree is the space that an edit may fill: from the tree's first byte to the first block, or to
+the end of the file.
 
   --plain   prints lines for programs:
               - `tree START END` or `tree none`;

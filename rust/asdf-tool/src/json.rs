@@ -4,7 +4,7 @@ use crate::source::Source;
 use crate::words;
 use asdf_layout::{Inner, Layout, Record, Records, Refusal, Tree};
 
-/// The listing of an accepted file.
+/// Returns the listing of an accepted file.
 pub fn listing(file: &Source) -> Result<String, Refusal> {
     let layout = Layout::read(file)?;
     let records = Records::read(file)?;
@@ -23,12 +23,12 @@ pub fn listing(file: &Source) -> Result<String, Refusal> {
     Ok(object(&members) + "\n")
 }
 
-/// The listing of a refused file.
+/// Returns the listing of a refused file.
 pub fn refused(refusal: &Refusal) -> String {
     object(&[("refused", reason(refusal))]) + "\n"
 }
 
-/// A refusal, with its reason in words.
+/// Describes a refusal, with its reason in words.
 fn reason(refusal: &Refusal) -> String {
     object(&[
         ("number", refusal.number.to_string()),
@@ -37,12 +37,12 @@ fn reason(refusal: &Refusal) -> String {
     ])
 }
 
-/// A range of the file.
+/// Describes a range of the file.
 fn stretch(start: usize, end: usize) -> String {
     object(&[("start", start.to_string()), ("end", end.to_string())])
 }
 
-/// Where the tree is.
+/// Describes where the tree is.
 fn tree(tree: Tree) -> String {
     object(&[
         ("start", tree.start.to_string()),
@@ -51,7 +51,7 @@ fn tree(tree: Tree) -> String {
     ])
 }
 
-/// One block of all the blocks of the file and of its inner files.
+/// Describes a block of the file or of one of its inner files.
 fn block(record: Record) -> String {
     let block = record.block;
     let checksum = block.has_checksum().then(|| hexadecimal(&block.checksum));
@@ -74,7 +74,7 @@ fn block(record: Record) -> String {
     ])
 }
 
-/// An inner state: its word, or the refusal if the inner file is refused.
+/// Describes an inner state: its word, or the refusal if the inner file is refused.
 fn inner(inner: Inner) -> String {
     match inner {
         Inner::Plain => string("plain"),
@@ -84,25 +84,25 @@ fn inner(inner: Inner) -> String {
     }
 }
 
-/// An object of members whose values are already JSON.
+/// Makes an object of members whose values are already JSON.
 fn object(members: &[(&str, String)]) -> String {
     let member = |(name, value): &(&str, String)| format!("{}:{value}", string(name));
     let members: Vec<String> = members.iter().map(member).collect();
     format!("{{{}}}", members.join(","))
 }
 
-/// A text of printable ASCII, in quotes.
+/// Puts a text of printable ASCII into quotes.
 fn string(text: &str) -> String {
     let escaped = text.replace('\\', "\\\\").replace('"', "\\\"");
     format!("\"{escaped}\"")
 }
 
-/// A value, or `null` if there is none.
+/// Returns the value, or `null` if there is none.
 fn or_null(value: Option<String>) -> String {
     value.unwrap_or("null".to_string())
 }
 
-/// Two hexadecimal digits for each byte.
+/// Writes two digits for each byte.
 fn hexadecimal(bytes: &[u8]) -> String {
     bytes.iter().map(|byte| format!("{byte:02x}")).collect()
 }

@@ -29,7 +29,7 @@ pub fn is_beside(path: &Path) -> bool {
     fs::canonicalize(path).is_ok_and(|path| beside(&path, SUFFIX).exists())
 }
 
-/// The sentence that reports an edit that was not finished.
+/// Returns the sentence that reports an edit that was not finished.
 pub fn unfinished(path: &Path) -> String {
     let path = path.display();
     format!(
@@ -38,7 +38,7 @@ pub fn unfinished(path: &Path) -> String {
     )
 }
 
-/// The path with a suffix after its name.
+/// Returns the path with a suffix after its name.
 fn beside(path: &Path, suffix: &str) -> PathBuf {
     let mut name = path.as_os_str().to_owned();
     name.push(suffix);
@@ -99,7 +99,7 @@ fn write_part(
     Ok(())
 }
 
-/// The line before the bytes of the room.
+/// Returns the line before the bytes of the room.
 fn line(room: &Range<usize>, file_length: usize) -> String {
     format!("{WORD} {} {} {file_length}\n", room.start, room.len())
 }
@@ -160,13 +160,13 @@ impl Kept {
         }
     }
 
-    /// Where the room is in the file.
+    /// Returns where the room is in the file.
     pub fn room(&self) -> Range<usize> {
         self.room.clone()
     }
 
-    /// Puts the old room into the file's bytes and returns true, if the file still has the length
-    /// it had.
+    /// Puts the old room into the file's bytes, if these are as many as they were. Returns whether
+    /// it did so.
     pub fn put_into(&self, file: &mut [u8]) -> bool {
         let old = &self.bytes[self.bytes.len() - self.room.len()..];
         let fits = file.len() == self.file_length && self.room.end <= file.len();
@@ -176,7 +176,7 @@ impl Kept {
         fits
     }
 
-    /// The failure that reports that this kept room does not fit the file.
+    /// Reports that this kept room does not fit the file.
     pub fn of_another_file(&self, target: &Target) -> Failure {
         let (path, file) = (self.path.display(), target.path.display());
         Failure::usage(format!(
@@ -185,7 +185,7 @@ impl Kept {
     }
 }
 
-/// The three numbers of the first line.
+/// Reads the three numbers of the first line.
 fn numbers(bytes: &[u8]) -> Option<[usize; 3]> {
     let end = bytes.iter().position(|&byte| byte == b'\n')?;
     let line = str::from_utf8(&bytes[..end]).ok()?;

@@ -3,7 +3,7 @@
 
 use asdf_layout::{Layout, Outline, Refusal, Tree};
 
-/// The listing of an accepted file.
+/// Returns the listing of an accepted file.
 pub fn listing(file: &[u8]) -> Result<String, Refusal> {
     let layout = Layout::read(file)?;
     let rows = rows(&Outline::of_file(file)?);
@@ -11,17 +11,17 @@ pub fn listing(file: &[u8]) -> Result<String, Refusal> {
     Ok(format!("tree {tree}\n{rows}index {}\n", layout.index))
 }
 
-/// The listing of a refused file.
+/// Returns the listing of a refused file.
 pub fn refused(refusal: &Refusal) -> String {
     format!("refused {} {}\n", refusal.number, refusal.place)
 }
 
-/// The rows of an outline, one on each line.
+/// Returns the rows of an outline, one on each line.
 pub fn rows(outline: &Outline) -> String {
     outline.rows().map(|row| format!("{row}\n")).collect()
 }
 
-/// Where the tree is.
+/// Describes where the tree is.
 fn tree(tree: Option<Tree>) -> String {
     match tree {
         None => "none".to_string(),

@@ -20,7 +20,7 @@ pub fn is_standard(path: &Path) -> bool {
     path == Path::new(STANDARD)
 }
 
-/// The name of the input at a path, for messages.
+/// Returns the name of the input at a path, for messages.
 fn name(path: &Path) -> String {
     match is_standard(path) {
         true => "standard input".to_string(),
@@ -42,8 +42,8 @@ enum Bytes {
 }
 
 impl Source {
-    /// The bytes of an ASDF file. Waits until no edit of it is running, and warns if an edit was
-    /// not finished.
+    /// Opens an ASDF file. Waits until no edit of it is running, and warns if an edit was not
+    /// finished.
     pub fn file(path: &Path) -> Result<Source, Failure> {
         let source = Source::open(path, TOO_LONG)?;
         if let Bytes::Mapped(_, file) = &source.bytes {
@@ -56,7 +56,7 @@ impl Source {
         Ok(source)
     }
 
-    /// The bytes of any other input, whose length has no limit here.
+    /// Opens any other input, whose length has no limit here.
     pub fn whole(path: &Path) -> Result<Source, Failure> {
         Source::open(path, u64::MAX)
     }
@@ -74,12 +74,13 @@ impl Source {
         })
     }
 
-    /// What a proved function reports about these bytes, or the failure that states its refusal.
+    /// Returns what a proved function reports about these bytes, or the failure that states its
+    /// refusal.
     pub fn accepted<T>(&self, result: Result<T, Refusal>) -> Result<T, Failure> {
         result.map_err(|refusal| Failure::refused(self.name(), refusal))
     }
 
-    /// The name of the bytes, for messages.
+    /// Returns the name of the bytes, for messages.
     pub fn name(&self) -> String {
         name(&self.path)
     }
@@ -105,7 +106,7 @@ impl Deref for Source {
     }
 }
 
-/// The bytes of an opened file: mapped, or read if it is not a regular file, such as a pipe.
+/// Maps the bytes of an opened file, or reads them if it is not a regular file, such as a pipe.
 fn bytes_of(file: File, enough: u64) -> io::Result<Bytes> {
     if !file.metadata()?.is_file() {
         return read(file, enough);

@@ -19,7 +19,7 @@ const HEADINGS: [&str; COLUMNS] = [
 /// The number of spaces before the ordinal of a block, for each file around the file of the block.
 const INDENTATION: usize = 2;
 
-/// The listing of an accepted file.
+/// Returns the listing of an accepted file.
 pub fn listing(file: &Source) -> Result<String, Refusal> {
     let layout = Layout::read(file)?;
     let records = Records::read(file)?;
@@ -35,7 +35,7 @@ pub fn listing(file: &Source) -> Result<String, Refusal> {
     Ok(format!("{front}{}index     {verdict}\n", blocks(&records)))
 }
 
-/// Where something is in the file.
+/// Describes where something is in the file.
 fn stretch(range: Range<usize>) -> String {
     match range.is_empty() {
         true => "none".to_string(),
@@ -43,13 +43,13 @@ fn stretch(range: Range<usize>) -> String {
     }
 }
 
-/// Where the tree is, and how many bytes an edit may fill.
+/// Describes where the tree is, and how many bytes an edit may fill.
 fn tree(tree: Tree) -> String {
     let room = words::size(tree.room().len());
     format!("{}, in a room of {room}", stretch(tree.text()))
 }
 
-/// The table of all blocks, or a line that says that there are none.
+/// Returns the table of all blocks, or a line that says that there are none.
 fn blocks(records: &Records) -> String {
     let mut rows: Vec<[String; COLUMNS]> = records.iter().map(row).collect();
     if rows.is_empty() {
@@ -59,7 +59,7 @@ fn blocks(records: &Records) -> String {
     format!("\n{}\n", aligned(&rows))
 }
 
-/// The row of a block.
+/// Returns the row of a block.
 fn row(record: Record) -> [String; COLUMNS] {
     let block = record.block;
     let indentation = " ".repeat(INDENTATION * usize::from(record.depth));
@@ -79,14 +79,15 @@ fn row(record: Record) -> [String; COLUMNS] {
     ]
 }
 
-/// Lines of columns. Each column is as wide as its longest word, and two spaces separate columns.
+/// Aligns rows in columns. Each column is as wide as its longest word, and two spaces separate
+/// columns.
 fn aligned(rows: &[[String; COLUMNS]]) -> String {
     let width = |column: usize| rows.iter().map(|row| row[column].len()).max();
     let widths: [usize; COLUMNS] = std::array::from_fn(|column| width(column).unwrap_or(0));
     rows.iter().map(|row| line(row, widths)).collect()
 }
 
-/// One line of columns.
+/// Returns one line of columns.
 fn line(row: &[String; COLUMNS], widths: [usize; COLUMNS]) -> String {
     let words = row.iter().zip(widths);
     let line: String = words

@@ -38,7 +38,7 @@ impl Target {
         Ok(Target { path, file })
     }
 
-    /// The bytes of the file.
+    /// Maps the bytes of the file.
     pub fn map(&self) -> Result<Map, Failure> {
         Map::of_file(&self.file).map_err(|error| Failure::at("cannot read", &self.path, error))
     }

@@ -5,7 +5,7 @@ use asdf_layout::{Block, Inner, Verdict};
 /// The units of sizes. Each is 1,024 times the one before it.
 const UNITS: [&str; 3] = ["KiB", "MiB", "GiB"];
 
-/// A verdict on the index.
+/// Describes a verdict on the index.
 pub fn verdict(verdict: Verdict) -> &'static str {
     match verdict {
         Verdict::Absent => "absent",
@@ -15,7 +15,7 @@ pub fn verdict(verdict: Verdict) -> &'static str {
     }
 }
 
-/// An inner state.
+/// Describes an inner state.
 pub fn inner(inner: Inner) -> String {
     match inner {
         Inner::Plain => "plain".to_string(),
@@ -25,7 +25,7 @@ pub fn inner(inner: Inner) -> String {
     }
 }
 
-/// A number of bytes. From 1,024 on it is also given in the largest unit that it fills.
+/// Describes a number of bytes. From 1,024 on it is also given in the largest unit that it fills.
 pub fn size(bytes: usize) -> String {
     let scaled = UNITS.iter().scan(bytes as f64, |size, unit| {
         *size /= 1024.0;
@@ -37,8 +37,8 @@ pub fn size(bytes: usize) -> String {
     }
 }
 
-/// The name of a block's compression, without the zeros at its end. Bytes that cannot be printed
-/// are escaped.
+/// Returns the name of a block's compression, without the zeros at its end. Bytes that cannot be
+/// printed are escaped.
 pub fn compression(block: &Block) -> Option<String> {
     let mut name = &block.compression[..];
     while let [front @ .., 0] = name {

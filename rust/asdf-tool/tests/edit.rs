@@ -53,12 +53,12 @@ impl Case {
         fs::write(&self.file, &self.old).unwrap();
     }
 
-    /// Where the old room is kept.
+    /// Returns where the old room is kept.
     fn kept(&self) -> PathBuf {
         self.file.with_extension("asdf.old-room")
     }
 
-    /// The bytes of the file.
+    /// Returns the bytes of the file.
     fn bytes(&self) -> Vec<u8> {
         fs::read(&self.file).unwrap()
     }
@@ -76,7 +76,7 @@ impl Case {
         run(&["restore", word(&self.file)])
     }
 
-    /// The state in which a stopped edit left the file.
+    /// Returns the state in which a stopped edit left the file.
     fn state(&self) -> State {
         let bytes = self.bytes();
         match self.kept().exists() {
@@ -141,7 +141,7 @@ fn stopped_after(step: u32, words: &[&str]) -> Ran {
         .into()
 }
 
-/// The names in a folder.
+/// Returns the names in a folder.
 fn names(folder: &Path) -> BTreeSet<String> {
     let entries = fs::read_dir(folder).unwrap();
     entries

@@ -9,7 +9,7 @@ use std::path::Path;
 /// The minimum number of real files. More may be added, but none may get lost.
 const AT_LEAST: usize = 18;
 
-/// The path of a real file.
+/// Returns the path of a real file.
 fn real(name: &str) -> String {
     format!("{DATA}/{name}.asdf")
 }

@@ -38,7 +38,7 @@ impl From<Output> for Ran {
     }
 }
 
-/// The tool, to be called with these words.
+/// Returns a call of the tool with these words.
 pub fn command(words: &[&str]) -> Command {
     let mut command = Command::new(env!("CARGO_BIN_EXE_asdf-layout"));
     command.args(words);
@@ -74,7 +74,7 @@ pub fn printed(words: &[&str]) -> String {
     ran.output
 }
 
-/// An empty folder for a test.
+/// Makes an empty folder for a test.
 pub fn folder(test: &str) -> PathBuf {
     let folder = Path::new(env!("CARGO_TARGET_TMPDIR")).join(test);
     let _ = fs::remove_dir_all(&folder);
@@ -82,12 +82,12 @@ pub fn folder(test: &str) -> PathBuf {
     folder
 }
 
-/// A path as a word for the tool.
+/// Returns a path as a word for the tool.
 pub fn word(path: &Path) -> &str {
     path.to_str().unwrap()
 }
 
-/// The header of a block with one number for all three sizes.
+/// Returns the header of a block with one number for all three sizes.
 pub fn block_header(size: u64) -> Vec<u8> {
     let mut header = b"\xD3BLK\0\x30\0\0\0\0\0\0\0\0".to_vec();
     header.extend([size; 3].map(u64::to_be_bytes).concat());
@@ -95,7 +95,7 @@ pub fn block_header(size: u64) -> Vec<u8> {
     header
 }
 
-/// A file with a tree, `spaces` spaces after it, and a block with some content.
+/// Returns a file with a tree, `spaces` spaces after it, and a block with some content.
 pub fn file_with_room(spaces: usize) -> Vec<u8> {
     let spaces = vec![b' '; spaces];
     [HEADER, TREE, &spaces, &block_header(3), b"abc"].concat()
