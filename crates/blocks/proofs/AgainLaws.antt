@@ -1,4 +1,4 @@
--- A header that is read again: one law for each way out, and what is read of a block that was accepted.
+-- Laws about a header that is read again: one for each return, and what is read of a block that was accepted.
 use Prim.Native.Nat.{ℕ, _+_, _-_, _%_, _≤_, _<_, _^_}
 use native.Mathlib.Omega.{arith}
 use mathlib.Core.Path.{_≡_, refl, sym, ap, _∙_}
@@ -18,18 +18,19 @@ use Rattle.blocks.specs.Block.{FieldRead}
 use Rattle.blocks.specs.Again.{reported, blankBlock, blockAgain, blankSummary, summaryAgain, streamedAgain, hasContent, noContent, contentAgain}
 
 module _ (t : Bytes) (size : ℕ) where
-  -- a size of a streamed block is what is left
+  -- For a streamed block every reported size is the number of bytes left.
   pub reported-left : isStreamed (flags t) ≡ true → reported t size ≡ bytesLeft t
   unfolding reported
   reported-left h = rw (reported, h)
 
-  -- a size of another is the stored one
+  -- For any other block the reported size is the stored size.
   pub reported-stored : isStreamed (flags t) ≡ false → reported t size ≡ size
   unfolding reported
   reported-stored h = rw (reported, h)
 
 module _ (t : Bytes) where
-  -- bytes too short for a header give zeros
+  -- If `t` is too short for a header, what is read of it is blank. This law and the next three state it for each
+  -- function.
   pub block-blank : (i n : ℕ) → length t < leastBlock → blankBlock i n ≡ blockAgain i n t
   unfolding blockAgain
   block-blank i n h = rw (blockAgain, lt-leb leastBlock (length t) h)
@@ -46,7 +47,7 @@ module _ (t : Bytes) where
   unfolding contentAgain
   content-blank h c e = rw (e, contentAgain, lt-leb leastBlock (length t) h)
 
-  -- a size is reported by whether the block is streamed
+  -- If the block is streamed, the bytes left are its reported size; otherwise (the next law) the stored size is.
   pub size-streamed : (f stored : ℕ) → FieldRead t 6 10 f → f % 2 ≡ 1 → (r : ℕ) → r ≡ bytesLeft t → r ≡ reported t stored
   size-streamed f stored bits s r e = e ∙ sym (reported-left t stored (rw (← bits .is) (eq-eqb (f % 2) 1 s)))
 
@@ -54,7 +55,7 @@ module _ (t : Bytes) where
   size-stored f stored bits s = sym (reported-stored t stored (rw (← bits .is) (ne-eqb (f % 2) 1 s)))
 
   module _ (long : leastBlock ≤ length t) where
-    -- the block is made of the numbers in its header
+    -- If `t` is long enough for a header, the block that is read again is made of the numbers in the header.
     pub block-made : (i n h f c a a' u u' d d' high low : ℕ) → FieldRead t 4 6 h → FieldRead t 6 10 f → FieldRead t 10 14 c
         → FieldRead t 14 22 a → a' ≡ reported t a → FieldRead t 22 30 u → u' ≡ reported t u → FieldRead t 30 38 d → d' ≡ reported t d
         → FieldRead t 38 46 high → FieldRead t 46 54 low
@@ -74,12 +75,12 @@ module _ (t : Bytes) where
     block-made i n h f c a a' u u' d d' high low rh rf rc ra sa ru su rd sd rx ry =
         rw (blockAgain, le-leb leastBlock (length t) long, blockWith, rh .is, rf .is, rc .is, sa, ra .is, su, ru .is, sd, rd .is, rx .is, ry .is)
 
-    -- its flags tell whether it is streamed
+    -- If `t` is long enough for a header, the flags decide whether the block is streamed.
     pub streamed-told : (f : ℕ) → FieldRead t 6 10 f → isStreamed f ≡ streamedAgain t
     unfolding streamedAgain
     streamed-told f bits = rw (streamedAgain, le-leb leastBlock (length t) long, bits .is)
 
-    -- and so is its summary
+    -- The summary is made of the numbers in the header too.
     pub summary-made : (h f c a a' u u' high low : ℕ) (compressed checksum : Bool) → FieldRead t 4 6 h → FieldRead t 6 10 f
         → FieldRead t 10 14 c → compressed ≡ isCompressed c → FieldRead t 38 46 high → FieldRead t 46 54 low → checksum ≡ hasChecksum high low
         → FieldRead t 14 22 a → a' ≡ reported t a → FieldRead t 22 30 u → u' ≡ reported t u
@@ -96,7 +97,7 @@ module _ (t : Bytes) where
         rw (summaryAgain, le-leb leastBlock (length t) long, ec, ex, sa, su, rh .is, rf .is, rc .is, rx .is, ry .is, ra .is, ru .is)
 
     module _ (h : ℕ) (rh : FieldRead t 4 6 h) where
-      -- the header passes the end
+      -- If `t` ends inside the header, there is no content.
       pub content-cut : length t < 6 + h → (c : Content) → c ≡ noContent → c ≡ contentAgain t
       unfolding contentAgain
       content-cut q c e =
@@ -110,7 +111,7 @@ module _ (t : Bytes) where
         used-is : u' ≡ reported t (usedSize t)
         used-is = su ∙ ap (reported t) (ru .is)
 
-        -- the content passes the end
+        -- If fewer bytes follow the header than are used, there is no content.
         pub content-beyond : length t - (6 + h) < u' → (c : Content) → c ≡ noContent → c ≡ contentAgain t
         unfolding contentAgain
         content-beyond k c e =
@@ -118,7 +119,7 @@ module _ (t : Bytes) where
             let beyond : leb (reported t (usedSize t)) (bytesLeft t) ≡ false = lt-leb (reported t (usedSize t)) (bytesLeft t) (omega (arith, left-is, used-is)) in
             rw (e, contentAgain, le-leb leastBlock (length t) long, whole, beyond)
 
-        -- it lies inside
+        -- Case: the content is inside `t`.
         module _ (k : u' ≤ length t - (6 + h)) where
           pub content-fits : length t < 2 ^ 64 → Fits w64 (6 + h + u')
           content-fits l = omega arith
@@ -131,7 +132,7 @@ module _ (t : Bytes) where
               let inside : leb (reported t (usedSize t)) (bytesLeft t) ≡ true = le-leb (reported t (usedSize t)) (bytesLeft t) (omega (arith, left-is, used-is)) in
               rw (contentAgain, le-leb leastBlock (length t) long, whole, inside, ec, rc .is, ← used-is, rh .is)
 
--- a sound block that is read again is the block
+-- If a block is sound, reading it again gives the block that was accepted.
 pub block-again : (t : Bytes) → Sound t → (i n : ℕ) → blockAgain i n t ≡ soundBlock i n t
 unfolding blockAgain soundBlock
 block-again t sound i n = go (isStreamed (flags t)) refl
@@ -145,7 +146,7 @@ block-again t sound i n = go (isStreamed (flags t)) refl
     go false e =
         rw (blockAgain, long, reported-stored t (allocatedSize t) e, reported-stored t (usedSize t) e, reported-stored t (dataSize t) e, soundBlock, e)
 
--- and it is told whether it is streamed
+-- If a block is sound, reading it again tells whether it is streamed.
 pub sound-streamed : (t : Bytes) → Sound t → streamedAgain t ≡ isStreamed (flags t)
 unfolding streamedAgain
 sound-streamed t sound = rw (streamedAgain, le-leb leastBlock (length t) (omega (arith, sound .least, sound .whole)))

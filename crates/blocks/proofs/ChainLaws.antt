@@ -1,4 +1,5 @@
--- The chain of blocks: one law for each way out of a link and of the walk. The blocks so far, in front of the chain from here on, are the chain.
+-- Laws about the chain of blocks: one for each return of a link and of the walk. At every step the blocks walked so
+-- far, followed by the chain from there on, are the whole chain.
 use Prim.Native.Nat.{ℕ, zero, suc, _+_, _-_, _^_, _≤_, _<_}
 use native.Mathlib.Numerals.{add-one}
 use native.Mathlib.Omega.{arith}
@@ -32,7 +33,7 @@ use Rattle.blocks.specs.Block.{Fault, soundLink}
 use Rattle.blocks.specs.Chain.{onward, TailBegins, Follows, NextMark, BlockBegins, LinkIs, Chained, WalkedAlone, WalkedTo, WalkRefused, WalkedInside}
 
 module _ (s : Bytes) (n : ℕ) where
-  -- a mark stands there
+  -- If a mark is at offset `n`, the next block begins there.
   pub next-at-once : (y : Bool) → y ≡ begins mark (drop n s) → y ≡ true → NextMark s n n
   next-at-once y mark-is h = record {
     some-block = λ l.
@@ -41,11 +42,11 @@ module _ (s : Bytes) (n : ℕ) where
   }
 
   module _ (x : Bool) (index-is : x ≡ begins indexLine (drop n s)) where
-    -- what begins like an index stands there
+    -- If the bytes at offset `n` begin like an index, no block follows.
     pub next-at-index : x ≡ true → NextMark s n (length s)
     next-at-index h = record { some-block = λ l. absurd (omega arith); no-block = λ l. next-index (drop n s) (sym index-is ∙ h) }
 
-    -- neither does, so the first mark is searched
+    -- If they do not begin like an index, the next block begins at the first mark from `n` on, if there is one.
     pub next-found : x ≡ false → (m : ℕ) → MarkFound s n m → n ≤ length s → NextMark s n m
     next-found h m found l = record {
       some-block = λ p. record {
@@ -57,22 +58,22 @@ module _ (s : Bytes) (n : ℕ) where
       no-block = λ p. next-none (drop n s) (simp length-drop (omega (arith, found .is)));
     }
 
--- what begins like an index is not zeros only
+-- Bytes that begin like an index are not only zeros.
 index-other : (t : Bytes) → begins indexLine t ≡ true → allZero t ≡ false
 index-other t h = ap allZero (begins-true indexLine t h)
 
 module _ (s : Bytes) (i n m : ℕ) (next : NextMark s n m) where
-  -- where a mark stands, a block follows
+  -- If the next mark `m` is inside the file, a block follows there.
   pub link-follows : m < length s → Follows s n m
   link-follows h = next .some-block h
 
   module _ (none : length s ≤ m) where
-    -- where none stands, the tail begins
+    -- If there is no next mark, the tail begins at `n`.
     onward-tail : onward s i n ≡ tail n (drop n s)
     onward-tail = chain-none (mostBlocks - i) i n (drop n s) (next .no-block none)
 
     module _ (x : Bool) (index-is : x ≡ begins indexLine (drop n s)) where
-      -- what begins like an index stands there
+      -- If the bytes at `n` begin like an index, the tail begins there and is not only zeros.
       pub link-index : x ≡ true → TailBegins s i n false
       unfolding tail
       link-index h =
@@ -80,29 +81,29 @@ module _ (s : Bytes) (i n m : ℕ) (next : NextMark s n m) where
           record { is = onward-tail ∙ rw (tail, index-other (drop n s) index, index); tail = index-other (drop n s) index }
 
       module _ (z : Bool) (zeros-is : z ≡ allZero (take (length s - n) (drop n s))) where
-        -- whether zeros only stand there
+        -- `z` is whether the bytes from `n` on are only zeros.
         zeros-on : allZero (drop n s) ≡ z
         zeros-on = sym (zeros-is ∙ ap allZero (part-all s n))
 
-        -- nothing or zeros only stand there
+        -- If nothing or only zeros are left at `n`, the tail begins there and is only zeros.
         pub link-zeros : z ≡ true → TailBegins s i n true
         unfolding tail
         link-zeros h = record { is = onward-tail ∙ rw (tail, zeros-on ∙ h); tail = zeros-on ∙ h }
 
-        -- something else stands there
+        -- If anything else is at `n`, the chain is refused there with 17.
         pub link-other : (r : Refusal) → r ≡ refusal 17 n → x ≡ false → z ≡ false → onward s i n ≡ refused r
         unfolding tail
         link-other r e h k = onward-tail ∙ rw (tail, zeros-on ∙ k, sym index-is ∙ h, e)
 
 module _ (s : Bytes) (i n m : ℕ) (here : Follows s n m) where
-  -- no block more is allowed
+  -- If no further block is allowed, the chain is refused with 16 at the mark `m`.
   pub mark-many : (r : Refusal) → r ≡ refusal 16 m → mostBlocks ≤ i → onward s i n ≡ refused r
   mark-many r e h =
       let none : mostBlocks - i ≡ 0 = omega arith in
       rw (none, e, here .at) (chain-many i n (here .gap) (drop n s) (here .next))
 
   module _ (few : i < mostBlocks) where
-    -- a block is still allowed
+    -- If a further block is allowed, the chain goes on with the block at the mark `m`.
     onward-linked : onward s i n ≡ linkedAt i m (drop m s) (chain (mostBlocks - (i + 1)) (i + 1))
     onward-linked =
         let one-more : mostBlocks - i ≡ suc (mostBlocks - (i + 1)) = omega arith in
@@ -111,14 +112,14 @@ module _ (s : Bytes) (i n m : ℕ) (here : Follows s n m) where
         ∙ ap (λ (t : Bytes). linkedAt i (n + here .gap) t (chain (mostBlocks - (i + 1)) (i + 1))) (drop-drop (here .gap) n s)
         ∙ ap (λ (j : ℕ). linkedAt i j (drop j s) (chain (mostBlocks - (i + 1)) (i + 1))) (sym (here .at))
 
-    -- the block has a fault
+    -- If the block has a fault, the chain is refused with that number at the mark `m`.
     pub mark-refused : (x : ℕ) (r : Refusal) → Fault (take (length s - m) (drop m s)) x → r ≡ refusal x m → (x ≡ 0 → ⊥) → onward s i n ≡ refused r
     unfolding linkedAt
     mark-refused x r fault e h =
         let block-is : block i m (drop m s) ≡ refused r = ap (block i m) (sym (part-all s m)) ∙ fault .fails h i m ∙ ap refused (sym e) in
         onward-linked ∙ rw (block-is, linkedAt)
 
-    -- it has none, and leads on
+    -- If the block has no fault, the chain goes on where the block leads.
     pub mark-block : (x : ℕ) (r : LinkStep) → Fault (take (length s - m) (drop m s)) x → r ≡ soundLink (take (length s - m) (drop m s)) → x ≡ 0
         → LinkIs s i n m r
     unfolding linkedAt soundLink
@@ -145,21 +146,22 @@ module _ (s : Bytes) (i n m : ℕ) (here : Follows s n m) where
               omega (arith, known .inside, size, length-drop m s, here .inside),
             )
 
--- a chain with these blocks in front
+-- The chain `o` with the blocks `bs` put before it.
 abbrev inFront : List Block → Outcome Chain → Outcome Chain
 inFront bs o = _>>=_ o (λ c. accepted (record { blocks = bs ++ c .blocks; tail = c .tail }))
 
--- with none in front it is the same
+-- If no blocks are put before a chain, it stays the same.
 in-front-none : (o : Outcome Chain) → o ≡ inFront [] o
 in-front-none (accepted c) = refl
 in-front-none (refused r) = refl
 
--- a first block is the last of those in front
+-- A block may be the first of the chain or the last of the blocks put before it: the result is the same.
 in-front-next : (bs : List Block) (b : Block) (o : Outcome Chain) → inFront bs (_>>=_ o (λ c. accepted (linked b c))) ≡ inFront (bs ++ (b ∷ [])) o
 in-front-next bs b (accepted c) = rw (append-snoc bs b (c .blocks))
 in-front-next bs b (refused r) = refl
 
--- i blocks are walked, where they begin is kept at the front of a table, and o is the chain after them
+-- The state of a walk from offset `first` on: `i` blocks are walked, the front of the table `out` holds where they
+-- begin, and `o` is the chain after them.
 pub record Walking (s : Bytes) (before out : List ℕ) (first i : ℕ) (o : Outcome Chain) : Type 0 where
   pub blocks : List Block
   pub is : onward s 0 first ≡ inFront blocks o
@@ -169,12 +171,13 @@ pub record Walking (s : Bytes) (before out : List ℕ) (first i : ℕ) (o : Outc
   pub room : length before ≡ mostBlocks
   pub size : length out ≡ length before
 
--- no block is walked
+-- At the start no block is walked.
 pub walk-begins : (s : Bytes) (before : List ℕ) (first : ℕ) → length before ≡ mostBlocks → Walking s before before first 0 (onward s 0 first)
 walk-begins s before first room =
     record { blocks = []; is = in-front-none (onward s 0 first); count = refl; few = omega arith; kept = refl; room = room; size = refl }
 
--- where block b begins is kept after the others
+-- If the table holds where the blocks `bs` begin, and where `b` begins is put after that, it holds where the blocks
+-- `bs` and `b` begin.
 table-next : (before : List ℕ) (bs : List Block) (b : Block) → length bs < length before
     → set (tableOf before bs) (length bs) (b .at .0) ≡ tableOf before (bs ++ (b ∷ []))
 table-next before bs b h =
@@ -183,7 +186,7 @@ table-next before bs b h =
     ∙ (set-at (offsets bs) (getD before (length bs) 0) (drop (suc (length bs)) before) (b .at .0) (length bs) size
     ∙ rw (length-append, add-one, map-append, append-snoc))
 
--- where no block stands behind them, they are all
+-- If no block follows the walked blocks, they are all blocks of the chain.
 walk-ends : (s : Bytes) (before out : List ℕ) (first i : ℕ) (o : Outcome Chain) (w : Walking s before out first i o) (t : Bytes) → o ≡ accepted (ended t)
     → Chained (onward s 0 first) before out i (record { blocks = w .blocks; tail = t })
 walk-ends s before out first i o w t e = record {
@@ -194,54 +197,54 @@ walk-ends s before out first i o w t e = record {
 }
 
 module _ (s : Bytes) (i n m : ℕ) (r : LinkStep) (link : LinkIs s i n m r) where
-  -- a streamed block begins here
+  -- If the link is a streamed block, it begins at the mark `m`.
   streamed-here : r ≡ LinkStep·is.Streamed → BlockBegins s i n m (accepted (ended []))
   streamed-here h = rw h at link
 
-  -- it is one of those that are allowed
+  -- If the link is a streamed block, it is within the limit on blocks.
   pub streamed-few : r ≡ LinkStep·is.Streamed → i < mostBlocks
   streamed-few h = streamed-here h .few
 
   module _ (e : ℕ) (h : r ≡ LinkStep·is.Block e) where
-    -- a block of this length begins here, which is not streamed
+    -- A block that is not streamed begins at the mark `m`; its allocated space ends `e` bytes after that.
     block-here : LinkIs s i n m (LinkStep·is.Block e)
     block-here = rw h at link
 
-    -- it is one of those that are allowed
+    -- It is within the limit on blocks.
     pub block-few : i < mostBlocks
     block-few = block-here .0 .few
 
-    -- fewer are allowed behind it
+    -- Fewer blocks are allowed after it, so the measure decreases.
     pub block-less : mostBlocks - (i + 1) < mostBlocks - i
     block-less = omega (arith, block-few)
 
-    -- it ends inside
+    -- It ends inside the file.
     pub block-inside : m + e ≤ length s
     block-inside = block-here .1
 
-    -- its end fits
+    -- The offset of its end fits into 64 bits.
     pub block-fits : length s < 2 ^ 64 → Fits w64 (m + e)
     block-fits q = omega (arith, block-inside)
 
 module _ (s : Bytes) (before out : List ℕ) (first i n m : ℕ) (w : Walking s before out first i (onward s i n)) (r : LinkStep) (link : LinkIs s i n m r) where
-  -- the chain is refused here
+  -- If the chain is refused here, the whole chain has the same refusal.
   pub walk-refused : (x : Refusal) → r ≡ LinkStep·is.Refused x → onward s 0 first ≡ refused x
   walk-refused x h = w .is ∙ ap (inFront (w .blocks)) (rw h at link)
 
-  -- zeros only stand behind the blocks
+  -- If only zeros follow the walked blocks, the chain ends without an index.
   pub walk-zeros : r ≡ LinkStep·is.Zeros → WalkedAlone (onward s 0 first) before out i
   walk-zeros h =
       let t : TailBegins s i n true = rw h at link in
       record { c = _; chained = walk-ends s before out first i _ w (drop n s) (t .is); zeros = t .tail }
 
-  -- what begins like an index stands behind them
+  -- If the bytes after the walked blocks begin like an index, the chain ends there, at offset `n`.
   pub walk-index : r ≡ LinkStep·is.Index → n ≤ length s → WalkedTo s (onward s 0 first) before out i n
   walk-index h inside =
       let t : TailBegins s i n false = rw h at link in
       record { c = _; chained = walk-ends s before out first i _ w (drop n s) (t .is); zeros = t .tail; tail = refl; inside = inside }
 
   module _ (out' : List ℕ) (keep : out' ≡ set out i m) where
-    -- one block more is walked
+    -- If a block follows and the table keeps where it begins, one more block is walked.
     walk-next : (o : Outcome Chain) → BlockBegins s i n m o → Walking s before out' first (i + 1) o
     walk-next o b = record {
       blocks = w .blocks ++ (b .first ∷ []);
@@ -253,17 +256,17 @@ module _ (s : Bytes) (before out : List ℕ) (first i n m : ℕ) (w : Walking s 
       size = rw (keep, length-set) (w .size);
     }
 
-    -- a streamed block is the last
+    -- A streamed block is the last of the chain.
     pub walk-streamed : r ≡ LinkStep·is.Streamed → WalkedAlone (onward s 0 first) before out' (i + 1)
     walk-streamed h =
         let next = walk-next (accepted (ended [])) (streamed-here s i n m r link h) in
         record { c = _; chained = walk-ends s before out' first (i + 1) _ next [] refl; zeros = refl }
 
-    -- after another the chain goes on
+    -- After any other block the chain goes on.
     pub walk-block : (e : ℕ) → r ≡ LinkStep·is.Block e → Walking s before out' first (i + 1) (onward s (i + 1) (m + e))
     walk-block e h = walk-next (onward s (i + 1) (m + e)) (block-here s i n m r link e h .0)
 
--- where the walk begins after the end, there are no blocks
+-- If the walk begins after the end of the file, there are no blocks.
 pub walk-outside : (s : Bytes) (before : List ℕ) (first : ℕ) → length s < first → WalkedAlone (onward s 0 first) before before 0
 walk-outside s before first h = record {
   c = ended [];
@@ -272,13 +275,13 @@ walk-outside s before first h = record {
 }
 
 module _ (s : Bytes) (o : Outcome Chain) (before out : List ℕ) (x : ChainStep) (is : WalkedInside s o before out x) where
-  -- what the walk inside answers is told
+  -- The answer of `walk_inside` is passed on: this law without an index, the next with one.
   pub told-alone : (k : ℕ) → x ≡ ChainStep·is.Walked k → WalkedAlone o before out k
   told-alone k h = rw h at is
 
   pub told-to : (k n : ℕ) → x ≡ ChainStep·is.Indexed k n → WalkedTo s o before out k n
   told-to k n h = rw h at is
 
-  -- of a refused chain only zeros are kept
+  -- If the chain is refused, the table keeps only zeros.
   pub told-refused : (r : Refusal) → x ≡ ChainStep·is.Refused r → WalkRefused o (replicate mostBlocks 0) r
   told-refused r h = record { is = rw h at is; none-kept = refl }

@@ -1,4 +1,4 @@
--- Laws that the proofs of the steps cite.
+-- Laws that the proofs of the steps use.
 pub mod BlockLaws
 pub mod AgainLaws
 pub mod ChainLaws

@@ -1,4 +1,4 @@
--- What is read of a header without judging it: of one that was accepted, what was accepted.
+-- What is read of a header without judging it. If the header was accepted, this is what was accepted.
 use Prim.Native.Nat.{ℕ, _+_}
 use mathlib.Core.Bool.{Bool, true, false, _&&_}
 use lib.ListN.{length}
@@ -9,11 +9,11 @@ use Rattle.format.specs.Block.{headerSize, flags, compression, allocatedSize, u
 use Rattle.blocks.specs.declared.again.Summary.{Summary}
 use Rattle.blocks.specs.declared.again.Content.{Content}
 
--- a size as it is reported: of a streamed block each is the length of its content
+-- A size as it is reported. For a streamed block every size is the length of its content.
 unfoldable pub reported : Bytes → ℕ → ℕ
 reported t size = elim (isStreamed (flags t)) [ true ↦ bytesLeft t | false ↦ size ]
 
--- block i at offset n with no numbers
+-- Block `i` at offset `n`, with zeros for the numbers in its header.
 abbrev pub blankBlock : ℕ → ℕ → Block
 blankBlock i n =
     record {
@@ -29,7 +29,7 @@ blankBlock i n =
       «checksum_low» = 0;
     }
 
--- block i at offset n, with which t begins
+-- Block `i` at offset `n`, read again from `t`, which begins with it.
 unfoldable pub blockAgain : ℕ → ℕ → Bytes → Block
 blockAgain i n t =
     elim (leb leastBlock (length t)) [
@@ -37,10 +37,11 @@ blockAgain i n t =
       | false ↦ blankBlock i n
     ]
 
+-- What a row shows of bytes that are too short for a header.
 abbrev pub blankSummary : Summary
 blankSummary = record { «header_size» = 0; streamed = false; compressed = false; checksum = false; allocated = 0; used = 0 }
 
--- what a row shows of it
+-- What a row shows of the block that `t` begins with.
 unfoldable pub summaryAgain : Bytes → Summary
 summaryAgain t =
     elim (leb leastBlock (length t)) [
@@ -55,18 +56,19 @@ summaryAgain t =
       | false ↦ blankSummary
     ]
 
--- whether it is streamed
+-- Whether the block that `t` begins with is streamed.
 unfoldable pub streamedAgain : Bytes → Bool
 streamedAgain t = leb leastBlock (length t) && isStreamed (flags t)
 
--- whether its content lies inside t
+-- Whether the content of the block that `t` begins with is inside `t`.
 abbrev pub hasContent : Bytes → Bool
 hasContent t = leb leastBlock (length t) && leb (contentStart t) (length t) && leb (reported t (usedSize t)) (bytesLeft t)
 
+-- What stands for content that is not inside: an empty range that counts as compressed.
 abbrev pub noContent : Content
 noContent = record { from = 0; to = 0; compressed = true }
 
--- where its content lies
+-- Where in `t` the content of the block that `t` begins with is, and whether it is compressed.
 unfoldable pub contentAgain : Bytes → Content
 contentAgain t =
     elim (hasContent t) [

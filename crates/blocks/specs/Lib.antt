@@ -1,4 +1,4 @@
--- What the contracts of the steps cite.
+-- The definitions that the contracts of the steps use.
 pub mod Block
 pub mod Again
 pub mod Chain

@@ -1,5 +1,5 @@
-// A block's header that was judged before is read again. Nothing is judged here, and every byte string is answered: what is too
-// short for a header gives zeros, and content that does not lie inside is empty.
+// Reads again the header of a block that was judged before. Nothing is judged here, and every input gets an answer:
+// bytes that are too short for a header give zeros, and content that is not inside is empty.
 ghost use Prim.Native.Nat.{_≤_};
 ghost use mathlib.Core.Path.{_≡_};
 ghost use lib.ListN.{length};
@@ -22,14 +22,15 @@ pub struct Summary {
     pub used: u64,
 }
 
-// Where a block's content lies, counted from the block's first byte, and whether it is compressed.
+// Where a block's content is, counted from the block's first byte, and whether it is compressed.
 pub struct Content {
     pub from: usize,
     pub to: usize,
     pub compressed: bool,
 }
 
-// The block with this ordinal whose first byte is t's and stands at an offset of its file; t reaches to the file's end.
+// Reads the block that `t` begins with. It has this ordinal and begins at offset `at` of its file; `t` reaches to the
+// end of that file.
 pub fn block_of(t: &[u8], ordinal: u8, at: usize) -> Block
     ensures { λ r. ⌜ r ≡ blockAgain ordinal at (now (t .entry)) ⌝ }
 {
@@ -61,7 +62,7 @@ pub fn block_of(t: &[u8], ordinal: u8, at: usize) -> Block
     }
 }
 
-// The summary of such a block.
+// Reads the summary of the block that `t` begins with.
 pub fn summary_of(t: &[u8]) -> Summary
     ensures { λ r. ⌜ r ≡ summaryAgain (now (t .entry)) ⌝ }
 {
@@ -85,7 +86,7 @@ pub fn summary_of(t: &[u8]) -> Summary
     }
 }
 
-// Whether such a block is streamed.
+// Whether the block that `t` begins with is streamed.
 pub fn is_streamed(t: &[u8]) -> bool
     ensures { λ r. ⌜ r ≡ streamedAgain (now (t .entry)) ⌝ }
 {
@@ -95,7 +96,7 @@ pub fn is_streamed(t: &[u8]) -> bool
     field(t, 6, 10) % 2 == 1
 }
 
-// The content of such a block.
+// Reads where the content of the block that `t` begins with is.
 pub fn content_of(t: &[u8]) -> Content
     ensures { λ r. ⌜ r ≡ contentAgain (now (t .entry)) ⌝ }
 {
@@ -117,7 +118,7 @@ pub fn content_of(t: &[u8]) -> Content
     }
 }
 
-// Content that does not lie inside.
+// Returns what stands for content that is not inside.
 fn no_content() -> Content
     ensures { λ r. ⌜ r ≡ noContent ⌝ }
 {
@@ -128,7 +129,7 @@ fn no_content() -> Content
     }
 }
 
-// A size as it is reported: of a streamed block each is the length of its content.
+// Returns a size as it is reported. For a streamed block every size is the length of its content.
 fn size(t: &[u8], stored: u64) -> u64
     requires { ⌜ leastBlock ≤ length (now t) ⌝ }
     ensures { λ r. ⌜ r ≡ reported (now (t .entry)) stored ⌝ }
@@ -139,7 +140,7 @@ fn size(t: &[u8], stored: u64) -> u64
     stored
 }
 
-// How many bytes stand after the header.
+// Returns how many bytes follow the header.
 fn bytes_left(t: &[u8]) -> u64
     requires { ⌜ leastBlock ≤ length (now t) ⌝ }
     ensures { λ r. ⌜ r ≡ bytesLeft (now (t .entry)) ⌝ }

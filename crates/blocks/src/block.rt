@@ -1,4 +1,4 @@
-// A block's header, judged.
+// Judges a block's header.
 ghost use Prim.Native.Nat.{_≤_};
 ghost use mathlib.Core.Path.{_≡_};
 ghost use mathlib.Core.Bool.{_||_};
@@ -16,8 +16,8 @@ use format::refusal::HEADER_TOO_SMALL;
 use format::refusal::USED_ABOVE_ALLOCATED;
 use scan::number;
 
-// The number that refuses the block whose first byte is t's, or 0. The walk has found the mark there: its four bytes are not
-// looked at again.
+// Returns the number with which the block that `t` begins with is refused, or 0. The walk has already found the mark,
+// so its four bytes are not checked again.
 pub(crate) fn fault(t: &[u8]) -> u8
     ensures { λ r. ⌜ Fault (now (t .entry)) r ⌝ }
 {
@@ -39,7 +39,7 @@ pub(crate) fn fault(t: &[u8]) -> u8
     sizes_fault(t, left)
 }
 
-// The same where the header is whole and not of a streamed block, with so many bytes behind it.
+// Returns the same for a whole header of a block that is not streamed. `left` bytes follow the header.
 fn sizes_fault(t: &[u8], left: u64) -> u8
     requires { ⌜ HeaderRead (now t) left ⌝ }
     ensures { λ r. ⌜ Fault (now (t .entry)) r ⌝ }
@@ -58,7 +58,7 @@ fn sizes_fault(t: &[u8], left: u64) -> u8
     0
 }
 
-// Whether data may have this size: without compression only the used one.
+// Whether the data may have this size. Without compression only the used size is allowed.
 fn is_data_size(data_size: u64, compression: u64, used: u64) -> bool
     ensures { λ r. ⌜ r ≡ (isCompressed compression || eqb data_size used) ⌝ }
 {
@@ -68,7 +68,7 @@ fn is_data_size(data_size: u64, compression: u64, used: u64) -> bool
     data_size == used
 }
 
-// The number in the bytes from one offset to another, at most eight of them.
+// Returns the number in the bytes from offset `from` to offset `to`, at most eight of them.
 pub(crate) fn field(t: &[u8], from: usize, to: usize) -> u64
     requires { ⌜ IsField (now t) from to ⌝ }
     ensures { λ r. ⌜ FieldRead (now (t .entry)) from to r ⌝ }
@@ -76,7 +76,7 @@ pub(crate) fn field(t: &[u8], from: usize, to: usize) -> u64
     number::big_endian(&t[from..to])
 }
 
-// How a block leads on that nothing is wrong with.
+// Returns how the chain goes on after a block with which nothing is wrong.
 pub(crate) fn sound_link(t: &[u8]) -> LinkStep
     requires { ⌜ Sound (now t) ⌝ }
     ensures { λ r. ⌜ r ≡ soundLink (now (t .entry)) ⌝ }

@@ -1,4 +1,4 @@
-// The chain of blocks, with unallocated space between them, and the tail after the last of them.
+// The chain of blocks, with unallocated space between them, and the tail after the last block.
 ghost use Prim.Native.Nat.{_≤_, _<_};
 ghost use mathlib.Core.Path.{_≡_};
 ghost use lib.ListN.{length, drop, set};
@@ -15,8 +15,9 @@ use format::refusal::STRAY_TAIL;
 use format::refusal::TOO_MANY_BLOCKS;
 use scan::text;
 
-// Walks the blocks from an offset on, and keeps where each begins at the front of the table; what stood after them stays. A chain
-// that is refused leaves only zeros there: what the walk had kept before the refusal is not handed on.
+// Walks the blocks from offset `first` on, and keeps where each begins at the front of the table. The rest of the table
+// stays as it was. A refused chain leaves only zeros in the table: what the walk kept before the refusal is not passed
+// on.
 pub fn walk(s: &[u8], first: usize, offsets: &mut [u64; MOST_BLOCKS]) -> ChainStep
     ensures { λ r. ⌜ Walked (now (s .entry)) (chain mostBlocks 0 first (drop first (now (s .entry)))) (now (offsets .entry)) (now (offsets .exit)) r ⌝ }
 {
@@ -33,8 +34,8 @@ pub fn walk(s: &[u8], first: usize, offsets: &mut [u64; MOST_BLOCKS]) -> ChainSt
     }
 }
 
-// The same from an offset inside. A refused chain leaves what was kept before. The table comes as a slice, since a reference to an
-// array says nothing of the array's length in a proof.
+// Does the same from an offset inside the file. A refused chain leaves what was kept before the refusal. The table is
+// lent as a slice, because in a proof a reference to an array does not tell the array's length.
 fn walk_inside(s: &[u8], first: usize, offsets: &mut [u64]) -> ChainStep
     requires { ⌜ first ≤ length (now s) ⌝ }
     requires { ⌜ length (now offsets) ≡ mostBlocks ⌝ }
@@ -70,7 +71,7 @@ fn walk_inside(s: &[u8], first: usize, offsets: &mut [u64]) -> ChainStep
     }
 }
 
-// Keeps where block i begins.
+// Keeps where block `i` begins.
 fn keep(offsets: &mut [u64], i: usize, at: usize)
     requires { ⌜ i < length (now offsets) ⌝ }
     ensures { λ _. ⌜ now (offsets .exit) ≡ set (now (offsets .entry)) i at ⌝ }
@@ -78,8 +79,9 @@ fn keep(offsets: &mut [u64], i: usize, at: usize)
     offsets[i] = at as u64;
 }
 
-// Where the block begins that follows at an offset, or the end where none follows. Blocks mostly follow at once, and where a
-// mark stands no index does, so the mark is tried first; nothing after an index is searched.
+// Returns where the block that follows from offset `at` on begins, or the end of the file if none follows. Blocks
+// mostly follow immediately, and no index can begin where a mark is, so the mark is tried first. Nothing after the
+// beginning of an index is searched.
 fn next_mark(s: &[u8], at: usize) -> usize
     requires { ⌜ at ≤ length (now s) ⌝ }
     ensures { λ r. ⌜ NextMark (now (s .entry)) at r ⌝ }
@@ -93,14 +95,15 @@ fn next_mark(s: &[u8], at: usize) -> usize
     mark::find(s, at)
 }
 
-// Whether an index begins at an offset: its first line decides, whatever comes after.
+// Whether an index begins at offset `at`. Its first line decides, whatever comes after it.
 fn is_index(s: &[u8], at: usize) -> bool
     ensures { λ r. ⌜ r ≡ begins indexLine (drop at (now (s .entry))) ⌝ }
 {
     text::begins_at(s, at, b"#ASDF BLOCK INDEX")
 }
 
-// What follows at an offset: at the mark `next` block i, if there may be so many; where there is no mark, the tail.
+// Returns what follows from offset `at` on. At the mark `next` it is block `i`, if a further block is allowed; if there
+// is no mark, it is the tail.
 fn link(s: &[u8], at: usize, next: usize, i: usize) -> LinkStep
     requires { ⌜ (at ≤ length (now s)) × NextMark (now s) at next ⌝ }
     ensures { λ r. ⌜ LinkIs (now (s .entry)) i at next r ⌝ }
@@ -117,7 +120,7 @@ fn link(s: &[u8], at: usize, next: usize, i: usize) -> LinkStep
     LinkStep::Refused(Refusal::new(STRAY_TAIL, at))
 }
 
-// The same where a block follows at the mark `next`.
+// Returns the same if a block follows at the mark `next`.
 fn link_at_mark(s: &[u8], at: usize, next: usize, i: usize) -> LinkStep
     requires { ⌜ Follows (now s) at next ⌝ }
     ensures { λ r. ⌜ LinkIs (now (s .entry)) i at next r ⌝ }

@@ -1,24 +1,24 @@
-// What the steps of reading a file answer one another.
+// The answers that the steps of reading a file give each other.
 use format::refusal::Refusal;
 
-// What follows at the end of a block, or where the first may begin.
+// What follows at the end of a block, or where the first block may begin.
 pub enum LinkStep {
-    // A block whose allocated space ends so far from its first byte.
+    // A block, with the distance from its first byte to the end of its allocated space.
     Block(usize),
     // A block that reaches to the end of the file.
     Streamed,
-    // No block: nothing, or zero bytes only.
+    // No block: nothing is left, or only zero bytes.
     Zeros,
-    // No block, but what begins like an index.
+    // No block, but bytes that begin like an index.
     Index,
     Refused(Refusal),
 }
 
-// A chain of so many blocks.
+// What a walk along the chain found, and how many blocks the chain has.
 pub enum ChainStep {
-    // No index stands behind it.
+    // No index follows the chain.
     Walked(usize),
-    // What begins like an index stands behind it, from `tail` on.
+    // Bytes that begin like an index follow the chain, from offset `tail` on.
     Indexed { blocks: usize, tail: usize },
     Refused(Refusal),
 }

@@ -1,4 +1,5 @@
--- Zeros of what is too short, and else the numbers in the header.
+-- `blocks::again::block_of` meets its contract: bytes that are too short give zeros, all others the numbers in the
+-- header.
 use borrow.Author.Needs.{needs}
 use Rattle.blocks.proofs.AgainLaws.{block-blank, block-made}
 use Rattle.blocks.proofs.again.block_of.Statement.{statement}

@@ -1,4 +1,4 @@
--- No content where it does not lie inside.
+-- `blocks::again::content_of` meets its contract: if the content is not inside, there is none.
 use borrow.Author.Needs.{needs}
 use Rattle.blocks.proofs.AgainLaws.{content-blank, content-cut, content-beyond, content-fits, content-made}
 use Rattle.blocks.proofs.again.content_of.Statement.{statement}

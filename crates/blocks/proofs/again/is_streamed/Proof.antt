@@ -1,4 +1,4 @@
--- Its flags tell it, where there is a header.
+-- `blocks::again::is_streamed` meets its contract: if there is a header, its flags decide.
 use borrow.Author.Needs.{needs}
 use Rattle.blocks.proofs.AgainLaws.{streamed-blank, streamed-told}
 use Rattle.blocks.proofs.again.is_streamed.Statement.{statement}

@@ -1,4 +1,4 @@
--- A streamed block's size is what is left, and another's the stored one.
+-- `blocks::again::size` meets its contract: for a streamed block it is the bytes left, otherwise the stored size.
 use borrow.Author.Needs.{needs}
 use Rattle.blocks.proofs.AgainLaws.{size-streamed, size-stored}
 use Rattle.blocks.proofs.again.size.Statement.{statement}

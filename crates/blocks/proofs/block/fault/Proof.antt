@@ -1,4 +1,5 @@
--- `blocks::block::fault` meets its contract: one law for each way out; where the header is whole, the sizes decide.
+-- `blocks::block::fault` meets its contract. There is one law for each return; if the header is whole, the sizes
+-- decide.
 use borrow.Author.Needs.{needs}
 use Rattle.blocks.proofs.BlockLaws.{block-short, block-small, block-cut, block-streamed, header-read}
 use Rattle.blocks.proofs.block.fault.Statement.{statement}

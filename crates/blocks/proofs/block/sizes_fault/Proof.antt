@@ -1,4 +1,4 @@
--- `blocks::block::sizes_fault` meets its contract: one law for each way out, in the order of the tests.
+-- `blocks::block::sizes_fault` meets its contract. There is one law for each return, in the order of the tests.
 use borrow.Author.Needs.{needs}
 use Rattle.blocks.proofs.BlockLaws.{sizes-used, sizes-data, sizes-beyond, sizes-good}
 use Rattle.blocks.proofs.block.sizes_fault.Statement.{statement}

@@ -1,4 +1,4 @@
--- `blocks::block::sound_link` meets its contract, by bit 0 of the flags.
+-- `blocks::block::sound_link` meets its contract. Bit 0 of the flags decides.
 use borrow.Author.Needs.{needs}
 use Rattle.blocks.proofs.BlockLaws.{link-streamed, link-fits, link-plain}
 use Rattle.blocks.proofs.block.sound_link.Statement.{statement}

@@ -1,4 +1,4 @@
--- `blocks::chain::link_at_mark` meets its contract: the chain goes on as the block at the mark says.
+-- `blocks::chain::link_at_mark` meets its contract: the chain goes on where the block at the mark leads.
 use borrow.Author.Needs.{needs}
 use Rattle.blocks.proofs.BlockLaws.{block-sound}
 use Rattle.blocks.proofs.ChainLaws.{mark-many, mark-refused, mark-block}

@@ -1,4 +1,5 @@
--- `blocks::chain::next_mark` meets its contract: a mark at once, none where an index begins, or the first.
+-- `blocks::chain::next_mark` meets its contract: a mark is there immediately, there is none because an index begins, or
+-- the first mark is found.
 use borrow.Author.Needs.{needs}
 use Rattle.blocks.proofs.ChainLaws.{next-at-once, next-at-index, next-found}
 use Rattle.blocks.proofs.chain.next_mark.Statement.{statement}

@@ -1,4 +1,5 @@
--- Outside there are no blocks; what the walk inside answers is told.
+-- `blocks::chain::walk` meets its contract: after the end of the file there are no blocks; otherwise the answer of
+-- `walk_inside` is passed on.
 use borrow.Author.Needs.{needs}
 use Rattle.blocks.proofs.ChainLaws.{walk-outside, told-alone, told-to, told-refused}
 use Rattle.blocks.proofs.chain.walk.Statement.{statement}

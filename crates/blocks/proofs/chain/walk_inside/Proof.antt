@@ -1,5 +1,5 @@
--- `blocks::chain::walk_inside` meets its contract. The loop's invariant: the chain is the blocks so far in front of the chain from here on.
--- The measure is how many blocks are still allowed.
+-- `blocks::chain::walk_inside` meets its contract. The loop's invariant: the blocks walked so far, followed by the
+-- chain from here on, are the whole chain. The measure is how many blocks are still allowed.
 use Prim.Native.Nat.{_-_, _≤_}
 use lib.ListN.{length}
 use borrow.Author.Needs.{needs}
