@@ -1,4 +1,4 @@
--- The index that is written: one law for each way out.
+-- Laws about the index that is written: one for each return.
 use Prim.Native.Nat.{ℕ, zero, suc, _-_, _%_, _≤_, _<_}
 use native.Mathlib.Omega.{arith}
 use mathlib.Core.Path.{_≡_, refl, sym, ap, _∙_}
@@ -39,7 +39,7 @@ use Rattle.format.specs.Promise.{Written, IndexWritten}
 use Rattle.put.proofs.WrittenLaws.{written-refused, Taken, written-taken}
 use Rattle.index.specs.Text.{offsetsIndex}
 
--- whether there may be an index is told by the last block
+-- The last block decides whether there may be an index: there may, unless it is streamed.
 last-decides : (bs : List Block) (j : ℕ) (b : Block) → length bs ≡ suc j → getElem? bs j ≡ some b → mayHaveIndex bs ≡ not (isStreamed (b .flags))
 unfolding mayHaveIndex
 last-decides [] j b n h = absurd (omega arith)
@@ -49,19 +49,19 @@ last-decides (a ∷ c ∷ bs) zero b n h = absurd (omega arith)
 last-decides (a ∷ c ∷ bs) (suc j) b n h = last-decides (c ∷ bs) j b (omega arith) h
 
 module _ (s : Bytes) (kept : List ℕ) (count : ℕ) (h : Kept s kept count) where
-  -- the index of a file whose last block may have one after it or not
+  -- If the blocks may have an index, it lists the offsets that are kept; otherwise the index is refused with 22.
   index-is : (b : Bool) → mayHaveIndex (h .f .blocks) ≡ b
       → indexFor s ≡ elim b [ true ↦ accepted (indexText (h .f .header .«line_end») (take count kept)) | false ↦ refused (refusal 22 0) ]
   unfolding indexFor
   index-is true e = rw (indexFor, h .is, e, h .begin)
   index-is false e = rw (indexFor, h .is, e)
 
-  -- the file's header is that of the layout which is answered
+  -- The file's header is the header of the layout that is reported.
   same-header : (l : Layout) → layout s ≡ accepted l → h .f .header ≡ l .header
   unfolding layout layoutOf
   same-header l told = cc (rw (h .is, layout) at told)
 
-  -- the file has no block
+  -- If the file has no block, the index is refused with 22.
   pub no-block : count ≡ 0 → (out : Bytes) (x : CountAnswer) → x ≡ Refused (refusal 22 0) → Written (indexFor s) out out x
   unfolding mayHaveIndex
   no-block p out = written-refused (indexFor s) out (refusal 22 0) (index-is false (none-may (h .f .blocks) (h .count ∙ p)))
@@ -71,22 +71,23 @@ module _ (s : Bytes) (kept : List ℕ) (count : ℕ) (h : Kept s kept count) whe
       none-may (b ∷ bs) q = absurd (omega arith)
 
   module _ (p : count ≡ 0 → ⊥) where
-    -- where the last block begins is kept
+    -- The table keeps where the last block begins.
     last-each : Each s (h .f .blocks) (count - 1) (getD kept (count - 1) 0)
     last-each = kept-each h (omega arith)
 
     pub last-room : count - 1 < length kept
     last-room = kept-room h (omega arith)
 
-    -- it begins inside
+    -- The last block begins inside the file.
     pub last-inside : getD kept (count - 1) 0 ≤ length s
     last-inside = last-each .inside
 
-    -- where all of them begin is kept
+    -- The table keeps where all blocks begin.
     pub all-kept : count ≤ length kept
     all-kept = omega (arith, last-room)
 
-    -- so many offsets are taken, and a file may have so many
+    -- The first `count` offsets are taken. A file may have that many blocks, so the index of them (the next law) is
+    -- accepted.
     pub part-length : length (take count kept) ≡ count
     part-length = length-take-le count kept all-kept
 
@@ -97,23 +98,23 @@ module _ (s : Bytes) (kept : List ℕ) (count : ℕ) (h : Kept s kept count) whe
         rw (offsetsIndex, le-leb (length (take count kept)) mostBlocks (omega (arith, part-length, h .count)))
 
     module _ (x : Bool) (read : x ≡ streamedAgain (take (length s - getD kept (count - 1) 0) (drop (getD kept (count - 1) 0) s))) where
-      -- the last block tells whether there may be an index
+      -- The last block's header, read again, tells whether there may be an index.
       last-may : (t : Bool) → not x ≡ t → mayHaveIndex (h .f .blocks) ≡ t
       last-may t q =
           let told : x ≡ isStreamed (last-each .b .flags)
           = rw (read, part-all) (sound-streamed _ (last-each .is .sound)) ∙ ap isStreamed (sym (last-each .is .same-flags)) in
           last-decides (h .f .blocks) (count - 1) (last-each .b) (omega (arith, h .count)) (last-each .found) ∙ ap not (sym told) ∙ q
 
-      -- it is streamed
+      -- If the last block is streamed, the index is refused with 22.
       pub last-streamed : x ≡ true → (out : Bytes) (y : CountAnswer) → y ≡ Refused (refusal 22 0) → Written (indexFor s) out out y
       last-streamed q out = written-refused (indexFor s) out (refusal 22 0) (index-is false (last-may false (rw q)))
 
-      -- it is not
+      -- If it is not streamed, writing the index of the kept offsets is writing the index of the file.
       pub last-plain : x ≡ false → (l : Layout) → layout s ≡ accepted l → (k : LineEnd) → k ≡ l .header .«line_end»
           → (out after : Bytes) (y : CountAnswer) → Written (offsetsIndex k (take count kept)) out after y → Written (indexFor s) out after y
       last-plain q l told k e out after y w = rw (index-is true (last-may true (rw q)), same-header l told, ← e) (rw (part-index k) at w)
 
--- what is written is a good index, and short
+-- What is written is a good index, and it is short enough.
 module _ (s : Bytes) (known : (i : ℕ) → Fits w8 (getD s i 0)) where
   pub index-written : (out after : Bytes) (r : CountAnswer) → Written (indexFor s) out after r → IndexWritten s out after r
   index-written out after r w = record {
@@ -128,7 +129,7 @@ module _ (s : Bytes) (known : (i : ℕ) → Fits w8 (getD s i 0)) where
       taken : (n : ℕ) → r ≡ Counted n → Taken (indexFor s) after n
       taken n e = written-taken (indexFor s) out after n (rw e at w)
 
-  -- the file is refused
+  -- If the file is refused, its refusal is the answer, and nothing is written.
   pub index-refused : (a : LayoutAnswer) → layoutAnswer a ≡ layout s → (r : Refusal) → a ≡ LayoutAnswer·is.Refused r → (out : Bytes)
       → IndexWritten s out out (Refused r)
   unfolding indexFor

@@ -1,4 +1,4 @@
--- A file whose offsets are kept: each of its blocks is the one that is read again where it begins.
+-- Laws about a file whose offsets are kept: reading a block again where it begins gives the block that was judged.
 use Prim.Native.Nat.{ℕ, zero, suc, _-_, _≤_, _<_}
 use native.Mathlib.Omega.{arith}
 use mathlib.Core.Path.{_≡_, sym, ap, _∙_}
@@ -20,21 +20,21 @@ use Rattle.blocks.specs.Again.{blockAgain}
 use Rattle.blocks.proofs.AgainLaws.{block-again}
 use Rattle.file.specs.Layout.{Kept}
 
--- a table begins with the offsets of its blocks
+-- The table of blocks begins with their offsets.
 pub table-kept : (k : ℕ) (before out : List ℕ) (bs : List Block) → length bs ≡ k → out ≡ tableOf before bs → take k out ≡ offsets bs
 table-kept k before out bs n h = rw h (take-at (offsets bs) (drop (length bs) before) k (length-map bs (λ (b : Block). b .at .0) ∙ n))
 
--- as many offsets are kept as there are blocks
+-- If the first `k` entries of a table are the offsets of `k` blocks, the table has at least `k` entries.
 pub enough-kept : (out : List ℕ) (k : ℕ) (bs : List Block) → length bs ≡ k → take k out ≡ offsets bs → k ≤ length out
 enough-kept out k bs n h = omega (arith, length-take k out, ap length h, length-map bs (λ (b : Block). b .at .0))
 
--- a block that is found in a list is the next of those that are left there
+-- If block `b` is at place `k` of a list, the rest of the list from there begins with `b`.
 drop-found : (bs : List Block) (k : ℕ) (b : Block) → getElem? bs k ≡ some b → drop k bs ≡ b ∷ drop (suc k) bs
 drop-found [] k b h = cc
 drop-found (a ∷ bs) zero b h = let same : a ≡ b = cc in rw same
 drop-found (a ∷ bs) (suc k) b h = drop-found bs k b h
 
--- block k of the blocks bs of the file s, which begins at offset n
+-- Block `k` of the blocks `bs` of the file `s`. It begins at offset `n`.
 pub record Each (s : Bytes) (bs : List Block) (k n : ℕ) : Type 0 where
   pub b : Block
   pub found : getElem? bs k ≡ some b
@@ -43,13 +43,13 @@ pub record Each (s : Bytes) (bs : List Block) (k n : ℕ) : Type 0 where
   pub is : BlockIs k n (drop n s) b
 
 module _ {s : Bytes} {out : List ℕ} {count : ℕ} (kept : Kept s out count) {k : ℕ} where
-  -- the file has no such block
+  -- If the file has no block `k`, the answer is that there is no such block.
   pub kept-none : count ≤ k → blockAnswer BlockAnswer·is.NoSuchBlock ≡ blockAt s k
   unfolding blockAnswer blockAt
   kept-none h = rw (blockAt, kept .is, no-element (kept .f .blocks) k (omega (arith, kept .count)))
 
   module _ (h : k < count) where
-    -- it has one, which begins where it was kept
+    -- If the file has a block `k`, it begins where the table says.
     pub kept-each : Each s (kept .f .blocks) k (getD out k 0)
     kept-each =
         let bs = kept .f .blocks in
@@ -63,15 +63,15 @@ module _ {s : Bytes} {out : List ℕ} {count : ℕ} (kept : Kept s out count) {k
           is = accepted-block (rw at at (here .read));
         }
 
-    -- there is a place for it
+    -- The table has an entry for it.
     pub kept-room : k < length out
     kept-room = omega (arith, enough-kept out count (kept .f .blocks) (kept .count) (kept .begin))
 
-    -- it begins inside
+    -- It begins inside the file.
     pub kept-inside : getD out k 0 ≤ length s
     kept-inside = kept-each .inside
 
-    -- the block that is read again there is the one that is asked for
+    -- The block that is read again there is the block that was asked for.
     pub kept-again : (b : Block) → b ≡ blockAgain k (getD out k 0) (take (length s - getD out k 0) (drop (getD out k 0) s))
         → blockAnswer (BlockAnswer·is.Found b) ≡ blockAt s k
     unfolding blockAnswer blockAt

@@ -1,4 +1,4 @@
--- The layout of a file: one law for each way out of its steps.
+-- Laws about the layout of a file: one for each return of its steps.
 use Prim.Native.Nat.{ℕ, _-_, _≤_, _<_}
 use native.Mathlib.Omega.{arith}
 use mathlib.Core.Path.{_≡_, refl, sym, ap, _∙_}
@@ -45,175 +45,176 @@ use Rattle.file.specs.Layout.{fileWith, withBlocks, afterTree, afterComm
 use Rattle.format.proofs.PartLaws.{part-all}
 use Rattle.file.proofs.KeptLaws.{table-kept, enough-kept}
 
--- a refused file is answered by its refusal
+-- If the outcome is a refusal, that refusal is the right answer.
 refused-judged : (o : Outcome File) (before out : List ℕ) (r : Refusal) → o ≡ refused r → Judged o before out (LayoutAnswer·is.Refused r)
 unfolding layoutAnswer
 refused-judged o before out r h = record { is = rw h; kept = λ f e. cc }
 
--- an accepted file is answered by its layout, where out is the table of its blocks
+-- If the outcome is an accepted file and `out` is the table of its blocks, the file's layout is the right answer.
 accepted-judged : (o : Outcome File) (before out : List ℕ) (l : Layout) (f : File) → o ≡ accepted f → l ≡ layoutOf f → out ≡ tableOf before (f .blocks)
     → Judged o before out (LayoutAnswer·is.Accepted l)
 unfolding layoutAnswer
 accepted-judged o before out l f h e k = record { is = rw (h, e); kept = λ g q. let same : f ≡ g = cc in rw same at k }
 
 module _ {A : Type 0} (o : Outcome File) (p : Outcome A) (then : A → Outcome File) (step : o ≡ _>>=_ p then) (before out : List ℕ) where
-  -- a step that refuses
+  -- If a step refuses, its refusal is the answer.
   step-refused : (r : Refusal) → p ≡ refused r → Judged o before out (LayoutAnswer·is.Refused r)
   step-refused r h = refused-judged o before out r (rw (step, h))
 
-  -- a step that accepts hands on to what comes after it
+  -- If a step accepts, the answer is the answer of what comes after it.
   step-accepted : (a : A) → p ≡ accepted a → (x : LayoutAnswer) → Judged (then a) before out x → Judged o before out x
   step-accepted a h x j = rw (step, h) j
 
--- a file that is short enough is read from its header on
+-- A file that is not too long is read from its header on.
 file-begins : (s : Bytes) → length s ≤ mostBytes → file s ≡ _>>=_ (header s) (afterHeader s)
 unfolding file body afterHeader afterComments afterTree withBlocks
 file-begins s h = rw (le-leb (length s) mostBytes h, file)
 
--- a file that is too long is refused
+-- A file that is too long is refused with 1.
 pub file-long : (s : Bytes) → mostBytes < length s → (r : Refusal) → r ≡ refusal 1 0 → (before out : List ℕ) → Judged (file s) before out (LayoutAnswer·is.Refused r)
 unfolding file
 file-long s h r e before out = refused-judged (file s) before out r (rw (lt-leb (length s) mostBytes h, file, e))
 
 module _ (s : Bytes) (x : HeaderStep) (read : headerOutcome x ≡ header s) where
   module _ (few : length s ≤ mostBytes) (before out : List ℕ) where
-    -- the header is refused
+    -- If the header is refused, the file is refused in the same way.
     pub header-refused : (r : Refusal) → x ≡ HeaderStep·is.Refused r → Judged (file s) before out (LayoutAnswer·is.Refused r)
     unfolding headerOutcome
     header-refused r e = step-refused (file s) (header s) (afterHeader s) (file-begins s few) before out r (sym read ∙ ap headerOutcome e)
 
-    -- the header is read
+    -- If the header is read, the answer is the answer for what comes after it.
     pub header-read : (h : Header) → x ≡ HeaderStep·is.Read h → (a : LayoutAnswer) → Judged (afterHeader s h) before out a → Judged (file s) before out a
     unfolding headerOutcome
     header-read h e = step-accepted (file s) (header s) (afterHeader s) (file-begins s few) before out h (sym read ∙ ap headerOutcome e)
 
-  -- it ends inside
+  -- A header that is read ends inside the file.
   pub header-inside : (h : Header) → x ≡ HeaderStep·is.Read h → h .end .0 ≤ length s
   unfolding headerOutcome
   header-inside h e = header-bounds s h (sym read ∙ ap headerOutcome e)
 
 module _ (s : Bytes) (h : Header) (x : EndStep) (read : endOutcome x ≡ comments (h .end .0) (lines (drop (h .end .0) s))) where
-  -- the comments are refused
+  -- If the comments are refused, the answer is their refusal.
   pub comments-refused : (before out : List ℕ) (r : Refusal) → x ≡ EndStep·is.Refused r → Judged (afterHeader s h) before out (LayoutAnswer·is.Refused r)
   unfolding endOutcome afterHeader
   comments-refused before out r e = step-refused (afterHeader s h) _ (afterComments s h) refl before out r (sym read ∙ ap endOutcome e)
 
   module _ (n : ℕ) (e : x ≡ EndStep·is.At n) where
-    -- the comments are read
+    -- If the comments are read, the answer is the answer for what comes after them.
     pub comments-read : (before out : List ℕ) (a : LayoutAnswer) → Judged (afterComments s h n) before out a → Judged (afterHeader s h) before out a
     unfolding endOutcome afterHeader
     comments-read before out = step-accepted (afterHeader s h) _ (afterComments s h) refl before out n (sym read ∙ ap endOutcome e)
 
-    -- they end inside
+    -- Comments that are read end inside the file.
     pub comments-inside : h .end .0 ≤ length s → n ≤ length s
     unfolding endOutcome
     comments-inside q =
         omega (arith, simp length-drop at (comments-bounds (h .end .0) (drop (h .end .0) s) n (sym read ∙ ap endOutcome e)))
 
 module _ (s : Bytes) (h : Header) (n : ℕ) (x : TreeStep) (read : treeOutcome x ≡ tree n s) where
-  -- the tree is refused
+  -- If the tree is refused, the answer is its refusal.
   pub tree-refused : (before out : List ℕ) (r : Refusal) → x ≡ TreeStep·is.Refused r → Judged (afterComments s h n) before out (LayoutAnswer·is.Refused r)
   unfolding treeOutcome afterComments
   tree-refused before out r e = step-refused (afterComments s h n) _ (afterTree s h n) refl before out r (sym read ∙ ap treeOutcome e)
 
   module _ (t : Tree) (e : x ≡ TreeStep·is.Read t) where
-    -- the tree is read
+    -- If the tree is read, the answer is the answer for what comes after it.
     pub tree-read : (before out : List ℕ) (a : LayoutAnswer) → Judged (afterTree s h n t) before out a → Judged (afterComments s h n) before out a
     unfolding treeOutcome afterComments
     tree-read before out = step-accepted (afterComments s h n) _ (afterTree s h n) refl before out t (sym read ∙ ap treeOutcome e)
 
-    -- the blocks begin inside
+    -- If the tree is read, the offset where the blocks begin is inside the file.
     pub tree-inside : n ≤ length s → firstBlock n t ≤ length s
     unfolding treeOutcome
     tree-inside q = omega (arith, first-block-bounds n s t q (sym read ∙ ap treeOutcome e))
 
 module _ (s : Bytes) (h : Header) (n : ℕ) (t : Tree) where
   module _ (x y m : Offset) (e : t ≡ Found x y m) where
-    -- the blocks begin behind the tree's room
+    -- If there is a tree, the blocks begin after its room.
     pub blocks-after : (before out : List ℕ) (a : LayoutAnswer) → Judged (withBlocks s h n (Found x y m) (m .0)) before out a → Judged (afterTree s h n t) before out a
     unfolding afterTree goesOn firstBlock
     blocks-after before out a j = rw e j
 
-    -- the room ends inside
+    -- The room ends inside the file.
     pub room-inside : firstBlock n t ≤ length s → m .0 ≤ length s
     unfolding firstBlock
     room-inside q = rw e at q
 
   module _ (e : t ≡ NoTree) (b : Bool) (goes : b ≡ goesOn NoTree (drop n s)) (before out : List ℕ) where
-    -- something else stands where no tree begins
+    -- If there is no tree, and neither a block nor the end of the file is where the comments end, the answer is refusal
+    -- 7 there.
     pub blocks-none : not b ≡ true → (r : Refusal) → r ≡ refusal 7 n → Judged (afterTree s h n t) before out (LayoutAnswer·is.Refused r)
     unfolding afterTree
     blocks-none q r i = refused-judged _ before out r (rw (e, afterTree, sym goes ∙ not-true b q, i))
 
-    -- the blocks begin there, or the file ends
+    -- If there is no tree, the blocks begin where the comments end, or the file ends there.
     pub blocks-here : not b ≡ false → (a : LayoutAnswer) → Judged (withBlocks s h n t n) before out a → Judged (afterTree s h n t) before out a
     unfolding afterTree firstBlock
     blocks-here q a j = rw (e, afterTree, sym goes ∙ not-false b q) (rw e at j)
 
-  -- the comments end inside
+  -- If there is no tree, the comments end inside the file.
   pub here-inside : t ≡ NoTree → firstBlock n t ≤ length s → n ≤ length s
   unfolding firstBlock
   here-inside e q = rw e at q
 
--- the file ends
+-- If there is no tree, the file may end at offset `at`.
 pub goes-end : (s : Bytes) (at : ℕ) → length s ≤ at → true ≡ goesOn NoTree (drop at s)
 unfolding goesOn
 goes-end s at h = rw (drop-of-length-le s h)
 
--- a block is to begin
+-- If there is no tree and the file does not end at offset `at`, a block must begin there.
 pub goes-mark : (s : Bytes) (at : ℕ) → at < length s → (b : Bool) → b ≡ begins mark (drop at s) → b ≡ goesOn NoTree (drop at s)
 unfolding goesOn
 goes-mark s at h b e = rw (drop-cons s at 0 h) (rw (drop-cons s at 0 h) at e)
 
 module _ (s : Bytes) (h : Header) (n : ℕ) (t : Tree) (first : ℕ) (before out : List ℕ) where
-  -- the chain c was walked, and v is the verdict on its tail
+  -- If the chain `c` was walked and `v` is the verdict on its tail, the layout with these parts is the answer.
   chain-judged : (c : Chain) (k : ℕ) → Chained (chain mostBlocks 0 first (drop first s)) before out k c → (v : Verdict) → v ≡ verdict (offsets (c .blocks)) (c .tail)
       → (l : Layout) → l ≡ layoutWith h n t k v → Judged (withBlocks s h n t first) before out (LayoutAnswer·is.Accepted l)
   unfolding withBlocks layoutOf
   chain-judged c k w v q l e = accepted-judged _ before out l (fileWith h n t c) (rw (w .is, withBlocks)) (rw (e, w .count, q)) (w .kept)
 
   module _ (x : ChainStep) (walked : Walked s (chain mostBlocks 0 first (drop first s)) before out x) where
-    -- the chain is refused
+    -- If the chain is refused, the answer is its refusal.
     pub walk-refused : (r : Refusal) → x ≡ ChainStep·is.Refused r → Judged (withBlocks s h n t first) before out (LayoutAnswer·is.Refused r)
     unfolding withBlocks
     walk-refused r e = step-refused (withBlocks s h n t first) (chain mostBlocks 0 first (drop first s)) _ refl before out r ((rw e at walked) .is)
 
     module _ (k : ℕ) (e : x ≡ ChainStep·is.Walked k) where
-      -- the walk ended at zeros, or at the end
+      -- The walk ended at zeros or at the end of the file.
       walked-alone : WalkedAlone (chain mostBlocks 0 first (drop first s)) before out k
       walked-alone = rw e at walked
 
-      -- few blocks were walked
+      -- The number of walked blocks is within the limit.
       pub alone-few : k ≤ 64
       alone-few = walked-alone .chained .few
 
-      -- no index stands behind the blocks
+      -- No index follows the blocks, so the verdict is absent.
       pub alone-judged : (l : Layout) → l ≡ layoutWith h n t k Absent → Judged (withBlocks s h n t first) before out (LayoutAnswer·is.Accepted l)
       unfolding verdict
       alone-judged = let w = walked-alone in chain-judged (w .c) k (w .chained) Absent (rw (verdict, w .zeros))
 
     module _ (k m : ℕ) (e : x ≡ ChainStep·is.Indexed k m) where
-      -- the walk ended at what begins like an index
+      -- The walk ended at bytes that begin like an index.
       walked-to : WalkedTo s (chain mostBlocks 0 first (drop first s)) before out k m
       walked-to = rw e at walked
 
-      -- few blocks were walked
+      -- The number of walked blocks is within the limit.
       pub to-few : k ≤ 64
       to-few = walked-to .chained .few
 
-      -- where they begin is kept
+      -- The table keeps where the blocks begin.
       to-begin : take k out ≡ offsets (walked-to .c .blocks)
       to-begin = table-kept k before out (walked-to .c .blocks) (walked-to .chained .count) (walked-to .chained .kept)
 
-      -- for all of them
+      -- The table has an entry for each of them.
       pub to-kept : k ≤ length out
       to-kept = enough-kept out k (walked-to .c .blocks) (walked-to .chained .count) to-begin
 
-      -- the tail begins inside
+      -- The tail begins inside the file.
       pub to-inside : m ≤ length s
       to-inside = walked-to .inside
 
-      -- the tail is judged
+      -- If `v` is the verdict on the tail, the layout with `v` is the answer.
       pub to-judged : (v : Verdict) → v ≡ judged (take k out) (indexed (lines (take (length s - m) (drop m s))))
           → (l : Layout) → l ≡ layoutWith h n t k v → Judged (withBlocks s h n t first) before out (LayoutAnswer·is.Accepted l)
       unfolding verdict
@@ -222,13 +223,13 @@ module _ (s : Bytes) (h : Header) (n : ℕ) (t : Tree) (first : ℕ) (before out
           chain-judged (w .c) k (w .chained) v (q ∙ rw (part-all s m, verdict, w .zeros, to-begin, w .tail))
 
 module _ (s : Bytes) (before out : List ℕ) (a : LayoutAnswer) (judged : Judged (file s) before out a) where
-  -- the answer is the layout
+  -- An answer that was judged is the layout of the file.
   pub layout-judged : layoutAnswer a ≡ layout s
   unfolding layout
   layout-judged = judged .is
 
 module _ (s : Bytes) (a : LayoutAnswer) (judged : layoutAnswer a ≡ layout s) where
-  -- a refusal is the file's
+  -- If the answer is a refusal, it is the refusal of the file.
   pub file-refused : (r : Refusal) → a ≡ LayoutAnswer·is.Refused r → file s ≡ refused r
   unfolding layoutAnswer layout
   file-refused r e = go (file s) refl
@@ -237,17 +238,17 @@ module _ (s : Bytes) (a : LayoutAnswer) (judged : layoutAnswer a ≡ layout s) w
       go (accepted f) h = let clash = sym (ap layoutAnswer e) ∙ rw (layout, h) at judged in cc
       go (refused q) h = let same : _≡_ {A = Outcome Layout} (refused r) (refused q) = sym (ap layoutAnswer e) ∙ rw (layout, h) at judged in cc
 
-  -- an accepted file has the layout that is answered
+  -- If the answer is a layout, the file is accepted and has that layout.
   pub accepted-as : (l : Layout) → a ≡ LayoutAnswer·is.Accepted l → layout s ≡ accepted l
   unfolding layoutAnswer
   accepted-as l e = sym judged ∙ ap layoutAnswer e
 
-  -- a refused file has no blocks
+  -- If the answer is a refusal, it is the answer for every block that is asked for.
   pub block-refused : (j : ℕ) (r : Refusal) → a ≡ LayoutAnswer·is.Refused r → blockAnswer (BlockAnswer·is.Refused r) ≡ blockAt s j
   unfolding blockAnswer blockAt
   block-refused j r e = rw (file-refused r e, blockAt)
 
-  -- the blocks of an accepted file begin where it is kept
+  -- If the answer is a layout, the table keeps where the blocks of the file begin.
   pub blocks-kept : (before out : List ℕ) → out ≡ offsetTable before (file s) → (l : Layout) → a ≡ LayoutAnswer·is.Accepted l → Kept s out (l .blocks)
   unfolding layoutAnswer layoutOf layout offsetTable
   blocks-kept before out kept l e = go (file s) refl
@@ -263,11 +264,11 @@ module _ (s : Bytes) (a : LayoutAnswer) (judged : layoutAnswer a ≡ layout s) w
           absurd (omega arith)
 
 module _ (s : Bytes) (before out : List ℕ) (a : LayoutAnswer) (judged : Judged (file s) before out a) where
-  -- the answer that was judged is told again
+  -- If the answer that was judged is passed on, it is the layout of the file.
   pub layout-again : (x : LayoutAnswer) → a ≡ x → layoutAnswer x ≡ layout s
   layout-again x e = sym (ap layoutAnswer e) ∙ layout-judged s before out a judged
 
-  -- the table of an accepted file is the one that was kept
+  -- If the file is accepted, the table that was kept is its table.
   pub table-accepted : (l : Layout) → a ≡ LayoutAnswer·is.Accepted l → out ≡ offsetTable before (file s)
   unfolding layoutAnswer offsetTable
   table-accepted l e = go (file s) refl
@@ -279,12 +280,12 @@ module _ (s : Bytes) (before out : List ℕ) (a : LayoutAnswer) (judged : Judged
           let z : _≡_ {A = ℕ} 0 1 = cc in
           absurd (omega arith)
 
-  -- that of a refused one has only zeros
+  -- If the file is refused, its table is only zeros.
   pub table-refused : (r : Refusal) → a ≡ LayoutAnswer·is.Refused r → replicate mostBlocks 0 ≡ offsetTable before (file s)
   unfolding offsetTable
   table-refused r e = rw (file-refused s a (layout-judged s before out a judged) r e)
 
--- a table keeps its length
+-- Reading a file keeps the length of the table.
 pub table-size : (s : Bytes) (before out : List ℕ) → out ≡ offsetTable before (file s) → length before ≡ mostBlocks → length out ≡ mostBlocks
 unfolding offsetTable
 table-size s before out is room = ap length is ∙ go (file s) refl

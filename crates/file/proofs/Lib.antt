@@ -1,4 +1,4 @@
--- Laws that the proofs of the steps cite.
+-- Laws that the proofs of the steps use.
 pub mod KeptLaws
 pub mod LayoutLaws
 pub mod IndexWriterLaws

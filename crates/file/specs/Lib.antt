@@ -1,2 +1,2 @@
--- What the contracts of the steps cite.
+-- The definitions that the contracts of the steps use.
 pub mod Layout

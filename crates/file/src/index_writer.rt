@@ -13,8 +13,8 @@ use format::layout::Layout;
 use format::limits::MOST_BLOCKS;
 use format::refusal::NO_INDEX_POSSIBLE;
 
-// Writes the index of a file at the buffer's start, and answers how many bytes it has; or the file's refusal, 22 where no
-// index can be, or 21 where the buffer is too short.
+// Writes the index of a file at the start of the buffer, and returns how many bytes it has. Otherwise returns the
+// file's refusal, 22 if no index is possible, or 21 if the buffer is too short.
 pub fn write(s: &[u8], out: &mut [u8]) -> CountAnswer
     ensures { λ r. ⌜ IndexWritten (now (s .entry)) (now (out .entry)) (now (out .exit)) r ⌝ }
 {
@@ -25,8 +25,8 @@ pub fn write(s: &[u8], out: &mut [u8]) -> CountAnswer
     }
 }
 
-// The same for an accepted file of this layout, whose blocks begin at these offsets. Reads the last block's header again, to
-// know whether it is streamed.
+// Does the same for an accepted file with the layout `l`, whose blocks begin at `offsets`. Reads the last block's
+// header again, to know whether that block is streamed.
 fn write_kept(s: &[u8], offsets: &[u64], l: Layout, out: &mut [u8]) -> CountAnswer
     requires { ⌜ layout (now s) ≡ accepted l ⌝ }
     requires { ⌜ Kept (now s) (now offsets) (l .blocks) ⌝ }

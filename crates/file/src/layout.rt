@@ -1,4 +1,4 @@
-// The layout of a file, front to back.
+// Reads the layout of a file, from front to back.
 ghost use mathlib.Core.Path.{_≡_};
 ghost use Rattle.format.specs.Answer.{layoutAnswer, blockAnswer};
 ghost use Prim.Native.Nat.{_≤_};
@@ -31,7 +31,7 @@ use front::step::HeaderStep;
 use front::step::TreeStep;
 use front::tree;
 
-// The layout of a file, or its refusal.
+// Returns the layout of a file, or its refusal.
 pub fn read(s: &[u8]) -> LayoutAnswer
     ensures { λ r. ⌜ layoutAnswer r ≡ layout (now (s .entry)) ⌝ }
 {
@@ -39,8 +39,9 @@ pub fn read(s: &[u8]) -> LayoutAnswer
     judge(s, &mut offsets)
 }
 
-// The same, and where the blocks begin. An accepted file's offsets come first in the table, and what stood after them stays; a
-// refused file leaves only zeros, so that nothing of what was kept before the refusal is handed on.
+// Does the same, and keeps where the blocks begin. The offsets of an accepted file come first in the table, and the
+// rest of the table stays as it was. A refused file leaves only zeros, so that nothing that was kept before the refusal
+// is passed on.
 pub fn read_into(s: &[u8], offsets: &mut [u64; MOST_BLOCKS]) -> LayoutAnswer
     ensures { λ r. ⌜ layoutAnswer r ≡ layout (now (s .entry)) ⌝ }
     ensures { λ _. ⌜ now (offsets .exit) ≡ offsetTable (now (offsets .entry)) (file (now (s .entry))) ⌝ }
@@ -54,7 +55,7 @@ pub fn read_into(s: &[u8], offsets: &mut [u64; MOST_BLOCKS]) -> LayoutAnswer
     }
 }
 
-// The block of this ordinal in the file, that there is none, or the file's refusal.
+// Returns the block of the file with this ordinal, that there is no such block, or the file's refusal.
 pub fn block(s: &[u8], ordinal: u64) -> BlockAnswer
     ensures { λ r. ⌜ blockAnswer r ≡ blockAt (now (s .entry)) ordinal ⌝ }
 {
@@ -65,7 +66,7 @@ pub fn block(s: &[u8], ordinal: u64) -> BlockAnswer
     }
 }
 
-// The block of this ordinal, of an accepted file with so many blocks that begin at these offsets.
+// Returns the block with this ordinal of an accepted file. The file has `blocks` blocks, which begin at `offsets`.
 fn kept_block(s: &[u8], offsets: &[u64], blocks: u8, ordinal: u64) -> BlockAnswer
     requires { ⌜ Kept (now s) (now offsets) blocks ⌝ }
     ensures { λ r. ⌜ blockAnswer r ≡ blockAt (now (s .entry)) ordinal ⌝ }
@@ -77,7 +78,7 @@ fn kept_block(s: &[u8], offsets: &[u64], blocks: u8, ordinal: u64) -> BlockAnswe
     BlockAnswer::Found(again::block_of(&s[at..], ordinal as u8, at))
 }
 
-// Judges a file. An accepted file's offsets come first in the table then.
+// Judges a file. If it is accepted, the offsets of its blocks come first in the table.
 fn judge(s: &[u8], offsets: &mut [u64; MOST_BLOCKS]) -> LayoutAnswer
     ensures { λ r. ⌜ Judged (file (now (s .entry))) (now (offsets .entry)) (now (offsets .exit)) r ⌝ }
 {
@@ -135,7 +136,7 @@ fn after_tree(
     }
 }
 
-// Whether the file ends at an offset, or a block begins there.
+// Whether the file ends at offset `at`, or a block begins there.
 fn goes_on(s: &[u8], at: usize) -> bool
     ensures { λ r. ⌜ r ≡ goesOn NoTree (drop at (now (s .entry))) ⌝ }
 {
@@ -172,8 +173,8 @@ fn with_blocks(
     }
 }
 
-// What to think of the tail t of a file whose blocks begin at the first `count` offsets. They come as a slice, since no part of
-// an array can be taken through a reference to it.
+// Returns the verdict on the tail `t` of a file whose blocks begin at the first `count` offsets. The offsets are lent
+// as a slice, because no part of an array can be taken through a reference to it.
 fn judge_tail(t: &[u8], offsets: &[u64], count: usize) -> Verdict
     requires { ⌜ count ≤ length (now offsets) ⌝ }
     ensures { λ r. ⌜ r ≡ judged (take count (now (offsets .entry))) (indexed (lines (now (t .entry)))) ⌝ }

@@ -1,4 +1,5 @@
--- Where the file is accepted its offsets are kept; what is written is a good index.
+-- `file::index_writer::write` meets its contract: if the file is accepted, its offsets are kept, and what is written is
+-- a good index.
 use borrow.Author.Needs.{needs}
 use Rattle.file.proofs.LayoutLaws.{table-size, accepted-as, blocks-kept}
 use Rattle.file.proofs.IndexWriterLaws.{index-refused, index-written}

@@ -1,4 +1,4 @@
--- The last block's header tells whether there may be an index.
+-- `file::index_writer::write_kept` meets its contract: the last block's header tells whether there may be an index.
 use borrow.Author.Needs.{needs}
 use Rattle.file.proofs.IndexWriterLaws.{no-block, last-room, last-inside, last-streamed, part-length, last-plain}
 use Rattle.file.proofs.index_writer.write_kept.Statement.{statement}

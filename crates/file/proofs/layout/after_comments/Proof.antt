@@ -1,4 +1,5 @@
--- What the tree's step refuses is refused, and what it accepts is handed on.
+-- `file::layout::after_comments` meets its contract: what the step for the tree refuses is refused, and what it accepts
+-- is passed on.
 use borrow.Author.Needs.{needs}
 use Rattle.file.proofs.LayoutLaws.{tree-inside, tree-refused, tree-read}
 use Rattle.file.proofs.layout.after_comments.Statement.{statement}

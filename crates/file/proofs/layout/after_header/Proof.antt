@@ -1,4 +1,5 @@
--- What the comments' step refuses is refused, and what it accepts is handed on.
+-- `file::layout::after_header` meets its contract: what the step for the comments refuses is refused, and what it
+-- accepts is passed on.
 use borrow.Author.Needs.{needs}
 use Rattle.file.proofs.LayoutLaws.{comments-inside, comments-refused, comments-read}
 use Rattle.file.proofs.layout.after_header.Statement.{statement}

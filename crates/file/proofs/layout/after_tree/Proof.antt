@@ -1,4 +1,5 @@
--- One law for each way out: the blocks begin behind a tree's room, or where the comments end.
+-- `file::layout::after_tree` meets its contract. There is one law for each return: the blocks begin after a tree's
+-- room, or where the comments end.
 use borrow.Author.Needs.{needs}
 use Rattle.file.proofs.LayoutLaws.{room-inside, blocks-none, here-inside, blocks-after, blocks-here}
 use Rattle.file.proofs.layout.after_tree.Statement.{statement}

@@ -1,4 +1,4 @@
--- Where the file is accepted its offsets are kept.
+-- `file::layout::block` meets its contract: if the file is accepted, its offsets are kept.
 use borrow.Author.Needs.{needs}
 use Rattle.file.proofs.LayoutLaws.{table-size, blocks-kept, block-refused}
 use Rattle.file.proofs.layout.block.Statement.{statement}

@@ -1,4 +1,4 @@
--- One law for each way out.
+-- `file::layout::goes_on` meets its contract. There is one law for each return.
 use borrow.Author.Needs.{needs}
 use Rattle.file.proofs.LayoutLaws.{goes-end, goes-mark}
 use Rattle.file.proofs.layout.goes_on.Statement.{statement}

@@ -1,4 +1,5 @@
--- What the header's step refuses is refused, and what it accepts is handed on.
+-- `file::layout::judge` meets its contract: what the step for the header refuses is refused, and what it accepts is
+-- passed on.
 use borrow.Author.Needs.{needs}
 use Rattle.file.proofs.LayoutLaws.{file-long, header-inside, header-refused, header-read}
 use Rattle.file.proofs.layout.judge.Statement.{statement}

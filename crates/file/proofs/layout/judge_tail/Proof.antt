@@ -1,4 +1,4 @@
--- The first offsets are as many as they are said to be.
+-- `file::layout::judge_tail` meets its contract: the part of the table that is taken has `count` offsets.
 use lib.Seq.{length-take-le}
 use borrow.Author.Needs.{needs}
 use Rattle.file.proofs.layout.judge_tail.Statement.{statement}

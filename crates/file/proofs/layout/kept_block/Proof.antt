@@ -1,4 +1,4 @@
--- The block of a kept offset is the one that is read there.
+-- `file::layout::kept_block` meets its contract: the block of a kept offset is the block that is read there.
 use borrow.Author.Needs.{needs}
 use Rattle.file.proofs.KeptLaws.{kept-none, kept-room, kept-inside, kept-again}
 use Rattle.file.proofs.layout.kept_block.Statement.{statement}

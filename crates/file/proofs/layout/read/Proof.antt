@@ -1,4 +1,4 @@
--- The answer that was judged is the layout.
+-- `file::layout::read` meets its contract: the answer that was judged is the layout.
 use borrow.Author.Needs.{needs}
 use Rattle.file.proofs.LayoutLaws.{layout-judged}
 use Rattle.file.proofs.layout.read.Statement.{statement}

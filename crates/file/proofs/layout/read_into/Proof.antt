@@ -1,4 +1,5 @@
--- The table of an accepted file is the one that was kept; a refused one leaves only zeros.
+-- `file::layout::read_into` meets its contract: the table of an accepted file is the table that was kept, and a refused
+-- file leaves only zeros.
 use borrow.Author.Needs.{needs}
 use Rattle.file.proofs.LayoutLaws.{layout-again, table-accepted, table-refused}
 use Rattle.file.proofs.layout.read_into.Statement.{statement}

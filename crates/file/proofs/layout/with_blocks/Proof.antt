@@ -1,4 +1,5 @@
--- One law for each way out: the walk says what the chain is, and the verdict what its tail is.
+-- `file::layout::with_blocks` meets its contract. There is one law for each return: the walk determines the chain, and
+-- the verdict its tail.
 use borrow.Author.Needs.{needs}
 use Rattle.file.proofs.LayoutLaws.{alone-few, to-inside, to-few, to-kept, walk-refused, alone-judged, to-judged}
 use Rattle.file.proofs.layout.with_blocks.Statement.{statement}
