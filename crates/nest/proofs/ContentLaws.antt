@@ -1,4 +1,4 @@
--- What a block's content is: one law for each way out.
+-- Laws about what a block's content is: one for each return.
 use Prim.Native.Nat.{ℕ, zero, suc, _+_, _-_, _≤_, _<_}
 use native.Mathlib.Omega.{arith}
 use mathlib.Core.Path.{_≡_, refl, sym, ap, _∙_}
@@ -23,36 +23,36 @@ use Rattle.file.proofs.LayoutLaws.{file-refused, blocks-kept}
 use Rattle.nest.specs.declared.walk.Found.{Found}
 use Rattle.nest.specs.Walk.{readsFor, reads, insideOf, recordsLeft, fileRecords, Opens, ContentIs}
 
--- the records of a file at a depth
+-- The records of a file at a depth are found by a walk that reads inner files for `levels` more levels.
 from-file : (levels depth start : ℕ) (s : Bytes) → recordsFrom levels depth start s ≡ walkFile (readsFor levels depth) depth start s
 unfolding recordsFrom readsFor
 from-file zero depth start s = refl
 from-file (suc levels) depth start s = refl
 
--- a refused file at any depth has none
+-- If a file is refused, its records are refused in the same way, at any depth.
 pub refused-records : (levels depth start : ℕ) (s : Bytes) (r : Refusal) → file s ≡ refused r → recordsFrom levels depth start s ≡ refused r
 unfolding walkFile
 refused-records levels depth start s r h = rw (from-file levels depth start s, walkFile, h)
 
--- an accepted one has those of its blocks
+-- If a file is accepted, its records are the records of all its blocks.
 pub accepted-records : {s : Bytes} {offsets : List ℕ} {blocks : ℕ} → Kept s offsets blocks → (depth start : ℕ)
     → recordsFrom (deepest - depth) depth start s ≡ accepted (fileRecords depth start s)
 unfolding walkFile recordsLeft
 accepted-records {s} kept depth start = rw (from-file (deepest - depth) depth start s, walkFile, recordsLeft, kept .is)
 
--- after the last block nothing is left
+-- After the last block no record is left.
 pub nothing-left : {s : Bytes} {offsets : List ℕ} {blocks : ℕ} → Kept s offsets blocks → (depth start k : ℕ) → blocks ≤ k
     → recordsLeft depth start s k ≡ []
 unfolding recordsLeft walk
 nothing-left kept depth start k h =
     rw (recordsLeft, kept .is, drop-of-length-le (kept .f .blocks) {i = k} (omega (arith, kept .count)))
 
--- where one level is left at least
+-- If at least one level is left, content that begins like a file is read one level deeper.
 one-level : (depth start : ℕ) (t : Bytes) → depth < deepest → reads depth start t ≡ opened (recordsFrom (deepest - (depth + 1)) (depth + 1) start t)
 unfolding readsFor
 one-level depth start t h = let e : deepest - depth ≡ suc (deepest - (depth + 1)) = omega arith in rw e
 
--- a content that is not walked
+-- If content is closed with the inner state `inner`, it is found with that state and with no blocks to walk.
 closed-is : (depth : ℕ) (compressed : Bool) (t : Bytes) (offsets : List ℕ) (inner : Inner)
     → ((start : ℕ) → insideOf depth start compressed t ≡ closed inner)
     → ContentIs depth compressed t offsets (record { inner = inner; blocks = 0 })
@@ -63,31 +63,31 @@ closed-is depth compressed t offsets inner h = record {
 }
 
 module _ (depth : ℕ) (compressed : Bool) (t : Bytes) (offsets : List ℕ) where
-  -- the content of a compressed block
+  -- The content of a compressed block is plain.
   pub content-compressed : compressed ≡ true → ContentIs depth compressed t offsets (record { inner = Plain; blocks = 0 })
   unfolding insideOf
   content-compressed h = closed-is depth compressed t offsets Plain (λ start. rw (insideOf, h))
 
   module _ (plain : compressed ≡ false) (x : Bool) (is : x ≡ begins token (drop 0 t)) where
-    -- content that does not begin like a file
+    -- Content that does not begin like a file is plain.
     pub content-plain : not x ≡ true → ContentIs depth compressed t offsets (record { inner = Plain; blocks = 0 })
     unfolding insideOf
     content-plain h = let e = sym is ∙ not-true x h in closed-is depth compressed t offsets Plain (λ start. rw (insideOf, plain, e))
 
     module _ (starts : not x ≡ false) where
-      -- content that does
+      -- Content that begins like a file is read as a file.
       like-file : (start : ℕ) → insideOf depth start compressed t ≡ reads depth start t
       unfolding insideOf
       like-file start = let e = sym is ∙ not-false x starts in rw (insideOf, plain, e)
 
-      -- it lies too deep
+      -- If no level is left, the content is too deep.
       pub content-deep : deepest ≤ depth → ContentIs depth compressed t offsets (record { inner = TooDeep; blocks = 0 })
       unfolding readsFor
       content-deep h =
           let e : deepest - depth ≡ 0 = omega arith in closed-is depth compressed t offsets TooDeep (λ start. like-file start ∙ rw e)
 
       module _ (high : depth < deepest) (a : LayoutAnswer) (read : layoutAnswer a ≡ layout t) where
-        -- it is refused
+        -- If the inner file is refused, the inner state is that refusal.
         pub content-refused : (r : Refusal) → a ≡ LayoutAnswer·is.Refused r
             → ContentIs depth compressed t offsets (record { inner = Refused r; blocks = 0 })
         unfolding opened
@@ -96,7 +96,7 @@ module _ (depth : ℕ) (compressed : Bool) (t : Bytes) (offsets : List ℕ) wher
             (λ start. like-file start ∙ one-level depth start t high
             ∙ rw (refused-records (deepest - (depth + 1)) (depth + 1) start t r (file-refused t a read r e)))
 
-        -- it is opened
+        -- If the inner file is accepted, the content is opened.
         pub content-opened : (before : List ℕ) → offsets ≡ offsetTable before (file t) → (l : Layout) → a ≡ LayoutAnswer·is.Accepted l
             → ContentIs depth compressed t offsets (record { inner = Opened; blocks = l .blocks })
         unfolding opened recordsLeft

@@ -1,4 +1,4 @@
--- What a whole walk leaves: a count, a record, what is put for each record.
+-- Laws about what a whole walk leaves: a count, one record, or what is put for each record.
 use Prim.Native.Nat.{ℕ, zero, suc, _+_, _*_, _-_, _/_, _^_, _≤_, _<_}
 use native.Mathlib.Omega.{arith}
 use native.Mathlib.Nat.{zero-add, sub-zero, mul-zero, add-mul, suc-mul, one-mul, zero-mul, mul-comm, div-lt-iff-lt-mul, le-div-iff-mul-le}
@@ -47,7 +47,7 @@ use Rattle.nest.proofs.SinkLaws.{record-length, delivered-length}
 use Rattle.nest.proofs.ContentLaws.{refused-records, accepted-records}
 
 module _ {s : Bytes} {offsets : List ℕ} {blocks : ℕ} (kept : Kept s offsets blocks) where
-  -- the records of an accepted file
+  -- The records of an accepted file are what the walk finds from depth 0 and offset 0 on.
   all-are : records s ≡ accepted (fileRecords 0 0 s)
   unfolding records
   all-are = accepted-records kept 0 0
@@ -59,28 +59,28 @@ module _ {s : Bytes} {offsets : List ℕ} {blocks : ℕ} (kept : Kept s offsets 
   short : length s ≤ mostBytes
   short = leb-true (length s) mostBytes (file-parts s (kept .f) (kept .is) .short)
 
-  -- are few for its bytes
+  -- The length of the file limits how many records it has.
   all-few : Few s (allRecords s)
   unfolding records
   all-few = accepted-holds (Few s) (records s) (allRecords s) (records-few deepest 0 0 s) accepted-all
 
-  -- the walk of a whole file may begin
+  -- A whole file is within the size limit, so its walk may begin.
   pub walk-room : (o : OutermostOffset) → o .0 ≡ 0 → o .0 + length s ≤ mostBytes
   walk-room o e = omega (arith, short)
 
-  -- and takes all its records
+  -- The walk of a whole file takes all its records.
   pub walk-whole : (form : Form) (x : ℕ) (out after : Bytes) (o : OutermostOffset) → o .0 ≡ 0
       → Delivered form 0 out (fileRecords 0 (o .0) s) after x → Delivered form 0 out (allRecords s) after x
   unfolding allRecords
   walk-whole form x out after o z h = rw (allRecords, all-are) (rw z at h)
 
--- the number after records
+-- If it fits into 64 bits, the number after the records is the first number plus the number of records.
 number-after : (n : ℕ) (rs : List Record) → n + length rs < 2 ^ 64 → numberAfter n rs ≡ n + length rs
 unfolding numberAfter
 number-after n [] h = omega arith
 number-after n (r ∷ rs) h = number-after (wrapped n 1) rs (omega arith) ∙ omega arith
 
--- once the wanted record has come, nothing is put
+-- After the wanted record has come, nothing more is put.
 put-after : (w n : ℕ) (out : Bytes) (rs : List Record) → n + length rs < 2 ^ 64 → w < n → putAll (One w) n out rs ≡ out
 unfolding putAll
 put-after w n out [] few h = refl
@@ -89,7 +89,7 @@ put-after w n out (r ∷ rs) few h =
     rw (mul-zero n, delivery, ne-eqb w n (λ e. omega arith)) (sym (placed-nothing out 0 (omega arith))) in
     rw none (put-after w (wrapped n 1) out rs (omega arith) (omega arith))
 
--- what is put where one record is wanted
+-- If one record is wanted, that record is put at the start, or nothing if there is no such record.
 put-one : (w n : ℕ) (out : Bytes) (rs : List Record) → n + length rs < 2 ^ 64 → n ≤ w
     → putAll (One w) n out rs ≡ placed out 0 (foundNumbers recordFields (getElem? rs (w - n)))
 unfolding putAll foundNumbers encodeRecord
@@ -109,13 +109,13 @@ put-one w n out (r ∷ rs) few h = by-test (eqb w n) refl (λ out. put-one w (wr
         let next : w - n ≡ suc (w - wrapped n 1) = omega arith in
         rw (mul-zero n, delivery, e, ← placed-nothing out 0 (omega arith), next) (rest out (omega arith) (omega arith))
 
--- after the last record there is none
+-- After the last record there is no record.
 no-record : (rs : List Record) (k : ℕ) → length rs ≤ k → getElem? rs k ≡ none
 no-record [] k h = refl
 no-record (r ∷ rs) zero h = absurd (omega arith)
 no-record (r ∷ rs) (suc k) h = no-record rs k (omega arith)
 
--- before it there is one
+-- Up to the last record there is a record, and it takes `recordBytes` bytes.
 record-there : (rs : List Record) (k : ℕ) → k < length rs → length (foundNumbers recordFields (getElem? rs k)) ≡ recordBytes
 unfolding foundNumbers encodeRecord
 record-there [] k h = absurd (omega arith)
@@ -123,13 +123,13 @@ record-there (r ∷ rs) zero h = record-length r
 record-there (r ∷ rs) (suc k) h = record-there rs k (omega arith)
 
 module _ {s : Bytes} {offsets : List ℕ} {blocks : ℕ} (kept : Kept s offsets blocks) (out after : Bytes) (x : ℕ) where
-  -- the records of an accepted file are counted
+  -- A walk counts the records of an accepted file.
   pub counted : (form : Form) → Delivered form 0 out (allRecords s) after x → x ≡ length (allRecords s)
   counted form h =
       let few = all-few kept in
       h .next ∙ number-after 0 (allRecords s) (omega (arith, short kept)) ∙ omega arith
 
-  -- one record is wanted
+  -- Case: one record is wanted.
   module _ (w : ℕ) (d : Delivered (One w) 0 out (allRecords s) after x) where
     abbrev found : Option Record
     found = getElem? (allRecords s) w
@@ -143,7 +143,7 @@ module _ {s : Bytes} {offsets : List ℕ} {blocks : ℕ} (kept : Kept s offsets 
         let few = all-few kept in
         d .buffer ∙ put-one w 0 out (allRecords s) (omega (arith, short kept)) (omega arith) ∙ rw (sub-zero w)
 
-    -- there is none
+    -- If there is no such record, nothing is written.
     pub one-none : x ≤ w → Written (foundBytes recordFields (recordAt s w)) out after (CountAnswer·is.Counted 0)
     unfolding foundNumbers encodeRecord
     one-none h =
@@ -158,35 +158,35 @@ module _ {s : Bytes} {offsets : List ℕ} {blocks : ℕ} (kept : Kept s offsets 
       one-room : length after ≡ length out
       one-room = ap length one-put ∙ placed-length out 0 (foundNumbers recordFields found)
 
-      -- it does not fit
+      -- If the record does not fit, the answer is refusal 21.
       pub one-short : length after < recordBytes → (a : CountAnswer) → a ≡ CountAnswer·is.Refused (refusal 21 0) → Written (foundBytes recordFields (recordAt s w)) out after a
       one-short g a e =
           let same : after ≡ out = one-put ∙ sym (placed-none out 0 (foundNumbers recordFields found) (omega (arith, one-length, one-room))) in
           rw same (written-short _ out (foundNumbers recordFields found) one-is (omega (arith, one-length, one-room)) a e)
 
-      -- it is put
+      -- If the record fits, it is put.
       pub one-written : recordBytes ≤ length after → Written (foundBytes recordFields (recordAt s w)) out after (CountAnswer·is.Counted recordBytes)
       one-written g = written-placed _ out (foundNumbers recordFields found) one-is (omega (arith, one-length, one-room)) after one-put recordBytes (sym one-length)
 
--- what is put for a record has its width
+-- Unless only one record is wanted, what is put for a record has the width of the form.
 encoded-width : (form : Form) (r : Record) → 1 ≤ width form → length (encoded form r) ≡ width form
 encoded-width Rows r h = encoded-length (rowOf r)
 encoded-width Table r h = record-length r
 encoded-width (One w) r h = absurd (omega arith)
 
--- and so has what is put for each
+-- What is put for all records has that width times their number.
 all-length : (form : Form) (rs : List Record) → 1 ≤ width form → length (allEncoded form rs) ≡ width form * length rs
 unfolding allEncoded flatMap
 all-length form [] h = omega arith
 all-length form (r ∷ rs) h = rw (length-append) (omega (arith, encoded-width form r h, all-length form rs h))
 
--- the record's number does not matter
+-- Unless only one record is wanted, the record's number does not change what is put.
 delivery-is : (form : Form) (n : ℕ) (r : Record) → 1 ≤ width form → delivery form n r ≡ encoded form r
 delivery-is Rows n r h = refl
 delivery-is Table n r h = refl
 delivery-is (One w) n r h = absurd (omega arith)
 
--- what fits is put one after another
+-- If the records fit, they are put one after another.
 put-encoded : (form : Form) (n : ℕ) (out : Bytes) (rs : List Record) → 1 ≤ width form → n + length rs < 2 ^ 64
     → (n + length rs) * width form ≤ length out → putAll form n out rs ≡ placed out (n * width form) (allEncoded form rs)
 unfolding putAll allEncoded flatMap
@@ -204,11 +204,11 @@ put-encoded form n out (r ∷ rs) wide few fit =
     (put-encoded form (n + 1) (placed out (n * w) (encoded form r)) rs wide (omega arith) (rw (same, placed-length) fit)
     ∙ rw next (placed-append out (n * w) (encoded form r) (allEncoded form rs) (omega arith)))
 
--- so many places of this width take no more bytes than there are
+-- If `size` bytes have places for `n` entries of `each` bytes, these entries take no more than `size` bytes.
 pub room-for : (each n size : ℕ) → 0 < each → n ≤ size / each → each * n ≤ size
 room-for each n size h g = rw (mul-comm each n) (le-div-iff-mul-le h .0 g)
 
--- the bytes of so many records can be told
+-- The number of bytes that the records take fits into 64 bits, so it can be returned.
 fits-width : (form : Form) (n : ℕ) → n ≤ mostBytes → Fits w64 (width form * n)
 fits-width Rows n h = omega arith
 fits-width Table n h = omega arith
@@ -223,11 +223,11 @@ module _ {s : Bytes} {offsets : List ℕ} {blocks : ℕ} (kept : Kept s offsets 
   pub each-some : 0 < each
   each-some = omega arith
 
-  -- how many bytes are put for all
+  -- What is put for all records takes `each` bytes for each record.
   all-bytes : length (allEncoded form (allRecords s)) ≡ length (allRecords s) * each
   all-bytes = rw (all-length form (allRecords s) wide, width-is) (mul-comm (width form) (length (allRecords s)))
 
-  -- what a walk leaves in a buffer that is long enough
+  -- Case: the buffer is long enough for all records.
   module _ {out after : Bytes} {n : ℕ} (d : Delivered form 0 out (allRecords s) after n) (h : length (allRecords s) ≤ length out / each) where
     all-room : length (allRecords s) * each ≤ length out
     all-room = le-div-iff-mul-le each-some .0 h
@@ -241,7 +241,7 @@ module _ {s : Bytes} {offsets : List ℕ} {blocks : ℕ} (kept : Kept s offsets 
         written-placed _ out (allEncoded form rs) refl (rw all-bytes all-room) after (d .buffer ∙ put ∙ rw (zero-mul (width form))) (each * n)
         (mul-comm each n ∙ ap (λ (m : ℕ). m * each) (counted kept out after n form d) ∙ sym all-bytes)
 
-  -- a buffer with a place for as many blocks as the file can have does
+  -- Case: the buffer has places for as many blocks as the file can have, so it is long enough.
   module _ {out after : Bytes} {n : ℕ} (d : Delivered form 0 out (allRecords s) after n) (h : length s / leastBlock ≤ length out / each) where
     sure : length (allRecords s) ≤ length out / each
     sure = let few = all-few kept in omega arith
@@ -249,13 +249,13 @@ module _ {s : Bytes} {offsets : List ℕ} {blocks : ℕ} (kept : Kept s offsets 
     pub sure-put : Written (accepted (allEncoded form (allRecords s))) out after (CountAnswer·is.Counted (each * n))
     sure-put = all-put d sure
 
-  -- a buffer of its own has a place for all that have come
+  -- If the function's own buffer has places for all records that have come, their bytes are inside it.
   pub own-room : (size : ℕ) {own made : Bytes} {n : ℕ} → Delivered form 0 own (allRecords s) made n → length own ≡ size → n ≤ size / each → each * n ≤ length made
   own-room size {n = n} d e h = rw (delivered-length d, e) (room-for each n size (omega arith) h)
 
-  -- the walk into a buffer of its own has counted
+  -- Case: the walk into the function's own buffer has counted `n` records.
   module _ (out : Bytes) {own made : Bytes} {n : ℕ} (d : Delivered form 0 own (allRecords s) made n) where
-    -- there are more than the buffer has places for
+    -- If there are more records than the lent buffer has places for, the answer is refusal 21.
     pub measured-short : length out / each < n → (a : CountAnswer) → a ≡ CountAnswer·is.Refused (refusal 21 0)
         → Written (accepted (allEncoded form (allRecords s))) out out a
     measured-short h =
@@ -266,14 +266,14 @@ module _ {s : Bytes} {offsets : List ℕ} {blocks : ℕ} (kept : Kept s offsets 
       enough : length (allRecords s) ≤ length out / each
       enough = rw (counted kept own made n form d) at h
 
-      -- a second walk puts them
+      -- If the records fit, a second walk puts them.
       pub measured-put : {after : Bytes} {x : ℕ} → Delivered form 0 out (allRecords s) after x
           → Written (accepted (allEncoded form (allRecords s))) out after (CountAnswer·is.Counted (each * n))
       measured-put {after} {x} g =
           let same : x ≡ n = counted kept out after x form g ∙ sym (counted kept own made n form d) in
           rw (← same) (all-put g enough)
 
-      -- or all are in the buffer of its own
+      -- Case: all records are in the function's own buffer, so no second walk is needed.
       module _ (size : ℕ) (own-size : length own ≡ size) (all-there : n ≤ size / each) where
         g : n ≤ length own / each
         g = rw own-size all-there
@@ -284,19 +284,19 @@ module _ {s : Bytes} {offsets : List ℕ} {blocks : ℕ} (kept : Kept s offsets 
             let mine = all-put d (rw (counted kept own made n form d) at g) in
             rw (written-taken _ own made (each * n) mine .is) w
 
--- the outline has a row for each record
+-- The outline has a row for each record.
 rows-encoded : (rs : List Record) → outlineOf (map rowOf rs) ≡ allEncoded Rows rs
 unfolding outlineOf allEncoded flatMap
 rows-encoded [] = refl
 rows-encoded (r ∷ rs) = ap (λ (b : Bytes). encodeRow (rowOf r) ++ b) (rows-encoded rs)
 
--- the answers of the public functions
+-- The answers of the public functions.
 module _ (s : Bytes) (a : LayoutAnswer) (read : layoutAnswer a ≡ layout s) where
-  -- the answer that was read is told again
+  -- If the answer that was read is passed on, it is the layout of the file.
   pub told-again : (x : LayoutAnswer) → a ≡ x → layoutAnswer x ≡ layout s
   told-again x e = sym (ap layoutAnswer e) ∙ read
 
-  -- what is written of an outline reads back
+  -- If an outline is written, it reads back to the rows of the file.
   back : ((i : ℕ) → Fits w8 (getD s i 0)) → (out after : Bytes) (x : CountAnswer) → Written (outline s) out after x → OutlineWritten s out after x
   back known out after x w =
       record {
@@ -305,7 +305,7 @@ module _ (s : Bytes) (a : LayoutAnswer) (read : layoutAnswer a ≡ layout s) whe
       }
 
   module _ (r : Refusal) (e : a ≡ LayoutAnswer·is.Refused r) where
-    -- a refused file has no records
+    -- If the file is refused, its records are refused in the same way.
     no-records : records s ≡ refused r
     unfolding records
     no-records = refused-records deepest 0 0 s r (file-refused s a read r e)
@@ -344,7 +344,7 @@ module _ (s : Bytes) (a : LayoutAnswer) (read : layoutAnswer a ≡ layout s) whe
     unfolding recordTable allEncoded
     table-written out after x w = rw (recordTable, accepted-all kept) w
 
--- the first bytes of a buffer are handed over
+-- If the first `size` bytes of a buffer are put at the start of another that has room for them, they are written there.
 pub handed-over : (own out : Bytes) (size : ℕ) → size ≤ length own → size ≤ length out → (after : Bytes) → after ≡ placed out 0 (take size (drop 0 own))
     → Written (accepted (take size own)) out after (CountAnswer·is.Counted size)
 handed-over own out size h g after e =

@@ -1,4 +1,4 @@
--- Laws that the proofs of the walk cite.
+-- Laws that the proofs of the walk use.
 pub mod SinkLaws
 pub mod ContentLaws
 pub mod WalkLaws

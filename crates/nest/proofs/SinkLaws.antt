@@ -1,4 +1,4 @@
--- What is put for a record, what is found, and what several records leave.
+-- Laws about where something is put for a record, what is put, and what several records leave.
 use Prim.Native.Nat.{ℕ, suc, _+_, _*_, _/_, _≤_}
 use native.Mathlib.Nat.{mul-zero}
 use native.Mathlib.Omega.{arith}
@@ -31,7 +31,7 @@ use Rattle.nest.specs.declared.sink.Place.{Place}
 use Rattle.nest.specs.declared.sink.Place.the-variants as Place·is
 use Rattle.nest.specs.Sink.{blockRecord, width, delivery, numberAfter, putAll, Delivered, PlaceIs}
 
--- fifteen numbers for each record
+-- A record has fifteen numbers, so it takes `recordBytes` bytes.
 pub record-length : (r : Record) → length (encodeRecord r) ≡ recordBytes
 unfolding encodeRecord recordFields
 record-length r = rw (numbers-length (recordFields r)) (fields (r .inner))
@@ -43,14 +43,15 @@ record-length r = rw (numbers-length (recordFields r)) (fields (r .inner))
     fields TooDeep = refl
 
 module _ (form : Form) (n room : ℕ) where
-  -- there is no place for the row, or there is one
+  -- If the form is `Rows` and the buffer has no place for the row, nothing is put; otherwise (the next law) the row is.
   pub no-row : form ≡ Rows → room / rowBytes ≤ n → PlaceIs form n room Place·is.Nowhere
   no-row h g out r size = rw h (placed-none out (n * rowBytes) (encodeRow (rowOf r)) (omega (arith, encoded-length (rowOf r))))
 
   pub row-place : form ≡ Rows → PlaceIs form n room (Place·is.Row (n * rowBytes))
   row-place h out r = rw h
 
-  -- there is no place for the numbers, or there is one
+  -- If the form is `Table` and the buffer has no place for the numbers, nothing is put; otherwise (the next law) they
+  -- are.
   pub no-numbers : form ≡ Table → room / recordBytes ≤ n → PlaceIs form n room Place·is.Nowhere
   no-numbers h g out r size = rw h (placed-none out (n * recordBytes) (encodeRecord r) (omega (arith, record-length r)))
 
@@ -58,7 +59,8 @@ module _ (form : Form) (n room : ℕ) where
   numbers-place h out r = rw h
 
   module _ (w : ℕ) (one : form ≡ One w) where
-    -- another record is wanted, or this one
+    -- If another record is wanted, nothing is put; if this record is wanted (the next law), its numbers are put at the
+    -- start.
     pub other-wanted : (w ≡ n → ⊥) → PlaceIs form n room Place·is.Nowhere
     other-wanted h out r size = rw (one, mul-zero n, delivery, ne-eqb w n h) (placed-nothing out 0 (omega arith))
 
@@ -66,22 +68,22 @@ module _ (form : Form) (n room : ℕ) where
     this-wanted h out r = rw (one, mul-zero n, delivery, eq-eqb w n h)
 
 module _ (form : Form) (n room : ℕ) (place : Place) (is : PlaceIs form n room place) where
-  -- nothing is put
+  -- If the place is `Nowhere`, the buffer is right without a change.
   pub put-nowhere : place ≡ Place·is.Nowhere → (out : Bytes) (r : Record) → length out ≡ room → out ≡ placed out (n * width form) (delivery form n r)
   put-nowhere h = rw h at is
 
   module _ (p : ℕ) (out after : Bytes) (r : Record) where
-    -- the row is put
+    -- If the place is `Row`, the buffer is right after the row is put there.
     pub put-row : place ≡ Place·is.Row p → (row : Row) → row ≡ rowOf r → after ≡ placed out p (encodeRow row)
         → after ≡ placed out (n * width form) (delivery form n r)
     put-row h row e f = f ∙ ap (λ (x : Row). placed out p (encodeRow x)) e ∙ (rw h at is) out r
 
-    -- the numbers are put
+    -- If the place is `Numbers`, the buffer is right after the numbers are put there.
     pub put-numbers : place ≡ Place·is.Numbers p → after ≡ placed out p (encodeRecord r) → after ≡ placed out (n * width form) (delivery form n r)
     put-numbers h f = f ∙ (rw h at is) out r
 
 module _ (t : Bytes) (sound : Sound t) (depth : ℕ) (here : OutermostOffset) (i : ℕ) (inner : Inner) where
-  -- the row of a sound block is made of its summary
+  -- The row of a sound block is made of its summary.
   pub row-made : (s : Summary) → s ≡ summaryAgain t → (state : ℕ) → state ≡ innerNumber inner
       → (n : ℕ)
       → _≡_ {A = Row} (record {
@@ -118,25 +120,25 @@ module _ (t : Bytes) (sound : Sound t) (depth : ℕ) (here : OutermostOffset) (i
       go true k = rw (e, f, summaryAgain, long, reported-left t (allocatedSize t) k, reported-left t (usedSize t) k, soundBlock, k, k)
       go false k = rw (e, f, summaryAgain, long, reported-stored t (allocatedSize t) k, reported-stored t (usedSize t) k, soundBlock, k, k)
 
-  -- a record is put as its numbers
+  -- Putting the numbers of a sound block that is read again puts its record.
   pub record-put : (n : ℕ) (b : Block) → b ≡ blockAgain i n t → (numbers : List ℕ)
       → numbers ≡ recordFields (record { depth = depth; at = here; block = b; inner = inner }) → (out after : Bytes) (p : ℕ)
       → after ≡ placed out p (numberBytes numbers) → after ≡ placed out p (encodeRecord (blockRecord depth here i n t inner))
   unfolding encodeRecord
   record-put n b e numbers f out after p g = rw (encodeRecord, ← block-again t sound i n, ← e, ← f) g
 
--- one record is taken
+-- If what is wanted of one record is put, that record is delivered.
 pub delivered-one : (form : Form) (n : ℕ) (r : Record) (out after : Bytes) → after ≡ placed out (n * width form) (delivery form n r)
     → (x : ℕ) → x ≡ wrapped n 1 → Delivered form n out (r ∷ []) after x
 unfolding numberAfter putAll
 delivered-one form n r out after p x e = record { next = e; buffer = p }
 
--- no record is taken
+-- If no record comes, nothing changes.
 pub delivered-none : (form : Form) (n : ℕ) (out : Bytes) → Delivered form n out [] out n
 unfolding numberAfter putAll
 delivered-none form n out = record { next = refl; buffer = refl }
 
--- records and then others
+-- Records followed by other records leave the same number, and (the next law) the same buffer, as all of them together.
 after-append : (n : ℕ) (rs qs : List Record) → numberAfter (numberAfter n rs) qs ≡ numberAfter n (rs ++ qs)
 unfolding numberAfter
 after-append n [] qs = refl
@@ -148,7 +150,7 @@ unfolding numberAfter putAll
 put-append form n out [] qs = refl
 put-append form n out (r ∷ rs) qs = put-append form (wrapped n 1) (placed out (n * width form) (delivery form n r)) rs qs
 
--- records are taken, and then others
+-- If records are delivered and then others, all of them are delivered.
 pub delivered-append : {form : Form} {n m x : ℕ} {out between after : Bytes} {rs qs : List Record} → Delivered form n out rs between m
     → Delivered form m between qs after x → Delivered form n out (rs ++ qs) after x
 delivered-append {form} {n} {m} {x} {out} {between} {after} {rs} {qs} h g =
@@ -157,7 +159,7 @@ delivered-append {form} {n} {m} {x} {out} {between} {after} {rs} {qs} h g =
       buffer = g .buffer ∙ rw (h .next, h .buffer) (put-append form n out rs qs);
     }
 
--- a buffer keeps its length
+-- A buffer keeps its length.
 put-length : (form : Form) (n : ℕ) (out : Bytes) (rs : List Record) → length (putAll form n out rs) ≡ length out
 unfolding putAll
 put-length form n out [] = refl

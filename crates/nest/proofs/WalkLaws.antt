@@ -1,4 +1,5 @@
--- The walk: one law for each call and each way out. What is left to be delivered is what was to be delivered.
+-- Laws about the walk: one for each call and each return. At every step, delivering what is left delivers all that had
+-- to be delivered.
 use Prim.Native.Nat.{ℕ, zero, suc, _+_, _*_, _-_, _^_, _≤_, _<_}
 use native.Mathlib.Nat.{le-refl}
 use native.Mathlib.Numerals.{add-one}
@@ -37,14 +38,15 @@ use Rattle.nest.specs.Walk.{reads, insideOf, contentIn, insideAt, record
 use Rattle.nest.proofs.SinkLaws.{delivered-none, delivered-append, delivered-length}
 use Rattle.nest.proofs.ContentLaws.{nothing-left}
 
--- a file has few blocks
+-- The number of blocks of an accepted file is within the limit.
 pub kept-few : {s : Bytes} {offsets : List ℕ} {blocks : ℕ} → Kept s offsets blocks → blocks ≤ mostBlocks
 kept-few {s} kept =
     let f = kept .f in
     let few = blocks-few mostBlocks 0 (blocksStart f) _ (drop (blocksStart f) s) (file-parts s f (kept .is) .chain-read) in
     omega (arith, kept .count)
 
--- what is left falls: into a block's content, and from a content to its blocks
+-- The measure decreases from a file to the content of one of its blocks, and (the next law) from the content to the
+-- blocks in it.
 pub less-inside : (depth blocks k t : ℕ) → 66 * (deepest - depth) + blocks ≡ t → k < blocks → 66 * (deepest - depth) < t
 less-inside depth blocks k t e h = omega arith
 
@@ -52,7 +54,7 @@ pub less-opened : {c : Bytes} {offsets : List ℕ} {depth blocks t : ℕ} {compr
     → Opens depth compressed c offsets blocks → 66 * (deepest - (depth + 1)) + blocks < t
 less-opened e opens = omega (arith, opens .higher, kept-few (opens .kept))
 
--- a sound block has the header size and the compression name of its header
+-- A sound block has the header size and the compression name of its header.
 module _ (i n : ℕ) (t : Bytes) where
   by-streamed : {A : Type 0} (field : Block → A) (x : A) → ((a u d : ℕ) → field (blockWith i n t a u d) ≡ x) → field (soundBlock i n t) ≡ x
   unfolding soundBlock
@@ -73,11 +75,12 @@ module _ (i n : ℕ) (t : Bytes) where
 same-offset : (x y : OutermostOffset) → x .0 ≡ y .0 → x ≡ y
 same-offset x y h = ap (λ (m : ℕ). record { 0 = m }) h
 
--- a block's record
+-- The record of block `b`.
 abbrev recordOf : ℕ → OutermostOffset → Block → Inner → Record
 recordOf depth here b inner = record { depth = depth; at = here; block = b; inner = inner }
 
--- k blocks of a file are walked
+-- The state of a walk: `k` blocks of a file are walked, and the next record has number `n`. If the records that are
+-- left are delivered, all records of the file are.
 pub record Walking (depth start : ℕ) (s : Bytes) (blocks : ℕ) (form : Form) (number : ℕ) (before out : Bytes) (k n : ℕ) : Type 0 where
   pub few : k ≤ blocks
   pub size : length out ≡ length before
@@ -90,7 +93,7 @@ walking-start depth start s blocks form number before = record { few = omega ari
 
 module _ {depth start : ℕ} {s : Bytes} {blocks : ℕ} {form : Form} {number : ℕ} {before out : Bytes} {k n : ℕ} {offsets : List ℕ}
     (w : Walking depth start s blocks form number before out k n) (kept : Kept s offsets blocks) where
-  -- none is left
+  -- If no block is left, all records of the file are delivered.
   pub walking-done : blocks ≤ k → Delivered form number before (fileRecords depth start s) out n
   walking-done h = w .onward out n (rw (nothing-left kept depth start k h) (delivered-none form n out))
 
@@ -98,14 +101,14 @@ module _ {depth start : ℕ} {s : Bytes} {blocks : ℕ} {form : Form} {number : 
     each : Each s (kept .f .blocks) k (getD offsets k 0)
     each = kept-each kept h
 
-    -- the next one begins inside
+    -- The next block begins inside the file.
     pub walking-inside : getD offsets k 0 ≤ length s
     walking-inside = each .inside
 
     pub walking-kept : k < length offsets
     walking-kept = kept-room kept h
 
-    -- and is sound
+    -- The next block is sound.
     pub walking-sound : Sound (take (length s - getD offsets k 0) (drop (getD offsets k 0) s))
     walking-sound = rw part-all (each .is .sound)
 
@@ -116,11 +119,11 @@ module _ {depth start : ℕ} {s : Bytes} {blocks : ℕ} {form : Form} {number : 
       here-at : here .0 ≡ start + getD offsets k 0
       here-at = omega (arith, each .inside)
 
-      -- it lies inside the outermost file
+      -- The rest of the file from the next block on is within the size limit of the outermost file.
       pub walking-room : here .0 + length (take (length s - getD offsets k 0) (drop (getD offsets k 0) s)) ≤ mostBytes
       walking-room = rw (part-all, length-drop) (omega (arith, here-at, each .inside))
 
-      -- what is inside it is what the walk finds inside
+      -- What is inside the block, seen from the block, is what the walk of the file finds inside it.
       inside-same : insideAt depth here (each .b) (drop (getD offsets k 0) s) ≡ inside (reads depth) start s (each .b)
       unfolding insideOf inside
       inside-same =
@@ -134,7 +137,7 @@ module _ {depth start : ℕ} {s : Bytes} {blocks : ℕ} {form : Form} {number : 
           ap (λ (m : ℕ). insideOf depth m z (take (b .used) (drop (contentStart t) t))) place
           ∙ ap (λ (u : Bytes). insideOf depth (start + contentAt b) z (take (b .used) u)) part
 
-      -- its own records are the first of those
+      -- What the walk of the file takes for the block are the records of the block, seen from the block.
       first-records : walked depth start (each .b) (inside (reads depth) start s (each .b))
           ≡ recordsAt depth here k (getD offsets k 0) (drop (getD offsets k 0) s)
       unfolding walked
@@ -146,7 +149,7 @@ module _ {depth start : ℕ} {s : Bytes} {blocks : ℕ} {form : Form} {number : 
           = λ b e. rw e in
           rw (← inside-same, same-offset (record { 0 = start + each .b .at .0 }) here place) (own (each .b) (each .is .is))
 
-      -- its records are the next that are left
+      -- The records that are left begin with the records of the next block.
       next-records : recordsLeft depth start s k ≡ recordsAt depth here k (getD offsets k 0) (drop (getD offsets k 0) s) ++ recordsLeft depth start s (suc k)
       unfolding recordsLeft walk
       next-records =
@@ -162,7 +165,7 @@ module _ {depth start : ℕ} {s : Bytes} {blocks : ℕ} {form : Form} {number : 
         onward = λ after x g. w .onward after x (rw next-records (delivered-append (rw part-all at h') (rw add-one at g)));
       }
 
--- where the content of a sound block lies
+-- `c` is where the content of the sound block that `t` begins with is.
 pub record ContentLies (t : Bytes) (c : Content) : Type 0 where
   pub from : c .from ≡ contentStart t
   pub order : c .from ≤ c .to
@@ -199,7 +202,7 @@ content-lies t sound c e = rw is (record {
         )
 
 module _ {t : Bytes} (sound : Sound t) {c : Content} (is : c ≡ contentAgain t) where
-  -- the content of a sound block is a part of its bytes
+  -- The content of a sound block is a part of its bytes.
   pub content-order : c .from ≤ c .to
   content-order = content-lies t sound c is .order
 
@@ -207,7 +210,7 @@ module _ {t : Bytes} (sound : Sound t) {c : Content} (is : c ≡ contentAgain t)
   content-inside = content-lies t sound c is .inside
 
   module _ {depth : ℕ} {offsets : List ℕ} {found : Found} (found-is : ContentIs depth (c .compressed) (take (c .to - c .from) (drop (c .from) t)) offsets found) where
-    -- an accepted file with blocks is opened
+    -- If blocks were found in the content, it is an accepted file and is opened.
     pub found-opens : (found .blocks ≡ 0 → ⊥) → Opens depth (c .compressed) (take (c .to - c .from) (drop (c .from) t)) offsets (found .blocks)
     found-opens h = found-is .some h
 
@@ -215,14 +218,14 @@ module _ {t : Bytes} (sound : Sound t) {c : Content} (is : c ≡ contentAgain t)
     deeper-fits h = omega (arith, found-opens h .higher)
 
     module _ (i n : ℕ) (here : OutermostOffset) where
-      -- what was found of it is what is inside the block
+      -- What was found about the content is what is inside the block.
       inside-is : insideOf depth (here .0 + contentStart t) (c .compressed) (take (c .to - c .from) (drop (c .from) t)) ≡ insideAt depth here (soundBlock i n t) t
       inside-is = let lies = content-lies t sound c is in rw (lies .compressed i n, lies .used i n, lies .from)
 
       state-is : insideAt depth here (soundBlock i n t) t .state ≡ found .inner
       state-is = ap (λ (x : Inside). x .state) (sym inside-is) ∙ found-is .state (here .0 + contentStart t)
 
-      -- nothing is to be walked inside
+      -- If nothing inside must be walked, the block's own record is the only one.
       pub content-alone : found .blocks ≡ 0 → {form : Form} {k x : ℕ} {out after : Bytes}
           → Delivered form k out (blockRecord depth here i n t (found .inner) ∷ []) after x → Delivered form k out (recordsAt depth here i n t) after x
       content-alone h d =
@@ -234,13 +237,13 @@ module _ {t : Bytes} (sound : Sound t) {c : Content} (is : c ≡ contentAgain t)
           content-at : content .0 ≡ here .0 + contentStart t
           content-at = let lies = content-lies t sound c is in omega (arith, lies .from, lies .order, lies .inside)
 
-          -- which lies inside the outermost file
+          -- The content is within the size limit of the outermost file.
           pub content-room : content .0 + length (take (c .to - c .from) (drop (c .from) t)) ≤ mostBytes
           content-room =
               let lies = content-lies t sound c is in
               simp (length-take, length-drop) (omega (arith, content-at, lies .from, lies .order, lies .inside))
 
-          -- the block's own record, and those inside
+          -- If the block's own record and then the records inside are delivered, all records of the block are.
           pub content-walked : {form : Form} {k mid x : ℕ} {out between after : Bytes}
               → Delivered form k out (blockRecord depth here i n t (found .inner) ∷ []) between mid
               → Delivered form mid between (fileRecords (depth + 1) (content .0) (take (c .to - c .from) (drop (c .from) t))) after x

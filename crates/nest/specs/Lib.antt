@@ -1,3 +1,3 @@
--- What the contracts of the walk cite.
+-- The definitions that the contracts of the walk use.
 pub mod Sink
 pub mod Walk

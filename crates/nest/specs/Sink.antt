@@ -1,4 +1,4 @@
--- What becomes of the blocks of a walk, which come one after another.
+-- What is done with the blocks of a walk, which come one after another.
 use Prim.Native.Nat.{ℕ, _*_}
 use mathlib.Core.Path.{_≡_}
 use mathlib.Core.Bool.{true, false}
@@ -18,11 +18,12 @@ use Rattle.nest.specs.declared.sink.Form.the-variants.{Rows, Table, One}
 use Rattle.nest.specs.declared.sink.Place.{Place}
 use Rattle.nest.specs.declared.sink.Place.the-variants.{Nowhere, Row, Numbers}
 
--- the record of the block that t begins with, which is number i and at offset n of its file, with this inner state
+-- The record of the block that `t` begins with. It is block `i`, at offset `n` of its file and at `here` of the
+-- outermost file, and has the inner state `inner`.
 abbrev pub blockRecord : ℕ → OutermostOffset → ℕ → ℕ → Bytes → Inner → Record
 blockRecord depth here i n t inner = record { depth = depth; at = here; block = soundBlock i n t; inner = inner }
 
--- what is put for a record, and how many bytes it takes
+-- What is put for a record, and (`width`) how many bytes that is.
 abbrev pub encoded : Form → Record → Bytes
 encoded Rows r = encodeRow (rowOf r)
 encoded Table r = encodeRecord r
@@ -33,32 +34,33 @@ width Rows = rowBytes
 width Table = recordBytes
 width (One w) = 0
 
--- what is put for several, one after another
+-- What is put for several records, one after another.
 unfoldable pub allEncoded : Form → List Record → Bytes
 allEncoded form rs = flatMap (encoded form) rs
 
--- what is put when record number n comes
+-- What is put when record number `n` comes.
 abbrev pub delivery : Form → ℕ → Record → Bytes
 delivery Rows n r = encoded Rows r
 delivery Table n r = encoded Table r
 delivery (One w) n r = elim (eqb w n) [ true ↦ encodeRecord r | false ↦ [] ]
 
--- the number after those of the records, the first of which is number n
+-- The number that comes after the numbers of the records, of which the first is `n`.
 unfoldable pub numberAfter : ℕ → List Record → ℕ
 numberAfter n [] = n
 numberAfter n (r ∷ rs) = numberAfter (wrapped n 1) rs
 
--- a buffer into which what is wanted of each was put, in its place
+-- The buffer `out` after what is wanted of each record was put in its place. The first record has number `n`.
 unfoldable pub putAll : Form → ℕ → Bytes → List Record → Bytes
 putAll form n out [] = out
 putAll form n out (r ∷ rs) = putAll form (wrapped n 1) (placed out (n * width form) (delivery form n r)) rs
 
--- the records have come, the first as number n, and what is wanted of each was put; the next is number x
+-- The records `rs` have come, the first as number `n`, and what is wanted of each was put. This changed the buffer from
+-- `before` to `after`, and the next record has number `x`.
 pub record Delivered (form : Form) (n : ℕ) (before : Bytes) (rs : List Record) (after : Bytes) (x : ℕ) : Type 0 where
   pub next : x ≡ numberAfter n rs
   pub buffer : after ≡ putAll form n before rs
 
--- what is to be put of record number n in so many bytes, and where
+-- What must be put of record number `n` into a buffer of `room` bytes, and where.
 abbrev pub PlaceIs : Form → ℕ → ℕ → Place → Type 0
 PlaceIs form n room Nowhere = (out : Bytes) (r : Record) → length out ≡ room → out ≡ placed out (n * width form) (delivery form n r)
 PlaceIs form n room (Row p) = (out : Bytes) (r : Record) → placed out p (encodeRow (rowOf r)) ≡ placed out (n * width form) (delivery form n r)

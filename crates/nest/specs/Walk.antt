@@ -18,50 +18,51 @@ use Rattle.file.specs.Layout.{Kept}
 use Rattle.nest.specs.declared.walk.Found.{Found}
 use Rattle.nest.specs.Sink.{blockRecord}
 
--- what a content is that begins like a file, in a block at this depth, where files are read for so many levels more
+-- What content that begins like a file is, in a block at this depth, if files are read for `levels` more levels.
 unfoldable pub readsFor : ℕ → ℕ → ℕ → Bytes → Inside
 readsFor zero depth n t = closed TooDeep
 readsFor (suc levels) depth n t = opened (recordsFrom levels (depth + 1) n t)
 
--- the same, for as many levels as are left
+-- The same, for as many levels as are left at this depth.
 abbrev pub reads : ℕ → ℕ → Bytes → Inside
 reads depth = readsFor (deepest - depth) depth
 
--- what the content t of a block at this depth is, where n is the content's start in the outermost file
+-- What the content `t` of a block at this depth is. `n` is where the content begins in the outermost file.
 unfoldable pub insideOf : ℕ → ℕ → Bool → Bytes → Inside
 insideOf depth n compressed t = elim (not compressed && begins token t) [ true ↦ reads depth n t | false ↦ closed Plain ]
 
--- the content of a block with which t begins
+-- The content of the block `b`, with which `t` begins.
 abbrev pub contentIn : Block → Bytes → Bytes
 contentIn b t = take (b .used) (drop (contentStart t) t)
 
--- what is inside the block that t begins with, which stands at an offset of the outermost file
+-- What is inside the block `b`, with which `t` begins. It is at `here` of the outermost file.
 abbrev pub insideAt : ℕ → OutermostOffset → Block → Bytes → Inside
 insideAt depth here b t = insideOf depth (here .0 + contentStart t) (isCompressed (b .compression)) (contentIn b t)
 
--- the records of that block, which is number i and at offset n of its file, and of the blocks inside
+-- The record of the block that `t` begins with, and the records of the blocks inside it. It is block `i`, at offset `n`
+-- of its file.
 abbrev pub recordsAt : ℕ → OutermostOffset → ℕ → ℕ → Bytes → List Record
 recordsAt depth here i n t = let inside = insideAt depth here (soundBlock i n t) t in blockRecord depth here i n t (inside .state) ∷ inside .records
 
--- the records of an accepted file at this depth, from its block k on
+-- The records of an accepted file at this depth, from its block `k` on.
 unfoldable pub recordsLeft : ℕ → ℕ → Bytes → ℕ → List Record
 recordsLeft depth start s k = elim (file s) [ accepted f ↦ walk (reads depth) depth start s (drop k (f .blocks)) | refused r ↦ [] ]
 
--- all of them
+-- All records of an accepted file at this depth.
 abbrev pub fileRecords : ℕ → ℕ → Bytes → List Record
 fileRecords depth start s = recordsLeft depth start s 0
 
--- all records of an accepted outermost file
+-- All records of an accepted outermost file.
 unfoldable pub allRecords : Bytes → List Record
 allRecords s = elim (records s) [ accepted rs ↦ rs | refused r ↦ [] ]
 
--- the content t of a block at this depth is an accepted file of so many blocks, which begin at these offsets
+-- The content `t` of a block at this depth is an accepted file of `blocks` blocks, which begin at `offsets`.
 pub record Opens (depth : ℕ) (compressed : Bool) (t : Bytes) (offsets : List ℕ) (blocks : ℕ) : Type 0 where
   pub higher : depth + 1 ≤ deepest
   pub kept : Kept t offsets blocks
   pub records : (start : ℕ) → insideOf depth start compressed t .records ≡ fileRecords (depth + 1) start t
 
--- what was found of the content t of a block at this depth
+-- `found` is what was found about the content `t` of a block at this depth.
 pub record ContentIs (depth : ℕ) (compressed : Bool) (t : Bytes) (offsets : List ℕ) (found : Found) : Type 0 where
   pub state : (start : ℕ) → insideOf depth start compressed t .state ≡ found .inner
   pub none : found .blocks ≡ 0 → (start : ℕ) → insideOf depth start compressed t .records ≡ []

@@ -24,10 +24,10 @@ use format::limits::MOST_BLOCKS;
 use format::limits::RECORD_BYTES;
 use format::refusal::BUFFER_TOO_SHORT;
 
-// The bytes of a buffer that takes the usual case: a record for each block of a file with no files inside.
+// The size of a buffer that is enough in the usual case: a record for each block of a file without inner files.
 const OWN_BYTES: usize = MOST_BLOCKS * RECORD_BYTES;
 
-// How many blocks a file and the files inside it have, or the file's refusal.
+// Returns how many blocks a file and its inner files have, or the file's refusal.
 pub fn count(s: &[u8]) -> CountAnswer
     ensures { λ r. ⌜ countAnswer r ≡ recordCount (now (s .entry)) ⌝ }
 {
@@ -45,7 +45,7 @@ pub fn outline(s: &[u8], out: &mut [u8]) -> CountAnswer
     outline_with_layout(s, out).written
 }
 
-// The same, with the layout beside it: the file is judged once.
+// Does the same and returns the layout too, so that the file is judged only once.
 pub fn outline_with_layout(s: &[u8], out: &mut [u8]) -> OutlinedAnswer
     ensures { λ r. ⌜ layoutAnswer (r .layout) ≡ File·layout (now (s .entry)) ⌝ }
     ensures { λ r. ⌜ OutlineWritten (now (s .entry)) (now (out .entry)) (now (out .exit)) (r .written) ⌝ }
@@ -77,7 +77,7 @@ pub fn records(s: &[u8], out: &mut [u8]) -> CountAnswer
     }
 }
 
-// Writes the record of this number, in 120 bytes, or nothing where there is none.
+// Writes the record with this number, in 120 bytes, or nothing if there is no such record.
 pub fn record(s: &[u8], wanted: u64, out: &mut [u8]) -> CountAnswer
     ensures { λ r. ⌜ Written (foundBytes recordFields (recordAt (now (s .entry)) wanted)) (now (out .entry)) (now (out .exit)) r ⌝ }
 {
@@ -88,7 +88,8 @@ pub fn record(s: &[u8], wanted: u64, out: &mut [u8]) -> CountAnswer
     }
 }
 
-// How many records an accepted file has: they are put nowhere, since a byte is too short for a row.
+// Returns how many records an accepted file has. They are put nowhere, because a buffer of one byte is too short for a
+// row.
 fn count_in(s: &[u8], offsets: &[u64], blocks: u8) -> u64
     requires { ⌜ Kept (now s) (now offsets) blocks ⌝ }
     ensures { λ r. ⌜ r ≡ length (allRecords (now (s .entry))) ⌝ }
@@ -97,7 +98,8 @@ fn count_in(s: &[u8], offsets: &[u64], blocks: u8) -> u64
     walk::walk_all(s, offsets, blocks, Form::Rows, &mut nothing)
 }
 
-// Writes the record of this number of an accepted file. One walk does: where the record does not fit, the walk changes nothing.
+// Writes the record with this number of an accepted file. One walk is enough: if the record does not fit, the walk
+// changes nothing.
 fn write_one(s: &[u8], offsets: &[u64], blocks: u8, wanted: u64, out: &mut [u8]) -> CountAnswer
     requires { ⌜ Kept (now s) (now offsets) blocks ⌝ }
     ensures { λ r. ⌜ Written (foundBytes recordFields (recordAt (now (s .entry)) wanted)) (now (out .entry)) (now (out .exit)) r ⌝ }
@@ -112,8 +114,8 @@ fn write_one(s: &[u8], offsets: &[u64], blocks: u8, wanted: u64, out: &mut [u8])
     CountAnswer::Counted(RECORD_BYTES as u64)
 }
 
-// Writes what is wanted of each block of an accepted file. A block takes so many bytes at least that the length of the file tells
-// when the buffer surely does; then one walk serves.
+// Writes what is wanted of each block of an accepted file. A block has a minimum size, so the length of the file limits
+// how many blocks there can be. If the buffer is long enough for that many, one walk is enough.
 fn write(s: &[u8], offsets: &[u64], blocks: u8, form: Form, out: &mut [u8]) -> CountAnswer
     requires { ⌜ Kept (now s) (now offsets) blocks ⌝ }
     requires { ⌜ 1 ≤ width form ⌝ }
@@ -127,8 +129,8 @@ fn write(s: &[u8], offsets: &[u64], blocks: u8, form: Form, out: &mut [u8]) -> C
     CountAnswer::Counted(each * n)
 }
 
-// The same where the buffer might be too short. The first walk goes into a buffer of its own, so that a refusal changes nothing, and
-// counts; where that buffer took everything, no second walk is needed.
+// Does the same if the buffer might be too short. The first walk counts and writes into a buffer of its own, so that a
+// refusal changes nothing. If everything fitted into that buffer, no second walk is needed.
 fn write_measured(s: &[u8], offsets: &[u64], blocks: u8, form: Form, out: &mut [u8]) -> CountAnswer
     requires { ⌜ Kept (now s) (now offsets) blocks ⌝ }
     requires { ⌜ 1 ≤ width form ⌝ }
@@ -147,7 +149,7 @@ fn write_measured(s: &[u8], offsets: &[u64], blocks: u8, form: Form, out: &mut [
     hand_over(&own, each * n, out)
 }
 
-// Puts the first bytes of a buffer at the start of another, where there is room for them.
+// Puts the first `size` bytes of a buffer at the start of another, which has room for them.
 fn hand_over(own: &[u8], size: u64, out: &mut [u8]) -> CountAnswer
     requires { ⌜ size ≤ length (now own) ⌝ }
     requires { ⌜ size ≤ length (now out) ⌝ }

@@ -1,5 +1,5 @@
-// What becomes of the blocks of a walk, which come one after another. What the form wants of a block is made from its bytes where it
-// is wanted.
+// What is done with the blocks of a walk, which come one after another. What the form wants of a block is made from the
+// block's bytes, in the place where it is wanted.
 ghost use mathlib.Core.Path.{_≡_};
 ghost use mathlib.Core.List.{[], _∷_};
 ghost use Prim.Native.Nat.{ℕ, _*_};
@@ -19,24 +19,24 @@ use format::row::Row;
 use outline::row;
 
 pub(crate) enum Form {
-    // A row is put for each block. In a buffer that is too short for one, blocks are only counted.
+    // A row is put for each block. If the buffer is too short for a row, blocks are only counted.
     Rows,
-    // Each is put as numbers.
+    // The record of each block is put as numbers.
     Table,
-    // Only the one of this number is put as numbers, at the start.
+    // Only the record with this number is put as numbers, at the start.
     One(u64),
 }
 
-// Where something is put of a block.
+// What is put of a block, and where.
 pub(crate) enum Place {
     Nowhere,
     // Its row, at this offset.
     Row(usize),
-    // Its numbers, at this offset.
+    // The numbers of its record, at this offset.
     Numbers(usize),
 }
 
-// How many bytes are put for each block.
+// Returns how many bytes are put for each block.
 pub(crate) fn width_of(form: Form) -> u64
     ensures { λ r. ⌜ r ≡ width form ⌝ }
 {
@@ -47,7 +47,7 @@ pub(crate) fn width_of(form: Form) -> u64
     }
 }
 
-// Takes the block that t begins with, as number n, and answers the number of the next.
+// Takes the block that `t` begins with as number `n`, and returns the number of the next block.
 pub(crate) fn take_block(
     form: Form,
     n: u64,
@@ -66,7 +66,7 @@ pub(crate) fn take_block(
     std::num::wrapping_add_u64(n, 1)
 }
 
-// Puts what the form wants of it. Where it does not fit, nothing changes.
+// Puts what the form wants of the block. If it does not fit, nothing changes.
 fn put_entry(
     form: Form,
     n: u64,
@@ -92,7 +92,7 @@ fn put_entry(
     }
 }
 
-// Where something is put of block number n in so many bytes.
+// Returns what is put of block number `n` in a buffer of `room` bytes, and where.
 fn place_of(form: Form, n: u64, room: usize) -> Place
     ensures { λ r. ⌜ PlaceIs form n room r ⌝ }
 {
@@ -118,7 +118,7 @@ fn place_of(form: Form, n: u64, room: usize) -> Place
     }
 }
 
-// The row of the block that t begins with, wherever it stands in its own file.
+// Returns the row of the block that `t` begins with. It does not depend on where the block is in its own file.
 fn row_of(t: &[u8], ordinal: u8, depth: u8, here: OutermostOffset, inner: Inner) -> Row
     requires { ⌜ Sound (now t) ⌝ }
     ensures { λ r. ⌜ ((at : ℕ) → r ≡ rowOf (blockRecord depth here ordinal at (now (t .entry)) inner)) ⌝ }
@@ -138,7 +138,7 @@ fn row_of(t: &[u8], ordinal: u8, depth: u8, here: OutermostOffset, inner: Inner)
     }
 }
 
-// Puts the record of the block that t begins with as numbers at an offset. Where they do not fit, nothing changes.
+// Puts the record of the block that `t` begins with as numbers at offset `place`. If they do not fit, nothing changes.
 fn put_record(
     out: &mut [u8],
     place: usize,

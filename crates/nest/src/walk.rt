@@ -1,5 +1,5 @@
-// The walk: the reader of a block's content and the walker along the blocks call each other. Every file is judged once, when it is
-// opened; from then on the offsets that its judgement kept are followed.
+// The walk. The reader of a block's content and the walker along the blocks call each other. Every file is judged once,
+// when it is opened. From then on the walk follows the offsets that were kept when it was judged.
 ghost use mathlib.Core.Path.{_≡_};
 ghost use Prim.Native.Nat.{_+_, _≤_};
 ghost use lib.ListN.{length};
@@ -21,13 +21,13 @@ use format::offset::Offset;
 use format::offset::OutermostOffset;
 use scan::text;
 
-// What a block's content is, and how many blocks it has to be walked: none where it is not opened.
+// What a block's content is, and how many blocks in it must be walked: none if it is not opened.
 pub(crate) struct Found {
     pub inner: Inner,
     pub blocks: u8,
 }
 
-// Walks all blocks of an accepted file, so many, which begin at these offsets.
+// Walks all blocks of an accepted file. `offsets` holds where each of its `blocks` blocks begins.
 pub(crate) fn walk_all(s: &[u8], offsets: &[u64], blocks: u8, form: Form, out: &mut [u8]) -> u64
     requires { ⌜ Kept (now s) (now offsets) blocks ⌝ }
     ensures { λ x. ⌜ Delivered form 0 (now (out .entry)) (allRecords (now (s .entry))) (now (out .exit)) x ⌝ }
@@ -44,7 +44,7 @@ pub(crate) fn walk_all(s: &[u8], offsets: &[u64], blocks: u8, form: Form, out: &
     )
 }
 
-// Walks the blocks of a file at this depth, whose own first byte is at `start` of the outermost file.
+// Walks the blocks of a file at this depth. The file's first byte is at `start` of the outermost file.
 fn walk_blocks(
     s: &[u8],
     offsets: &[u64],
@@ -60,7 +60,7 @@ fn walk_blocks(
     requires { ⌜ start .0 + length (now s) ≤ mostBytes ⌝ }
     ensures { λ x. ⌜ Delivered form number (now (out .entry)) (fileRecords depth (start .0) (now (s .entry))) (now (out .exit)) x ⌝ }
 {
-    // The table for the files inside: each is done with it before the next is opened.
+    // One table serves all inner files, because each is finished before the next is opened.
     let mut inside = [0u64; MOST_BLOCKS];
     let mut n = number;
     let mut k: u8 = 0;
@@ -73,8 +73,8 @@ fn walk_blocks(
     n
 }
 
-// Takes the block that t begins with, which stands at `here` of the outermost file and at an offset of its own, and after it the
-// blocks inside. The record is made in one place only, so that the compiler can make it where it stands.
+// Takes the block that `t` begins with, and after it the blocks inside. The block is at `here` of the outermost file
+// and at offset `at` of its own file. The record is made in one place only, so that the compiler can build it in place.
 fn walk_content(
     t: &[u8],
     ordinal: u8,
@@ -114,7 +114,8 @@ fn walk_content(
     )
 }
 
-// What the content t of a block at this depth is. Where it is opened, the offsets of its blocks come first in the table.
+// Returns what the content `t` of a block at this depth is. If it is opened, the offsets of its blocks come first in
+// the table.
 fn content_of(t: &[u8], compressed: bool, depth: u8, offsets: &mut [u64; MOST_BLOCKS]) -> Found
     ensures { λ x. ⌜ ContentIs depth compressed (now (t .entry)) (now (offsets .exit)) x ⌝ }
 {

@@ -1,4 +1,4 @@
--- A refused file has no count; the records of an accepted one are counted.
+-- `nest::count` meets its contract: a refused file has no count, and the records of an accepted file are counted.
 use borrow.Author.Needs.{needs}
 use Rattle.file.proofs.LayoutLaws.{table-size, blocks-kept}
 use Rattle.nest.proofs.EntryLaws.{count-refused, count-accepted}

@@ -1,4 +1,4 @@
--- All records are counted.
+-- `nest::count_in` meets its contract: all records are counted.
 use borrow.Author.Needs.{needs}
 use Rattle.nest.proofs.EntryLaws.{counted}
 use Rattle.nest.proofs.count_in.Statement.{statement}

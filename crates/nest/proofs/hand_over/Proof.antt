@@ -1,4 +1,4 @@
--- The first bytes are put at the start.
+-- `nest::hand_over` meets its contract: the first bytes are put at the start.
 use lib.Seq.{length-take-le}
 use borrow.Author.Needs.{needs}
 use Rattle.nest.proofs.EntryLaws.{handed-over}

@@ -1,4 +1,5 @@
--- A refused file has no outline; that of an accepted one is written.
+-- `nest::outline_with_layout` meets its contract: a refused file has no outline, and the outline of an accepted file is
+-- written.
 use borrow.Author.Needs.{needs}
 use Rattle.file.proofs.LayoutLaws.{table-size, blocks-kept}
 use Rattle.nest.proofs.EntryLaws.{told-again, outline-refused, outline-written}

@@ -1,4 +1,4 @@
--- A refused file has no record; of an accepted one it is looked for.
+-- `nest::record` meets its contract: a refused file has no record, and in an accepted file the record is looked for.
 use borrow.Author.Needs.{needs}
 use Rattle.file.proofs.LayoutLaws.{table-size, blocks-kept}
 use Rattle.nest.proofs.EntryLaws.{record-refused}

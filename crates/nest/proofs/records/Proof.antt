@@ -1,4 +1,4 @@
--- A refused file has no records; those of an accepted one are written.
+-- `nest::records` meets its contract: a refused file has no records, and the records of an accepted file are written.
 use borrow.Author.Needs.{needs}
 use Rattle.file.proofs.LayoutLaws.{table-size, blocks-kept}
 use Rattle.nest.proofs.EntryLaws.{table-refused, table-written}

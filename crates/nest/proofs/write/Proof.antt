@@ -1,4 +1,4 @@
--- The buffer surely does, or it has to be measured.
+-- `nest::write` meets its contract: the buffer is surely long enough, or it has to be measured.
 use borrow.Author.Needs.{needs}
 use Rattle.nest.proofs.EntryLaws.{each-some, told-fits, sure-put}
 use Rattle.nest.proofs.SinkLaws.{delivered-length}

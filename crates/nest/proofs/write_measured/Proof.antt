@@ -1,4 +1,5 @@
--- Too many, or put by a second walk, or handed over.
+-- `nest::write_measured` meets its contract: there are too many records, a second walk puts them, or they are copied
+-- from the function's own buffer.
 use borrow.Author.Needs.{needs}
 use Rattle.nest.proofs.EntryLaws.{told-fits, each-some, measured-short, measured-put, own-room, room-for, own-put}
 use Rattle.nest.proofs.SinkLaws.{delivered-length}

@@ -1,4 +1,4 @@
--- There is no such record, it does not fit, or it is put.
+-- `nest::write_one` meets its contract: there is no such record, it does not fit, or it is put.
 use borrow.Author.Needs.{needs}
 use Rattle.nest.proofs.SinkLaws.{delivered-length}
 use Rattle.nest.proofs.EntryLaws.{one-none, one-short, one-written}

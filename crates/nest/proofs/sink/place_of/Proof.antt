@@ -1,4 +1,4 @@
--- There is no place, or one for a row or for the numbers.
+-- `nest::sink::place_of` meets its contract: there is no place, a place for a row, or a place for the numbers.
 use borrow.Author.Needs.{needs}
 use Rattle.nest.proofs.SinkLaws.{no-row, no-numbers, other-wanted, this-wanted, row-place, numbers-place}
 use Rattle.nest.proofs.sink.place_of.Statement.{statement}

@@ -1,4 +1,4 @@
--- Nothing is put, or a row, or the numbers.
+-- `nest::sink::put_entry` meets its contract: nothing is put, a row is put, or the numbers are put.
 use borrow.Author.Needs.{needs}
 use Rattle.nest.proofs.SinkLaws.{put-nowhere, put-row, put-numbers}
 use Rattle.nest.proofs.sink.put_entry.Statement.{statement}

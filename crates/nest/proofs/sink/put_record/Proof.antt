@@ -1,4 +1,4 @@
--- A record is put as its numbers.
+-- `nest::sink::put_record` meets its contract: a record is put as its numbers.
 use borrow.Author.Needs.{needs}
 use Rattle.nest.proofs.SinkLaws.{record-put}
 use Rattle.nest.proofs.sink.put_record.Statement.{statement}

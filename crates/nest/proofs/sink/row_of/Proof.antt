@@ -1,4 +1,4 @@
--- Each field of the row is one of the summary.
+-- `nest::sink::row_of` meets its contract: what the row states about the block's header is in the summary.
 use borrow.Author.Needs.{needs}
 use Rattle.nest.proofs.SinkLaws.{row-made}
 use Rattle.nest.proofs.sink.row_of.Statement.{statement}

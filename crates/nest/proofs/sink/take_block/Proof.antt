@@ -1,4 +1,4 @@
--- What is wanted of the block is put, and one record more has come.
+-- `nest::sink::take_block` meets its contract: what is wanted of the block is put, and one more record has come.
 use borrow.Author.Needs.{needs}
 use Rattle.nest.proofs.SinkLaws.{delivered-one}
 use Rattle.nest.proofs.sink.take_block.Statement.{statement}

@@ -1,4 +1,5 @@
--- The number that falls is made of the levels and the blocks that are left; the loop goes along the blocks.
+-- `nest::walk::walk_blocks` and `nest::walk::walk_content`, which call each other, meet their contracts. The measure is
+-- made of the levels and the blocks that are left. The loop goes along the blocks.
 use borrow.Author.Needs.{needs}
 use Prim.Native.Nat.{ℕ, _+_, _*_, _-_, _<_}
 use Rattle.format.specs.Nest.{deepest}

@@ -1,4 +1,4 @@
--- One law for each way out.
+-- `nest::walk::content_of` meets its contract. There is one law for each return.
 use borrow.Author.Needs.{needs}
 use Rattle.nest.proofs.ContentLaws.{content-compressed, content-plain, content-deep, content-refused, content-opened}
 use Rattle.nest.proofs.walk.content_of.Statement.{statement}

@@ -1,4 +1,4 @@
--- The walk begins at the first block of an accepted file.
+-- `nest::walk::walk_all` meets its contract: the walk begins at the first block of an accepted file.
 use borrow.Author.Needs.{needs}
 use Rattle.nest.proofs.EntryLaws.{walk-room, walk-whole}
 use Rattle.nest.proofs.SinkLaws.{delivered-length}
