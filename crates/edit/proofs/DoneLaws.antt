@@ -1,4 +1,4 @@
--- The edit of a file: one law for each way out, and all that is promised of it.
+-- Laws about the edit of a file: one for each return, and everything that is promised about it.
 use Prim.Native.Nat.{ℕ, _+_, _-_, _≤_}
 use native.Mathlib.Omega.{arith}
 use mathlib.Core.Path.{_≡_, refl, sym, ap, _∙_}
@@ -27,7 +27,7 @@ use Rattle.format.proofs.EditTreeLaws.{FileRoom, file-room}
 use Rattle.format.proofs.EditLaws.{accepted-editable, editable-accepted, accepted-edited}
 use Rattle.edit.specs.Tree.{HasTree}
 
--- a refusal is all that is promised where the edit is refused
+-- If the edit is refused, the refusal with the file unchanged is all that is promised.
 refused-done : (s t : Bytes) (x : Refusal) → edit s t ≡ refused x → Done s t s (EditAnswer·is.Refused x)
 unfolding editAnswer editLeaves
 refused-done s t x e =
@@ -40,14 +40,14 @@ refused-done s t x e =
       edited = λ h. absurd (never h);
     }
 
--- and the edited file where it is accepted
+-- If the edit is accepted, the edited file is all that is promised.
 accepted-done : (s t u : Bytes) → edit s t ≡ accepted u → Done s t u EditAnswer·is.Edited
 unfolding editAnswer editLeaves
 accepted-done s t u e =
     record { answer = rw e; bytes = rw e; accepts = λ h. refl; only = λ h. accepted-editable s t u e; edited = λ h. accepted-edited s t u e }
 
 module _ (s : Bytes) (a : LayoutAnswer) (h : layoutAnswer a ≡ layout s) where
-  -- the file is refused
+  -- If the file is refused, the edit is refused in the same way.
   pub edit-refused : (t : Bytes) (r : Refusal) → a ≡ LayoutAnswer·is.Refused r → Done s t s (EditAnswer·is.Refused r)
   unfolding layoutAnswer layout edit
   edit-refused t r e = refused-done s t r (on (file s) (sym h ∙ ap layoutAnswer e))
@@ -56,20 +56,20 @@ module _ (s : Bytes) (a : LayoutAnswer) (h : layoutAnswer a ≡ layout s) where
       on (accepted f) q = cc
       on (refused x) q = cc
 
-  -- the file is accepted, with the tree of its layout
+  -- If the layout of the file is read, the file is accepted and has the tree of that layout.
   pub edit-accepted : (l : Layout) → a ≡ LayoutAnswer·is.Accepted l → HasTree s (l .tree)
   unfolding layoutAnswer layout layoutOf
   edit-accepted l e =
       accepted-holds (λ k. HasTree s (k .tree)) (layout s) l (accepts-bind _ (file s) _ (λ f q. record { found = f; read = q; is = refl }))
       (sym h ∙ ap layoutAnswer e)
 
--- a text that fits is no longer than the room
+-- A text that fits is no longer than the room.
 pub text-inside : (s t : Bytes) (n m : ℕ) (d : Bool) → not d ≡ false → d ≡ leb (length t) (m - n) → m ≤ length s
     → length t ≤ length (take (m - n) (drop n s))
 text-inside s t n m d p fit inside =
     rw (length-take-le (m - n) (drop n s) (simp length-drop (omega arith))) (leb-true (length t) (m - n) (sym fit ∙ not-false d p))
 
--- a file with its room filled
+-- If the room holds the text and then spaces, the file is filled as it is defined.
 room-filled : (s t : Bytes) (n m : ℕ) (room : Bytes) → room ≡ t ++ replicate (length (take (m - n) (drop n s)) - length t) 32 → n ≤ m → m ≤ length s
     → take n s ++ (room ++ drop (m - n) (drop n s)) ≡ filled s n m t
 unfolding filled
@@ -79,12 +79,12 @@ room-filled s t n m room e order inside =
     rw (e, size, drop-drop, end) (simp append-assoc)
 
 module _ (s t : Bytes) (x : Tree) (h : HasTree s x) where
-  -- of an accepted file the tree is edited
+  -- The edit of an accepted file is the edit of its tree.
   edit-tree : edit s t ≡ editTree s t x
   unfolding edit
   edit-tree = rw (h .read, h .is)
 
-  -- there is none
+  -- If the file has no tree, the edit is refused with 18.
   pub tree-none : (r : Refusal) → x ≡ NoTree → r ≡ refusal 18 0 → Done s t s (EditAnswer·is.Refused r)
   unfolding editTree
   tree-none r q e = rw e (refused-done s t _ (rw (edit-tree, q)))
@@ -93,27 +93,27 @@ module _ (s t : Bytes) (x : Tree) (h : HasTree s x) where
     room : FileRoom s (h .found) (n .0) (m .0)
     room = file-room s (h .found) (h .read) (n .0) (e .0) (m .0) (h .is ∙ q)
 
-    -- the room ends no earlier than it begins
+    -- The room does not end before it begins.
     pub room-order : n .0 ≤ m .0
     room-order = room .order
 
-    -- and inside the file
+    -- The room ends inside the file.
     pub room-inside : m .0 ≤ length s
     room-inside = room .inside
 
     module _ (b : Bool) (one : b ≡ isOneTree t) where
-      -- the text is no tree
+      -- If the text is not exactly one tree, the edit is refused with 19.
       pub text-other : (r : Refusal) → not b ≡ true → r ≡ refusal 19 0 → Done s t s (EditAnswer·is.Refused r)
       unfolding editTree
       text-other r p f = rw f (refused-done s t _ (rw (edit-tree, q, sym one ∙ not-true b p)))
 
       module _ (p : not b ≡ false) (d : Bool) (fit : d ≡ leb (length t) (m .0 - n .0)) where
-        -- the text is longer than the room
+        -- If the text is longer than the room, the edit is refused with 20.
         pub text-long : (r : Refusal) → not d ≡ true → r ≡ refusal 20 0 → Done s t s (EditAnswer·is.Refused r)
         unfolding editTree
         text-long r l f = rw f (refused-done s t _ (rw (edit-tree, q, sym one ∙ not-false b p, sym fit ∙ not-true d l)))
 
-        -- the room is filled
+        -- If the text fits and the room is filled with it, the file is edited.
         pub text-put : (room-after : Bytes) → not d ≡ false
             → room-after ≡ t ++ replicate (length (take (m .0 - n .0) (drop (n .0) s)) - length t) 32
             → Done s t (take (n .0) s ++ (room-after ++ drop (m .0 - n .0) (drop (n .0) s))) EditAnswer·is.Edited

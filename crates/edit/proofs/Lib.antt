@@ -1,3 +1,3 @@
--- Laws of the tree edit.
+-- Laws about the tree edit.
 pub mod FillLaws
 pub mod DoneLaws

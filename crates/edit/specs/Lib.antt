@@ -1,2 +1,2 @@
--- What the contracts of the tree edit cite.
+-- The definitions that the contracts of the tree edit use.
 pub mod Tree

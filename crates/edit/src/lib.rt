@@ -1,4 +1,4 @@
-// The tree edit in place.
+// Edits a file's tree in place.
 ghost use Prim.Native.Nat.{_-_, _≤_};
 ghost use mathlib.Core.List.{_++_};
 ghost use mathlib.Core.Path.{_≡_};
@@ -17,7 +17,7 @@ use format::refusal::TEXT_LONGER_THAN_ROOM;
 use format::refusal::TEXT_NOT_ONE_TREE;
 use front::tree::is_one_tree;
 
-// Replaces a file's tree by a text that is exactly one tree, and the rest of the tree's room by spaces.
+// Replaces a file's tree by a text that is exactly one tree, and fills the rest of the tree's room with spaces.
 pub fn edit(file: &mut [u8], text: &[u8]) -> EditAnswer
     ensures { λ r. ⌜ Done (now (file .entry)) (now (text .entry)) (now (file .exit)) r ⌝ }
 {
@@ -30,7 +30,8 @@ pub fn edit(file: &mut [u8], text: &[u8]) -> EditAnswer
     }
 }
 
-// The same for an accepted file whose tree is known. A refusal here has no place in the file to name, and so the place 0.
+// Does the same for an accepted file whose tree is known. A refusal here concerns no place in the file, so it has the
+// place 0.
 fn edit_tree(file: &mut [u8], text: &[u8], tree: Tree) -> EditAnswer
     requires { ⌜ HasTree (now file) tree ⌝ }
     ensures { λ r. ⌜ Done (now (file .entry)) (now (text .entry)) (now (file .exit)) r ⌝ }
@@ -56,7 +57,7 @@ fn edit_tree(file: &mut [u8], text: &[u8], tree: Tree) -> EditAnswer
     }
 }
 
-// Whether a text is no longer than a room.
+// Whether a text is no longer than the room from offset `from` to offset `to`.
 fn fits(text: &[u8], from: usize, to: usize) -> bool
     requires { ⌜ from ≤ to ⌝ }
     ensures { λ r. ⌜ r ≡ leb (length (now (text .entry))) (to - from) ⌝ }
@@ -64,7 +65,7 @@ fn fits(text: &[u8], from: usize, to: usize) -> bool
     text.len() <= to - from
 }
 
-// Writes a text into a room, and spaces behind it.
+// Writes a text into a room, and spaces after it.
 fn fill(room: &mut [u8], text: &[u8])
     requires { ⌜ length (now text) ≤ length (now room) ⌝ }
     ensures { λ _. ⌜ now (room .exit) ≡ now (text .entry) ++ replicate (length (now (room .entry)) - length (now (text .entry))) 32 ⌝ }
@@ -73,7 +74,7 @@ fn fill(room: &mut [u8], text: &[u8])
     put_spaces(room, text.len());
 }
 
-// Writes spaces from an offset on.
+// Writes spaces from offset `from` to the end of the room.
 fn put_spaces(room: &mut [u8], from: usize)
     ensures { λ _. ⌜ now (room .exit) ≡ sets (now (room .entry)) from (replicate (length (now (room .entry)) - from) 32) ⌝ }
 {

@@ -1,4 +1,4 @@
--- The file's layout is read, and the tree that it has is edited.
+-- `edit::edit` meets its contract: the file's layout is read, and the tree in it is edited.
 use borrow.Author.Needs.{needs}
 use Rattle.edit.proofs.DoneLaws.{edit-refused, edit-accepted}
 use Rattle.edit.proofs.edit.Statement.{statement}

@@ -1,4 +1,4 @@
--- The tests of an edit in their order, and then the room is filled.
+-- `edit::edit_tree` meets its contract: the tests of an edit come in their order, and then the room is filled.
 use borrow.Author.Needs.{needs}
 use Rattle.edit.proofs.DoneLaws.{tree-none, room-order, room-inside, text-inside, text-other, text-long, text-put}
 use Rattle.edit.proofs.edit_tree.Statement.{statement}

@@ -1,4 +1,4 @@
--- The text is copied to the room's start, and spaces are put behind it.
+-- `edit::fill` meets its contract: the text is copied to the start of the room, and spaces are put after it.
 use borrow.Author.Needs.{needs}
 use Rattle.edit.proofs.FillLaws.{fill-done}
 use Rattle.edit.proofs.fill.Statement.{statement}

@@ -1,4 +1,5 @@
--- The invariant: the spaces that are left to put are those that were to be put.
+-- `edit::put_spaces` meets its contract. The loop's invariant: putting the spaces that are left gives what putting all
+-- of them at the start would give.
 use Prim.Native.Nat.{_-_}
 use mathlib.Core.Path.{_≡_}
 use lib.ListN.{length, replicate}
