@@ -47,7 +47,8 @@ module _ (t : Bytes) where
   unfolding contentAgain
   content-blank h c e = rw (e, contentAgain, lt-leb leastBlock (length t) h)
 
-  -- If the block is streamed, the bytes left are its reported size; otherwise (the next law) the stored size is.
+  -- If the block is streamed, its reported size is the number of bytes left. Otherwise it is the stored size (the next
+  -- law).
   pub size-streamed : (f stored : ℕ) → FieldRead t 6 10 f → f % 2 ≡ 1 → (r : ℕ) → r ≡ bytesLeft t → r ≡ reported t stored
   size-streamed f stored bits s r e = e ∙ sym (reported-left t stored (rw (← bits .is) (eq-eqb (f % 2) 1 s)))
 

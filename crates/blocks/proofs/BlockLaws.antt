@@ -147,7 +147,7 @@ module _ (t : Bytes) (f : ℕ) (bits : FieldRead t 6 10 f) where
   unfolding soundLink
   link-streamed s = rw (soundLink, ← bits .is, eq-eqb (f % 2) 1 s)
 
-  -- Any other block leads to the end of its allocated space.
+  -- A block that is not streamed leads to the end of its allocated space.
   pub link-plain : (h a : ℕ) → FieldRead t 4 6 h → FieldRead t 14 22 a → (f % 2 ≡ 1 → ⊥) → LinkStep·is.Block (6 + h + a) ≡ soundLink t
   unfolding soundLink
   link-plain h a rh ra s = rw (soundLink, ← bits .is, ne-eqb (f % 2) 1 s, rh .is, ra .is)

@@ -46,7 +46,8 @@ module _ (s : Bytes) (n : ℕ) where
     pub next-at-index : x ≡ true → NextMark s n (length s)
     next-at-index h = record { some-block = λ l. absurd (omega arith); no-block = λ l. next-index (drop n s) (sym index-is ∙ h) }
 
-    -- If they do not begin like an index, the next block begins at the first mark from `n` on, if there is one.
+    -- If the bytes at offset `n` do not begin like an index, the next block begins at the first mark from `n` on, if
+    -- there is one.
     pub next-found : x ≡ false → (m : ℕ) → MarkFound s n m → n ≤ length s → NextMark s n m
     next-found h m found l = record {
       some-block = λ p. record {
@@ -85,7 +86,7 @@ module _ (s : Bytes) (i n m : ℕ) (next : NextMark s n m) where
         zeros-on : allZero (drop n s) ≡ z
         zeros-on = sym (zeros-is ∙ ap allZero (part-all s n))
 
-        -- If nothing or only zeros are left at `n`, the tail begins there and is only zeros.
+        -- If nothing is left at `n`, or only zeros, the tail begins there and is only zeros.
         pub link-zeros : z ≡ true → TailBegins s i n true
         unfolding tail
         link-zeros h = record { is = onward-tail ∙ rw (tail, zeros-on ∙ h); tail = zeros-on ∙ h }
@@ -176,8 +177,7 @@ pub walk-begins : (s : Bytes) (before : List ℕ) (first : ℕ) → length befor
 walk-begins s before first room =
     record { blocks = []; is = in-front-none (onward s 0 first); count = refl; few = omega arith; kept = refl; room = room; size = refl }
 
--- If the table holds where the blocks `bs` begin, and where `b` begins is put after that, it holds where the blocks
--- `bs` and `b` begin.
+-- Putting where `b` begins after the offsets of the blocks `bs` gives the table of `bs` and `b`.
 table-next : (before : List ℕ) (bs : List Block) (b : Block) → length bs < length before
     → set (tableOf before bs) (length bs) (b .at .0) ≡ tableOf before (bs ++ (b ∷ []))
 table-next before bs b h =
@@ -275,7 +275,7 @@ walk-outside s before first h = record {
 }
 
 module _ (s : Bytes) (o : Outcome Chain) (before out : List ℕ) (x : ChainStep) (is : WalkedInside s o before out x) where
-  -- The answer of `walk_inside` is passed on: this law without an index, the next with one.
+  -- The answer of `walk_inside` is passed on, without an index (this law) or with one (the next law).
   pub told-alone : (k : ℕ) → x ≡ ChainStep·is.Walked k → WalkedAlone o before out k
   told-alone k h = rw h at is
 

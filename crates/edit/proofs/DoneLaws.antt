@@ -27,7 +27,7 @@ use Rattle.format.proofs.EditTreeLaws.{FileRoom, file-room}
 use Rattle.format.proofs.EditLaws.{accepted-editable, editable-accepted, accepted-edited}
 use Rattle.edit.specs.Tree.{HasTree}
 
--- If the edit is refused, the refusal with the file unchanged is all that is promised.
+-- If the edit is refused, returning the refusal and leaving the file unchanged keeps the whole promise.
 refused-done : (s t : Bytes) (x : Refusal) → edit s t ≡ refused x → Done s t s (EditAnswer·is.Refused x)
 unfolding editAnswer editLeaves
 refused-done s t x e =
@@ -40,7 +40,7 @@ refused-done s t x e =
       edited = λ h. absurd (never h);
     }
 
--- If the edit is accepted, the edited file is all that is promised.
+-- If the edit is accepted, leaving the edited file keeps the whole promise.
 accepted-done : (s t u : Bytes) → edit s t ≡ accepted u → Done s t u EditAnswer·is.Edited
 unfolding editAnswer editLeaves
 accepted-done s t u e =
@@ -69,7 +69,7 @@ pub text-inside : (s t : Bytes) (n m : ℕ) (d : Bool) → not d ≡ false → d
 text-inside s t n m d p fit inside =
     rw (length-take-le (m - n) (drop n s) (simp length-drop (omega arith))) (leb-true (length t) (m - n) (sym fit ∙ not-false d p))
 
--- If the room holds the text and then spaces, the file is filled as it is defined.
+-- If the room holds the text and then spaces, the whole file is as `filled` defines it.
 room-filled : (s t : Bytes) (n m : ℕ) (room : Bytes) → room ≡ t ++ replicate (length (take (m - n) (drop n s)) - length t) 32 → n ≤ m → m ≤ length s
     → take n s ++ (room ++ drop (m - n) (drop n s)) ≡ filled s n m t
 unfolding filled

@@ -86,8 +86,8 @@ module _ (s : Bytes) (kept : List ℕ) (count : ℕ) (h : Kept s kept count) whe
     pub all-kept : count ≤ length kept
     all-kept = omega (arith, last-room)
 
-    -- The first `count` offsets are taken. A file may have that many blocks, so the index of them (the next law) is
-    -- accepted.
+    -- The part of the table that is taken has `count` offsets. A file may have that many blocks, so their index is
+    -- accepted (the next law).
     pub part-length : length (take count kept) ≡ count
     part-length = length-take-le count kept all-kept
 
@@ -109,7 +109,7 @@ module _ (s : Bytes) (kept : List ℕ) (count : ℕ) (h : Kept s kept count) whe
       pub last-streamed : x ≡ true → (out : Bytes) (y : CountAnswer) → y ≡ Refused (refusal 22 0) → Written (indexFor s) out out y
       last-streamed q out = written-refused (indexFor s) out (refusal 22 0) (index-is false (last-may false (rw q)))
 
-      -- If it is not streamed, writing the index of the kept offsets is writing the index of the file.
+      -- If the last block is not streamed, writing the index of the kept offsets is writing the index of the file.
       pub last-plain : x ≡ false → (l : Layout) → layout s ≡ accepted l → (k : LineEnd) → k ≡ l .header .«line_end»
           → (out after : Bytes) (y : CountAnswer) → Written (offsetsIndex k (take count kept)) out after y → Written (indexFor s) out after y
       last-plain q l told k e out after y w = rw (index-is true (last-may true (rw q)), same-header l told, ← e) (rw (part-index k) at w)

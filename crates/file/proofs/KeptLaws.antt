@@ -49,7 +49,7 @@ module _ {s : Bytes} {out : List ℕ} {count : ℕ} (kept : Kept s out count) {k
   kept-none h = rw (blockAt, kept .is, no-element (kept .f .blocks) k (omega (arith, kept .count)))
 
   module _ (h : k < count) where
-    -- If the file has a block `k`, it begins where the table says.
+    -- If the file has a block `k`, it begins at the offset that the table keeps.
     pub kept-each : Each s (kept .f .blocks) k (getD out k 0)
     kept-each =
         let bs = kept .f .blocks in

@@ -61,7 +61,7 @@ module _ {A : Type 0} (o : Outcome File) (p : Outcome A) (then : A → Outcome F
   step-refused : (r : Refusal) → p ≡ refused r → Judged o before out (LayoutAnswer·is.Refused r)
   step-refused r h = refused-judged o before out r (rw (step, h))
 
-  -- If a step accepts, the answer is the answer of what comes after it.
+  -- If a step accepts, a right answer for what comes after it is a right answer for the whole.
   step-accepted : (a : A) → p ≡ accepted a → (x : LayoutAnswer) → Judged (then a) before out x → Judged o before out x
   step-accepted a h x j = rw (step, h) j
 
@@ -82,7 +82,7 @@ module _ (s : Bytes) (x : HeaderStep) (read : headerOutcome x ≡ header s) wher
     unfolding headerOutcome
     header-refused r e = step-refused (file s) (header s) (afterHeader s) (file-begins s few) before out r (sym read ∙ ap headerOutcome e)
 
-    -- If the header is read, the answer is the answer for what comes after it.
+    -- If the header is read, a right answer for what comes after it is a right answer for the file.
     pub header-read : (h : Header) → x ≡ HeaderStep·is.Read h → (a : LayoutAnswer) → Judged (afterHeader s h) before out a → Judged (file s) before out a
     unfolding headerOutcome
     header-read h e = step-accepted (file s) (header s) (afterHeader s) (file-begins s few) before out h (sym read ∙ ap headerOutcome e)
@@ -99,7 +99,7 @@ module _ (s : Bytes) (h : Header) (x : EndStep) (read : endOutcome x ≡ comment
   comments-refused before out r e = step-refused (afterHeader s h) _ (afterComments s h) refl before out r (sym read ∙ ap endOutcome e)
 
   module _ (n : ℕ) (e : x ≡ EndStep·is.At n) where
-    -- If the comments are read, the answer is the answer for what comes after them.
+    -- If the comments are read, a right answer for what comes after them is a right answer here.
     pub comments-read : (before out : List ℕ) (a : LayoutAnswer) → Judged (afterComments s h n) before out a → Judged (afterHeader s h) before out a
     unfolding endOutcome afterHeader
     comments-read before out = step-accepted (afterHeader s h) _ (afterComments s h) refl before out n (sym read ∙ ap endOutcome e)
@@ -117,7 +117,7 @@ module _ (s : Bytes) (h : Header) (n : ℕ) (x : TreeStep) (read : treeOutcome x
   tree-refused before out r e = step-refused (afterComments s h n) _ (afterTree s h n) refl before out r (sym read ∙ ap treeOutcome e)
 
   module _ (t : Tree) (e : x ≡ TreeStep·is.Read t) where
-    -- If the tree is read, the answer is the answer for what comes after it.
+    -- If the tree is read, a right answer for what comes after it is a right answer here.
     pub tree-read : (before out : List ℕ) (a : LayoutAnswer) → Judged (afterTree s h n t) before out a → Judged (afterComments s h n) before out a
     unfolding treeOutcome afterComments
     tree-read before out = step-accepted (afterComments s h n) _ (afterTree s h n) refl before out t (sym read ∙ ap treeOutcome e)

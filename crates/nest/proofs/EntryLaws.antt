@@ -47,7 +47,7 @@ use Rattle.nest.proofs.SinkLaws.{record-length, delivered-length}
 use Rattle.nest.proofs.ContentLaws.{refused-records, accepted-records}
 
 module _ {s : Bytes} {offsets : List ℕ} {blocks : ℕ} (kept : Kept s offsets blocks) where
-  -- The records of an accepted file are what the walk finds from depth 0 and offset 0 on.
+  -- The records of an accepted file are the records that the walk finds at depth 0, from offset 0 on.
   all-are : records s ≡ accepted (fileRecords 0 0 s)
   unfolding records
   all-are = accepted-records kept 0 0
@@ -74,7 +74,7 @@ module _ {s : Bytes} {offsets : List ℕ} {blocks : ℕ} (kept : Kept s offsets 
   unfolding allRecords
   walk-whole form x out after o z h = rw (allRecords, all-are) (rw z at h)
 
--- If it fits into 64 bits, the number after the records is the first number plus the number of records.
+-- The number after the records is the first number plus how many records there are, if that fits into 64 bits.
 number-after : (n : ℕ) (rs : List Record) → n + length rs < 2 ^ 64 → numberAfter n rs ≡ n + length rs
 unfolding numberAfter
 number-after n [] h = omega arith

@@ -43,15 +43,16 @@ record-length r = rw (numbers-length (recordFields r)) (fields (r .inner))
     fields TooDeep = refl
 
 module _ (form : Form) (n room : ℕ) where
-  -- If the form is `Rows` and the buffer has no place for the row, nothing is put; otherwise (the next law) the row is.
+  -- If the form is `Rows` and the buffer has no place for the row, nothing is put. Otherwise the row is put (the next
+  -- law).
   pub no-row : form ≡ Rows → room / rowBytes ≤ n → PlaceIs form n room Place·is.Nowhere
   no-row h g out r size = rw h (placed-none out (n * rowBytes) (encodeRow (rowOf r)) (omega (arith, encoded-length (rowOf r))))
 
   pub row-place : form ≡ Rows → PlaceIs form n room (Place·is.Row (n * rowBytes))
   row-place h out r = rw h
 
-  -- If the form is `Table` and the buffer has no place for the numbers, nothing is put; otherwise (the next law) they
-  -- are.
+  -- If the form is `Table` and the buffer has no place for the numbers, nothing is put. Otherwise they are put (the
+  -- next law).
   pub no-numbers : form ≡ Table → room / recordBytes ≤ n → PlaceIs form n room Place·is.Nowhere
   no-numbers h g out r size = rw h (placed-none out (n * recordBytes) (encodeRecord r) (omega (arith, record-length r)))
 
@@ -59,8 +60,8 @@ module _ (form : Form) (n room : ℕ) where
   numbers-place h out r = rw h
 
   module _ (w : ℕ) (one : form ≡ One w) where
-    -- If another record is wanted, nothing is put; if this record is wanted (the next law), its numbers are put at the
-    -- start.
+    -- If another record is wanted, nothing is put. If this record is wanted, its numbers are put at the start (the next
+    -- law).
     pub other-wanted : (w ≡ n → ⊥) → PlaceIs form n room Place·is.Nowhere
     other-wanted h out r size = rw (one, mul-zero n, delivery, ne-eqb w n h) (placed-nothing out 0 (omega arith))
 
@@ -138,7 +139,8 @@ pub delivered-none : (form : Form) (n : ℕ) (out : Bytes) → Delivered form n 
 unfolding numberAfter putAll
 delivered-none form n out = record { next = refl; buffer = refl }
 
--- Records followed by other records leave the same number, and (the next law) the same buffer, as all of them together.
+-- Records followed by other records lead to the same number as all of them together, and to the same buffer (the next
+-- law).
 after-append : (n : ℕ) (rs qs : List Record) → numberAfter (numberAfter n rs) qs ≡ numberAfter n (rs ++ qs)
 unfolding numberAfter
 after-append n [] qs = refl

@@ -45,8 +45,8 @@ kept-few {s} kept =
     let few = blocks-few mostBlocks 0 (blocksStart f) _ (drop (blocksStart f) s) (file-parts s f (kept .is) .chain-read) in
     omega (arith, kept .count)
 
--- The measure decreases from a file to the content of one of its blocks, and (the next law) from the content to the
--- blocks in it.
+-- The measure decreases from a file to the content of one of its blocks, and from the content to the blocks in it (the
+-- next law).
 pub less-inside : (depth blocks k t : ℕ) → 66 * (deepest - depth) + blocks ≡ t → k < blocks → 66 * (deepest - depth) < t
 less-inside depth blocks k t e h = omega arith
 
@@ -79,8 +79,8 @@ same-offset x y h = ap (λ (m : ℕ). record { 0 = m }) h
 abbrev recordOf : ℕ → OutermostOffset → Block → Inner → Record
 recordOf depth here b inner = record { depth = depth; at = here; block = b; inner = inner }
 
--- The state of a walk: `k` blocks of a file are walked, and the next record has number `n`. If the records that are
--- left are delivered, all records of the file are.
+-- The state of a walk: `k` blocks of a file are walked, and the next record has number `n`. Delivering the records that
+-- are left delivers all records of the file.
 pub record Walking (depth start : ℕ) (s : Bytes) (blocks : ℕ) (form : Form) (number : ℕ) (before out : Bytes) (k n : ℕ) : Type 0 where
   pub few : k ≤ blocks
   pub size : length out ≡ length before
@@ -123,7 +123,7 @@ module _ {depth start : ℕ} {s : Bytes} {blocks : ℕ} {form : Form} {number : 
       pub walking-room : here .0 + length (take (length s - getD offsets k 0) (drop (getD offsets k 0) s)) ≤ mostBytes
       walking-room = rw (part-all, length-drop) (omega (arith, here-at, each .inside))
 
-      -- What is inside the block, seen from the block, is what the walk of the file finds inside it.
+      -- What is inside the block is the same whether it is read from the block's bytes or from the file's bytes.
       inside-same : insideAt depth here (each .b) (drop (getD offsets k 0) s) ≡ inside (reads depth) start s (each .b)
       unfolding insideOf inside
       inside-same =
@@ -137,7 +137,7 @@ module _ {depth start : ℕ} {s : Bytes} {blocks : ℕ} {form : Form} {number : 
           ap (λ (m : ℕ). insideOf depth m z (take (b .used) (drop (contentStart t) t))) place
           ∙ ap (λ (u : Bytes). insideOf depth (start + contentAt b) z (take (b .used) u)) part
 
-      -- What the walk of the file takes for the block are the records of the block, seen from the block.
+      -- The block's records in the walk of the file are the records that are read from the block's bytes.
       first-records : walked depth start (each .b) (inside (reads depth) start s (each .b))
           ≡ recordsAt depth here k (getD offsets k 0) (drop (getD offsets k 0) s)
       unfolding walked
@@ -165,7 +165,7 @@ module _ {depth start : ℕ} {s : Bytes} {blocks : ℕ} {form : Form} {number : 
         onward = λ after x g. w .onward after x (rw next-records (delivered-append (rw part-all at h') (rw add-one at g)));
       }
 
--- `c` is where the content of the sound block that `t` begins with is.
+-- `c` describes the content of the sound block that `t` begins with.
 pub record ContentLies (t : Bytes) (c : Content) : Type 0 where
   pub from : c .from ≡ contentStart t
   pub order : c .from ≤ c .to
@@ -243,7 +243,7 @@ module _ {t : Bytes} (sound : Sound t) {c : Content} (is : c ≡ contentAgain t)
               let lies = content-lies t sound c is in
               simp (length-take, length-drop) (omega (arith, content-at, lies .from, lies .order, lies .inside))
 
-          -- If the block's own record and then the records inside are delivered, all records of the block are.
+          -- Delivering the block's own record and then the records inside delivers all records of the block.
           pub content-walked : {form : Form} {k mid x : ℕ} {out between after : Bytes}
               → Delivered form k out (blockRecord depth here i n t (found .inner) ∷ []) between mid
               → Delivered form mid between (fileRecords (depth + 1) (content .0) (take (c .to - c .from) (drop (c .from) t))) after x

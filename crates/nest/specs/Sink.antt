@@ -18,8 +18,8 @@ use Rattle.nest.specs.declared.sink.Form.the-variants.{Rows, Table, One}
 use Rattle.nest.specs.declared.sink.Place.{Place}
 use Rattle.nest.specs.declared.sink.Place.the-variants.{Nowhere, Row, Numbers}
 
--- The record of the block that `t` begins with. It is block `i`, at offset `n` of its file and at `here` of the
--- outermost file, and has the inner state `inner`.
+-- The record of block `i`, with which `t` begins. The block is at offset `n` of its file and at `here` of the outermost
+-- file, and its inner state is `inner`.
 abbrev pub blockRecord : ℕ → OutermostOffset → ℕ → ℕ → Bytes → Inner → Record
 blockRecord depth here i n t inner = record { depth = depth; at = here; block = soundBlock i n t; inner = inner }
 

@@ -18,7 +18,7 @@ use Rattle.file.specs.Layout.{Kept}
 use Rattle.nest.specs.declared.walk.Found.{Found}
 use Rattle.nest.specs.Sink.{blockRecord}
 
--- What content that begins like a file is, in a block at this depth, if files are read for `levels` more levels.
+-- What is inside content that begins like a file, in a block at this depth, if files are read for `levels` more levels.
 unfoldable pub readsFor : ℕ → ℕ → ℕ → Bytes → Inside
 readsFor zero depth n t = closed TooDeep
 readsFor (suc levels) depth n t = opened (recordsFrom levels (depth + 1) n t)
@@ -27,7 +27,7 @@ readsFor (suc levels) depth n t = opened (recordsFrom levels (depth + 1) n t)
 abbrev pub reads : ℕ → ℕ → Bytes → Inside
 reads depth = readsFor (deepest - depth) depth
 
--- What the content `t` of a block at this depth is. `n` is where the content begins in the outermost file.
+-- What is inside the content `t` of a block at this depth. `n` is where the content begins in the outermost file.
 unfoldable pub insideOf : ℕ → ℕ → Bool → Bytes → Inside
 insideOf depth n compressed t = elim (not compressed && begins token t) [ true ↦ reads depth n t | false ↦ closed Plain ]
 
@@ -35,12 +35,12 @@ insideOf depth n compressed t = elim (not compressed && begins token t) [ true �
 abbrev pub contentIn : Block → Bytes → Bytes
 contentIn b t = take (b .used) (drop (contentStart t) t)
 
--- What is inside the block `b`, with which `t` begins. It is at `here` of the outermost file.
+-- What is inside the block `b`, with which `t` begins. The block is at `here` of the outermost file.
 abbrev pub insideAt : ℕ → OutermostOffset → Block → Bytes → Inside
 insideAt depth here b t = insideOf depth (here .0 + contentStart t) (isCompressed (b .compression)) (contentIn b t)
 
--- The record of the block that `t` begins with, and the records of the blocks inside it. It is block `i`, at offset `n`
--- of its file.
+-- The record of block `i`, with which `t` begins, and the records of the blocks inside it. The block is at offset `n`
+-- of its file and at `here` of the outermost file.
 abbrev pub recordsAt : ℕ → OutermostOffset → ℕ → ℕ → Bytes → List Record
 recordsAt depth here i n t = let inside = insideAt depth here (soundBlock i n t) t in blockRecord depth here i n t (inside .state) ∷ inside .records
 

@@ -45,7 +45,7 @@ pub fn outline(s: &[u8], out: &mut [u8]) -> CountAnswer
     outline_with_layout(s, out).written
 }
 
-// Does the same and returns the layout too, so that the file is judged only once.
+// Does the same and also returns the layout, so that the file is judged only once.
 pub fn outline_with_layout(s: &[u8], out: &mut [u8]) -> OutlinedAnswer
     ensures { λ r. ⌜ layoutAnswer (r .layout) ≡ File·layout (now (s .entry)) ⌝ }
     ensures { λ r. ⌜ OutlineWritten (now (s .entry)) (now (out .entry)) (now (out .exit)) (r .written) ⌝ }

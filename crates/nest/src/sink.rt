@@ -1,5 +1,5 @@
 // What is done with the blocks of a walk, which come one after another. What the form wants of a block is made from the
-// block's bytes, in the place where it is wanted.
+// block's bytes, at the point where it is wanted.
 ghost use mathlib.Core.Path.{_≡_};
 ghost use mathlib.Core.List.{[], _∷_};
 ghost use Prim.Native.Nat.{ℕ, _*_};

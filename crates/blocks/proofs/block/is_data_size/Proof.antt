@@ -1,4 +1,4 @@
--- `blocks::block::is_data_size` meets its contract. The two cases are whether the block is compressed.
+-- `blocks::block::is_data_size` meets its contract. There are two cases: the block is compressed, or it is not.
 use borrow.Author.Needs.{needs}
 use Rattle.blocks.proofs.BlockLaws.{compressed-size, plain-size}
 use Rattle.blocks.proofs.block.is_data_size.Statement.{statement}
