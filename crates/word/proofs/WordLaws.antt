@@ -1,4 +1,4 @@
--- A count as one number, or a refusal.
+-- Laws about the one number that stands for a count or a refusal.
 use Prim.Native.Nat.{ℕ}
 use mathlib.Core.Path.{_≡_}
 use Rattle.format.specs.declared.answer.CountAnswer.{CountAnswer}

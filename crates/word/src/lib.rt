@@ -1,4 +1,4 @@
-// The one number that an exported function returns, and numbers in the lent buffer.
+// Makes the one number that an exported function returns, and puts numbers into the lent buffer.
 ghost use mathlib.Core.Path.{_≡_};
 ghost use Rattle.format.specs.Outcome.{accepted, refused as Outcome·refused};
 ghost use Rattle.format.specs.Answer.{countAnswer};
@@ -9,14 +9,14 @@ use format::answer::CountAnswer;
 use format::refusal::BUFFER_TOO_SHORT;
 use format::refusal::Refusal;
 
-// A refusal: its number in the top byte, and the place below.
+// Returns a refusal as one number: its number in the top byte, and its place in the bytes below.
 pub fn refused(r: Refusal) -> u64
     ensures { λ w. ⌜ w ≡ word (Outcome·refused r) ⌝ }
 {
     r.number as u64 * 72057594037927936 + r.place.0 % 72057594037927936
 }
 
-// A count, or the refusal.
+// Returns a count, or a refusal as one number.
 pub fn counted(a: CountAnswer) -> u64
     ensures { λ w. ⌜ w ≡ word (countAnswer a) ⌝ }
 {
@@ -26,8 +26,8 @@ pub fn counted(a: CountAnswer) -> u64
     }
 }
 
-// Puts numbers at the buffer's start, each in eight bytes, and answers how many bytes that are; refuses a buffer that is too
-// short.
+// Puts numbers at the start of the buffer, each in eight bytes, and answers how many bytes that is. A buffer that is
+// too short is refused.
 pub fn put_numbers(out: &mut [u8], numbers: &[u64]) -> CountAnswer
     ensures { λ r. ⌜ Written (accepted (numberBytes (now (numbers .entry)))) (now (out .entry)) (now (out .exit)) r ⌝ }
 {

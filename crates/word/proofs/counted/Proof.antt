@@ -1,4 +1,4 @@
--- A count is returned as it is, and a refusal as its number.
+-- A count is returned unchanged. A refusal is returned as one number.
 use borrow.Author.Needs.{needs}
 use Rattle.word.proofs.WordLaws.{word-counted, word-refused}
 use Rattle.word.proofs.counted.Statement.{statement}
