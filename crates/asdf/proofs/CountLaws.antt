@@ -1,4 +1,4 @@
--- What is counted is at most as long as what it is counted in.
+-- Counts are at most as large as the number of bytes that were lent.
 use native.Mathlib.Omega.{arith}
 use lib.ListN.{length}
 use Rattle.format.specs.Bytes.{Bytes}
@@ -9,14 +9,14 @@ use Rattle.format.proofs.WordLaws.{Counts}
 use Rattle.format.proofs.FewLaws.{Few, records-few}
 use Rattle.outline.proofs.StoredLaws.{Read, read-stored}
 
--- a record takes 54 bytes of the file or more
+-- A file has no more records than bytes, since each record takes at least 54 bytes of the file.
 pub count-few : (s : Bytes) → Counts (length s) (recordCount s)
 unfolding recordCount records
 count-few s =
     accepts-bind _ (recordsFrom deepest 0 0 s) _
     λ rs e. omega (arith, accepted-holds (Few s) (recordsFrom deepest 0 0 s) rs (records-few deepest 0 0 s) e)
 
--- a stored row takes sixteen bytes
+-- A stored outline has no more rows than bytes, since each row takes sixteen bytes.
 pub stored-count-few : (b : Bytes) → Counts (length b) (storedCount b)
 unfolding storedCount
 stored-count-few b = accepts-bind _ (stored b) _ λ rs e. omega (arith, accepted-holds (Read b) (stored b) rs (read-stored b) e .size)

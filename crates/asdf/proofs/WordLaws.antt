@@ -1,4 +1,5 @@
--- Answers as one number: a count, what was written, an outline, a stored outline again, an index, an edit.
+-- Laws about answers as one number: of a count, a writer, an outline, a stored outline that is written again, an index
+-- and an edit.
 use Prim.Native.Nat.{ℕ, _+_, _<_}
 use native.Mathlib.Omega.{arith}
 use mathlib.Core.Path.{_≡_, refl, sym, ap, _∙_}
@@ -20,7 +21,7 @@ use Rattle.format.specs.Export.{leastRefusal, word}
 use Rattle.format.proofs.NumberedLaws.{Numbered, numbered-more, numbered-writes, numbered-done, numbered-outline, numbered-rewritten, numbered-index, numbered-edit}
 use Rattle.format.proofs.WordLaws.{word-large, Counts, returned, returned-writes}
 
--- 0, or a refusal
+-- An edit returns 0, or its refusal as one number.
 pub word-edited : (a : EditAnswer) → a ≡ EditAnswer·is.Edited → 0 ≡ word (_>>_ (editAnswer a) (accepted 0))
 unfolding editAnswer
 word-edited a e = rw e
@@ -30,19 +31,19 @@ pub word-unedited : (a : EditAnswer) (r : Refusal) → a ≡ EditAnswer·is.Refu
 unfolding editAnswer
 word-unedited a r e w h = rw e h
 
--- the count that was asked for
+-- The returned number states the count that was asked for.
 pub returned-count : (a : CountAnswer) (count : Outcome ℕ) (lent : ℕ) → countAnswer a ≡ count → Counts lent count → Numbered lent count
     → (w : ℕ) → w ≡ word (countAnswer a) → Returned count lent w
 returned-count a count lent h c n w e = returned count lent c n w (e ∙ ap word h)
 
 module _ (before after : Bytes) (a : CountAnswer) (w : ℕ) (e : w ≡ word (countAnswer a)) where
-  -- what was written
+  -- The promise of a writer carries over to the number that is returned.
   pub exported-written : (s : Bytes) (result : Outcome Bytes) → Numbered (length s) result → Written result before after a
       → Exported s result before after w
   exported-written s result n h =
       record { answer = returned-writes result before s n w (e ∙ ap word (h .answer)); buffer = h .buffer }
 
-  -- a number below 2^56 is returned for what was written
+  -- If the returned number is below 2^56, the writer counted that many bytes.
   small-counted : (s : Bytes) (result : Outcome Bytes) → Numbered (length s) result → Written result before after a → w < leastRefusal
       → a ≡ CountAnswer·is.Counted w
   unfolding countAnswer
@@ -54,21 +55,21 @@ module _ (before after : Bytes) (a : CountAnswer) (w : ℕ) (e : w ≡ word (cou
           let large = word-large (length s) (writes result before) r (numbered-writes (length s) result before n) q in
           absurd (omega arith)
 
-  -- the outline that was written reads back
+  -- The outline that was written reads back to the rows of the file.
   pub exported-outline : (s : Bytes) → OutlineWritten s before after a → OutlineExported s before after w
   exported-outline s h = record {
     written = exported-written s (outline s) (numbered-outline s) (h .written);
     reads-back = λ p. h .reads-back w (small-counted s (outline s) (numbered-outline s) (h .written) p);
   }
 
-  -- the stored outline that was written again is the same
+  -- The stored outline that was written again is the same.
   pub exported-rewrite : (b : Bytes) → WrittenAgain b before after a → RewriteExported b before after w
   exported-rewrite b h = record {
     written = exported-written b (rewritten b) (numbered-rewritten b) (h .written);
     same = λ p. h .same w (small-counted b (rewritten b) (numbered-rewritten b) (h .written) p);
   }
 
-  -- the index that was written is good and short
+  -- The index that was written is good and short.
   pub exported-index : (s : Bytes) → IndexWritten s before after a → IndexExported s before after w
   exported-index s h =
       let counted = small-counted s (indexFor s) (numbered-index s) (h .written) in
@@ -78,19 +79,19 @@ module _ (before after : Bytes) (a : CountAnswer) (w : ℕ) (e : w ≡ word (cou
         short = λ p. h .short w (counted p);
       }
 
--- what was done, with another value
+-- If the value of an outcome is replaced twice, only the second value counts.
 done-again : {A B C : Type 0} (o : Outcome A) (b : B) (c : C) → _>>_ (_>>_ o (accepted b)) (accepted c) ≡ _>>_ o (accepted c)
 done-again (accepted a) b c = refl
 done-again (refused r) b c = refl
 
--- an edit counts nothing
+-- An edit that is done counts 0, which is never more than was lent.
 done-none : {A : Type 0} (o : Outcome A) (lent : ℕ) → Counts lent (_>>_ o (accepted 0))
 done-none (accepted a) lent = omega arith
 done-none (refused r) lent = tt
 
--- the file that was edited
+-- The edit of the file `s` to the text `t` was answered with `a`, and `w` is returned for `a`.
 module _ (s t after : Bytes) (a : EditAnswer) (h : Done s t after a) (w : ℕ) (e : w ≡ word (_>>_ (editAnswer a) (accepted 0))) where
-  -- the word of the answer is returned for it
+  -- The returned number states the answer of the edit.
   edit-answer : Returned (_>>_ (edit s t) (accepted 0)) (length s + length t) w
   edit-answer =
       let done : Outcome ℕ = _>>_ (edit s t) (accepted 0) in
@@ -100,7 +101,7 @@ module _ (s t after : Bytes) (a : EditAnswer) (h : Done s t after a) (w : ℕ) (
       w
       (e ∙ ap (λ (o : Outcome (Unit {0})). word (_>>_ o (accepted 0))) (h .answer) ∙ ap word (done-again (edit s t) tt 0))
 
-  -- 0 is returned for an edit that is done
+  -- If 0 is returned, the edit was done.
   zero-edited : w ≡ 0 → a ≡ EditAnswer·is.Edited
   unfolding editAnswer
   zero-edited p = from a (h .answer) e
@@ -111,7 +112,7 @@ module _ (s t after : Bytes) (a : EditAnswer) (h : Done s t after a) (w : ℕ) (
           let large = word-large (length s) _ r (numbered-done (length s) (edit s t) tt (numbered-edit s t)) q in
           absurd (omega arith)
 
-  -- and only for one
+  -- If the edit was done, 0 is returned.
   edited-zero : a ≡ EditAnswer·is.Edited → w ≡ 0
   edited-zero p = e ∙ sym (word-edited a p)
 

@@ -1,6 +1,7 @@
-// The functions that C and Rust call. Each returns one number: how many bytes it put at the start of the lent buffer, or the
-// count that was asked for, or a refusal, its number in the top byte and its place below. A refusal changes no byte. Where all
-// that is lent is shorter than 2^56 bytes, the number can be read in one way only.
+// The functions that C and Rust call. Each returns one number: how many bytes it put at the start of the lent buffer,
+// or the count that was asked for, or a refusal. A refusal has its number in the top byte and its place in the bytes
+// below, and changes no byte that was lent. If everything that is lent is shorter than 2^56 bytes in all, the returned
+// number can be read in only one way.
 ghost use mathlib.Core.Path.{_≡_};
 ghost use lib.ListN.{length};
 ghost use Rattle.format.specs.Outcome.{accepted, _>>_ as Outcome·then};
@@ -16,7 +17,7 @@ use format::answer::EditAnswer;
 use format::answer::LayoutAnswer;
 use format::answer::RowAnswer;
 
-// The layout of a file: 96 bytes.
+// Puts the layout of a file: 96 bytes.
 #[no_mangle]
 pub extern "C" fn asdf_read(file: &[u8], out: &mut [u8]) -> u64
     ensures { λ r. ⌜ Exported (now (file .entry)) (layoutBytes (now (file .entry))) (now (out .entry)) (now (out .exit)) r ⌝ }
@@ -30,7 +31,7 @@ pub extern "C" fn asdf_read(file: &[u8], out: &mut [u8]) -> u64
     }
 }
 
-// The block of an ordinal in a file: 80 bytes, or none where there is no such block.
+// Puts the block with this ordinal in a file: 80 bytes, or none if there is no such block.
 #[no_mangle]
 pub extern "C" fn asdf_block(file: &[u8], ordinal: u64, out: &mut [u8]) -> u64
     ensures { λ r. ⌜ Exported (now (file .entry)) (foundBytes blockFields (blockAt (now (file .entry)) ordinal)) (now (out .entry)) (now (out .exit)) r ⌝ }
@@ -45,7 +46,7 @@ pub extern "C" fn asdf_block(file: &[u8], ordinal: u64, out: &mut [u8]) -> u64
     }
 }
 
-// How many blocks a file and the files inside it have.
+// Returns how many blocks a file and the files inside it have.
 #[no_mangle]
 pub extern "C" fn asdf_count(file: &[u8]) -> u64
     ensures { λ r. ⌜ Returned (recordCount (now (file .entry))) (length (now (file .entry))) r ⌝ }
@@ -53,7 +54,7 @@ pub extern "C" fn asdf_count(file: &[u8]) -> u64
     word::counted(nest::count(file))
 }
 
-// The outline of a file: 16 bytes for each block.
+// Puts the outline of a file: 16 bytes for each block, including the blocks of inner files.
 #[no_mangle]
 pub extern "C" fn asdf_outline(file: &[u8], out: &mut [u8]) -> u64
     ensures { λ r. ⌜ OutlineExported (now (file .entry)) (now (out .entry)) (now (out .exit)) r ⌝ }
@@ -61,7 +62,7 @@ pub extern "C" fn asdf_outline(file: &[u8], out: &mut [u8]) -> u64
     word::counted(nest::outline(file, out))
 }
 
-// The record of block k in walking order: 120 bytes, or none where there is no such block.
+// Puts the record of block `k` in walking order: 120 bytes, or none if there is no such block.
 #[no_mangle]
 pub extern "C" fn asdf_record(file: &[u8], k: u64, out: &mut [u8]) -> u64
     ensures { λ r. ⌜ Exported (now (file .entry)) (foundBytes recordFields (recordAt (now (file .entry)) k)) (now (out .entry)) (now (out .exit)) r ⌝ }
@@ -69,7 +70,7 @@ pub extern "C" fn asdf_record(file: &[u8], k: u64, out: &mut [u8]) -> u64
     word::counted(nest::record(file, k, out))
 }
 
-// The records of all blocks in walking order: 120 bytes for each.
+// Puts the records of all blocks in walking order: 120 bytes for each.
 #[no_mangle]
 pub extern "C" fn asdf_records(file: &[u8], out: &mut [u8]) -> u64
     ensures { λ r. ⌜ Exported (now (file .entry)) (recordTable (now (file .entry))) (now (out .entry)) (now (out .exit)) r ⌝ }
@@ -77,7 +78,7 @@ pub extern "C" fn asdf_records(file: &[u8], out: &mut [u8]) -> u64
     word::counted(nest::records(file, out))
 }
 
-// The text of a block index for a file: at most 809 bytes.
+// Puts the text of a block index for a file: at most 809 bytes.
 #[no_mangle]
 pub extern "C" fn asdf_index(file: &[u8], out: &mut [u8]) -> u64
     ensures { λ r. ⌜ IndexExported (now (file .entry)) (now (out .entry)) (now (out .exit)) r ⌝ }
@@ -85,7 +86,7 @@ pub extern "C" fn asdf_index(file: &[u8], out: &mut [u8]) -> u64
     word::counted(file::index_writer::write(file, out))
 }
 
-// How many rows a stored outline has.
+// Returns how many rows a stored outline has.
 #[no_mangle]
 pub extern "C" fn asdf_stored_count(stored: &[u8]) -> u64
     ensures { λ r. ⌜ Returned (storedCount (now (stored .entry))) (length (now (stored .entry))) r ⌝ }
@@ -93,7 +94,7 @@ pub extern "C" fn asdf_stored_count(stored: &[u8]) -> u64
     word::counted(outline::stored::count(stored))
 }
 
-// Row k of a stored outline: 80 bytes, or none where there is no such row.
+// Puts row `k` of a stored outline: 80 bytes, or none if there is no such row.
 #[no_mangle]
 pub extern "C" fn asdf_stored_row(stored: &[u8], k: u64, out: &mut [u8]) -> u64
     ensures { λ r. ⌜ Exported (now (stored .entry)) (foundBytes rowFields (storedAt (now (stored .entry)) k)) (now (out .entry)) (now (out .exit)) r ⌝ }
@@ -108,7 +109,7 @@ pub extern "C" fn asdf_stored_row(stored: &[u8], k: u64, out: &mut [u8]) -> u64
     }
 }
 
-// The rows of a stored outline as numbers: 80 bytes for each.
+// Puts the rows of a stored outline as numbers: 80 bytes for each.
 #[no_mangle]
 pub extern "C" fn asdf_stored_rows(stored: &[u8], out: &mut [u8]) -> u64
     ensures { λ r. ⌜ Exported (now (stored .entry)) (storedRows (now (stored .entry))) (now (out .entry)) (now (out .exit)) r ⌝ }
@@ -116,7 +117,7 @@ pub extern "C" fn asdf_stored_rows(stored: &[u8], out: &mut [u8]) -> u64
     word::counted(outline::stored::rows(stored, out))
 }
 
-// A stored outline, read and written again: the same bytes.
+// Reads a stored outline and writes it again from its rows: the bytes are the same.
 #[no_mangle]
 pub extern "C" fn asdf_rewrite(stored: &[u8], out: &mut [u8]) -> u64
     ensures { λ r. ⌜ RewriteExported (now (stored .entry)) (now (out .entry)) (now (out .exit)) r ⌝ }
@@ -124,7 +125,7 @@ pub extern "C" fn asdf_rewrite(stored: &[u8], out: &mut [u8]) -> u64
     word::counted(outline::stored::rewrite(stored, out))
 }
 
-// Replaces a file's tree by a text, in place: 0 where that is done.
+// Replaces the tree of a file by a text, in place, and returns 0 when that is done.
 #[no_mangle]
 pub extern "C" fn asdf_edit(file: &mut [u8], text: &[u8]) -> u64
     ensures { λ r. ⌜ EditExported (now (file .entry)) (now (text .entry)) (now (file .exit)) r ⌝ }
@@ -132,7 +133,7 @@ pub extern "C" fn asdf_edit(file: &mut [u8], text: &[u8]) -> u64
     edited(edit::edit(file, text))
 }
 
-// 0 where it was edited, or the refusal.
+// Returns 0 for an edit that was done, or the refusal as one number.
 fn edited(a: EditAnswer) -> u64
     ensures { λ w. ⌜ w ≡ Export·word (Outcome·then (editAnswer a) (accepted 0)) ⌝ }
 {

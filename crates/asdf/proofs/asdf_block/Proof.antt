@@ -1,4 +1,4 @@
--- A refusal is returned, of no block nothing is put, and a block is put.
+-- A refusal is returned. If there is no such block, nothing is put; otherwise the block is put.
 use borrow.Author.Needs.{needs}
 use Rattle.format.specs.Answer.{blockAnswer}
 use Rattle.format.specs.Fields.{blockFields}

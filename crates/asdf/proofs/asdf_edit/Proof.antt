@@ -1,4 +1,4 @@
--- All that the edit promises holds of the number that is returned.
+-- Everything that the edit promises holds for the returned number.
 use borrow.Author.Needs.{needs}
 use Rattle.asdf.proofs.WordLaws.{exported-edit}
 use Rattle.asdf.proofs.asdf_edit.Statement.{statement}

@@ -1,4 +1,4 @@
--- All that the writer promises holds of the number that is returned.
+-- Everything that the writer promises holds for the returned number.
 use borrow.Author.Needs.{needs}
 use Rattle.asdf.proofs.WordLaws.{exported-outline}
 use Rattle.asdf.proofs.asdf_outline.Statement.{statement}

@@ -1,4 +1,4 @@
--- A refusal is returned, and a layout is put.
+-- If the file is refused, the refusal is returned; otherwise its layout is put.
 use borrow.Author.Needs.{needs}
 use Rattle.asdf.proofs.AnswerLaws.{layout-refused, layout-put}
 use Rattle.asdf.proofs.asdf_read.Statement.{statement}

@@ -1,4 +1,4 @@
--- What the writer answers is returned.
+-- The answer of the writer is returned as one number.
 use borrow.Author.Needs.{needs}
 use Rattle.format.proofs.NumberedLaws.{numbered-record-at}
 use Rattle.asdf.proofs.WordLaws.{exported-written}

@@ -1,4 +1,4 @@
--- A refusal is returned, of no row nothing is put, and a row is put.
+-- A refusal is returned. If there is no such row, nothing is put; otherwise the row is put.
 use borrow.Author.Needs.{needs}
 use Rattle.format.specs.Answer.{rowAnswer}
 use Rattle.format.specs.Fields.{rowFields}

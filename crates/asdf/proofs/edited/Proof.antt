@@ -1,4 +1,4 @@
--- Of an edit 0 is returned, and a refusal as its number.
+-- For an edit that is done, 0 is returned; a refusal is returned as one number.
 use borrow.Author.Needs.{needs}
 use Rattle.asdf.proofs.WordLaws.{word-edited, word-unedited}
 use Rattle.asdf.proofs.edited.Statement.{statement}
