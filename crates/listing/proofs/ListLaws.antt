@@ -1,4 +1,4 @@
--- The listing that is written: one law for each way out.
+-- Laws about the listing that is written: one law for each return.
 use Prim.Native.Nat.{ℕ, _/_, _≤_, _<_}
 use native.Mathlib.Omega.{arith}
 use mathlib.Core.Path.{_≡_, refl, sym, ap, _∙_}
@@ -36,13 +36,13 @@ use Rattle.listing.specs.Listing.{mostOutline, Outlined, BothShort, Shor
 use Rattle.listing.specs.Text.{mostShort, fileText, mostFile}
 use Rattle.format.proofs.FewLaws.{rows-few}
 
--- a line was put into a buffer of its own, and is written from there
+-- A line that was put into a buffer of its own, and is written from there, is short.
 pub line-written : (t own after : Bytes) (n : ℕ) → PutAt own after 0 t mostShort n → length own ≡ mostShort → (out out-after : Bytes) (x : CountAnswer)
     → Written (accepted (take n after)) out out-after x → Short t out out-after x
 line-written t own after n put room out out-after x w =
     record { written = rw (own-bytes own after t mostShort n put room (omega arith)) at w; short = omega (arith, put .few) }
 
--- an outline and a text
+-- The outline `b` and the text `t` are written into the buffers `rows` and `out`.
 module _ (b t rows out : Bytes) where
   neither : bothFit b t rows out ≡ false → (x : CountAnswer) → x ≡ Refused (refusal 21 0) → BothPut b t rows out rows out x
   unfolding countAnswer
@@ -55,7 +55,7 @@ module _ (b t rows out : Bytes) where
     text-length : n ≡ length t
     text-length = omega (arith, measured .end, text-few)
 
-    -- the outline does not fit
+    -- Case: the outline does not fit.
     pub outline-long : length rows < length b → (x : CountAnswer) → x ≡ Refused (refusal 21 0) → BothShort b t rows out rows out x
     outline-long h x is = record {
       put = neither (rw (lt-leb (length b) (length rows) h)) x is;
@@ -63,7 +63,7 @@ module _ (b t rows out : Bytes) where
       text-short = text-few;
     }
 
-    -- the text does not fit
+    -- Case: the text does not fit.
     pub text-long : length out < n → (x : CountAnswer) → x ≡ Refused (refusal 21 0) → BothShort b t rows out rows out x
     text-long h x is = record {
       put = neither (rw (lt-leb (length t) (length out) (omega (arith, text-length))) (and-false (leb (length b) (length rows)))) x is;
@@ -71,7 +71,7 @@ module _ (b t rows out : Bytes) where
       text-short = text-few;
     }
 
-    -- both are put
+    -- Case: both fit and are put.
     pub both-put : length b ≤ length rows → n ≤ length out → (rows-after : Bytes) → (p : ℕ) → PutWhole rows rows-after 0 b (length b) p → (out-after : Bytes) (k r : ℕ)
         → PutAt out out-after 0 t k r
         → BothShort b t rows out rows-after out-after (Counted n)
@@ -89,7 +89,7 @@ module _ (b t rows out : Bytes) where
           text-short = text-few;
         }
 
--- a text alone is one with no outline
+-- A text that is written alone is a text with an empty outline.
 no-outline : (t rows out after : Bytes) (r : CountAnswer) → Short t out after r → BothShort [] t rows out rows after r
 unfolding writes leaves
 no-outline t rows out after r h =
@@ -109,7 +109,7 @@ no-outline t rows out after r h =
           (h .written .buffer ∙ sym (placed-none out 0 t (omega (arith, leb-false (length t) (length out) e))));
     }
 
--- what is put is the listing
+-- If the outline and the text that were put are those of `s`, the listing of `s` is written.
 is-listed : (s b t rows out rows-after out-after : Bytes) (r : CountAnswer) → outlineFor s ≡ b → listing s ≡ t
     → BothShort b t rows out rows-after out-after r
     → Listed s rows out rows-after out-after r
@@ -120,7 +120,7 @@ is-listed s b t rows out rows-after out-after r e f h = record {
       (h .put .answer ∙ rw (le-leb (length b) (length rows) (omega (arith, h .outline-short)), le-leb (length t) (length out) (omega (arith, h .text-short))));
 }
 
--- the input is too long
+-- Case: the input is too long.
 pub listed-long : (s rows out after : Bytes) (r : CountAnswer) → mostInput < length s
     → Written (accepted (text "too long for this program\n")) out after r
     → Listed s rows out rows after r
@@ -130,7 +130,7 @@ listed-long s rows out after r h w =
     let short : Short (text "too long for this program\n") out after r = record { written = w; short = omega arith } in
     is-listed s [] (text "too long for this program\n") rows out rows after r (rw (outlineFor, e)) (rw (listing, e)) (no-outline _ rows out after r short)
 
--- the file that has a layout, and its rows
+-- The file that has the layout `l`, and its rows.
 record OfLayout (s : Bytes) (l : Layout) : Type 0 where
   f : File
   is : file s ≡ accepted f
@@ -139,7 +139,7 @@ record OfLayout (s : Bytes) (l : Layout) : Type 0 where
   file-rows : List Row
   rows-are : rows s ≡ accepted file-rows
 
--- the file is read, and its outline written
+-- The file was read, and its outline was written into a buffer of `mostOutline` bytes.
 pub outlined-by : (s before own : Bytes) (a : LayoutAnswer) (w : CountAnswer) → layoutAnswer a ≡ layout s → OutlineWritten s before own w
     → length before ≡ mostOutline
     → Outlined s a w own
@@ -149,7 +149,7 @@ module _ (s : Bytes) (short : length s ≤ mostInput) (a : LayoutAnswer) (w : Co
   is-short : leb (length s) mostInput ≡ true
   is-short = le-leb (length s) mostInput short
 
-  -- the file is refused
+  -- Case: the file is refused.
   module _ (r : Refusal) (e : a ≡ LayoutAnswer·is.Refused r) where
     refused-file : file s ≡ refused r
     unfolding layoutAnswer layout
@@ -166,7 +166,7 @@ module _ (s : Bytes) (short : length s ≤ mostInput) (a : LayoutAnswer) (w : Co
         (rw (listing, is-short, fileListing, refused-file))
         (no-outline _ rows out after x put)
 
-  -- the file is accepted
+  -- Case: the file is accepted.
   module _ (l : Layout) (e : a ≡ LayoutAnswer·is.Accepted l) (known : (i : ℕ) → Fits w8 (getD s i 0)) where
     bytes : IsBytes s
     bytes i = known i .fits
@@ -180,7 +180,7 @@ module _ (s : Bytes) (short : length s ≤ mostInput) (a : LayoutAnswer) (w : Co
         record { f = f; is = e; tree = refl; verdict = refl; file-rows = rs .0; rows-are = rs .1 })
         (sym (h .read) ∙ ap layoutAnswer e)
 
-    -- the outline b of the file
+    -- `b` is the outline of the file.
     module _ (b : Bytes) (is : outline s ≡ accepted b) where
       rows-read : Read b (of .file-rows)
       rows-read = accepted-holds (Read b) (stored b) (of .file-rows) (read-stored b) (read-back s b bytes is ∙ of .rows-are)
@@ -203,7 +203,7 @@ module _ (s : Bytes) (short : length s ≤ mostInput) (a : LayoutAnswer) (w : Co
       unfolding outlineFor outlineBytes
       outline-is = rw (outlineFor, is-short, is)
 
-    -- the outline is not refused, because the buffer is long enough
+    -- Case: the outline is refused. This cannot happen, because its buffer is long enough.
     pub outline-refused : (r : Refusal) → w ≡ Refused r → (rows out : Bytes) → Listed s rows out rows out (Refused r)
     unfolding outline countAnswer writes
     outline-refused r q rows out =
@@ -213,7 +213,7 @@ module _ (s : Bytes) (short : length s ≤ mostInput) (a : LayoutAnswer) (w : Co
         let z : _≡_ {A = ℕ} 0 1 = cc in
         absurd (omega arith)
 
-    -- it is the first n bytes of the buffer
+    -- Case: the outline is written. It is the first `n` bytes of the buffer.
     module _ (n : ℕ) (q : w ≡ Counted n) where
       outline-taken : Taken (outline s) own n
       outline-taken = written-taken (outline s) (h .before) own n (rw q at (h .outlined .written))
@@ -233,7 +233,7 @@ module _ (s : Bytes) (short : length s ≤ mostInput) (a : LayoutAnswer) (w : Co
       outline-listed rows out rows-after out-after r =
           is-listed s _ _ rows out rows-after out-after r (outline-is (take n own) (outline-taken .is)) (text-is (take n own) (outline-taken .is))
 
--- what the answer tells
+-- What the answer `x` for the listing of `s` means.
 module _ (s rows out rows-after out-after : Bytes) (x : CountAnswer) (h : Listed s rows out rows-after out-after x) where
   module _ (n : ℕ) (e : x ≡ Counted n) where
     text-written : Written (accepted (listing s)) out out-after (Counted n)
@@ -254,7 +254,7 @@ module _ (s rows out rows-after out-after : Bytes) (x : CountAnswer) (h : Listed
     text-taken : Taken (accepted (listing s)) out-after n
     text-taken = written-taken (accepted (listing s)) out out-after n text-written
 
-    -- the first n bytes of the buffer are the listing
+    -- The first `n` bytes of the buffer are the listing.
     pub shown : ListedLent s rows out rows-after out-after n
     shown = record {
       listed = rw (← e) h;
@@ -263,7 +263,7 @@ module _ (s rows out rows-after out-after : Bytes) (x : CountAnswer) (h : Listed
       text = let same = text-taken .is in cc;
     }
 
-  -- buffers as long as the program's are never refused
+  -- Buffers as long as the program's are never refused.
   pub never-refused : (r : Refusal) → x ≡ Refused r → length rows ≡ lentBytes → length out ≡ lentBytes → ⊥
   unfolding countAnswer
   never-refused r e p q =

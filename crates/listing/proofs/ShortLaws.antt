@@ -1,4 +1,4 @@
--- How long the lines of rows are: a row in sixteen bytes has at most 53 bytes of text.
+-- Laws about the length of a row's line: a row that is read from sixteen bytes has at most 53 bytes of text.
 use Prim.Native.Nat.{ℕ, _+_, _^_, _≤_, _<_}
 use native.Mathlib.Nat.{mod-lt}
 use native.Mathlib.Omega.{arith}
@@ -14,7 +14,7 @@ use Rattle.listing.specs.Text.{mostRow}
 use Rattle.format.proofs.NumeralLaws.{decimal-is}
 use Rattle.format.proofs.RowLaws.{RowFits, bit-lt}
 
--- how many bytes numbers take after a word
+-- How many bytes the numbers take after a word, each with a space before it.
 abbrev digits : List ℕ → ℕ
 digits [] = 0
 digits (n ∷ ns) = 1 + length (decimal n) + digits ns
@@ -25,11 +25,11 @@ line-length w [] = length-append w (text "\n") ∙ omega arith
 line-length w (n ∷ ns) =
     length-append (w ++ text " ") (sentence (decimal n ∷ map decimal ns)) ∙ omega (arith, length-append w (text " "), line-length (decimal n) ns)
 
--- a number below ten to the k has at most k digits
+-- A number below ten to the power of `k` has at most `k` digits.
 few : (k x : ℕ) → 1 ≤ k → x < 10 ^ k → length (decimal x) ≤ k
 few k x = decimal-is x .few k
 
--- a row that is read from its bytes fits them
+-- The fields of a row that is read from bytes fit into their bits.
 row-fits : (b : Bytes) → RowFits (decodeRow b)
 unfolding decodeRow rowFrom unpacked sum
 row-fits b = record {
@@ -42,7 +42,7 @@ row-fits b = record {
   used = mod-lt _ (omega arith);
 }
 
--- a row that fits has short numbers
+-- A row whose fields fit has short numbers, and so a short line.
 fitting-short : (r : Row) → RowFits r → length (rowText r) ≤ mostRow
 unfolding rowText
 fitting-short r h =

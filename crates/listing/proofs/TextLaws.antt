@@ -1,4 +1,4 @@
--- The lines of a listing: one law for each part that is put.
+-- Laws about the lines of a listing: one law for each part that is put.
 use Prim.Native.Nat.{ℕ, suc, _+_, _*_, _-_, _/_, _^_, _≤_, _<_}
 use native.Mathlib.Omega.{arith}
 use mathlib.Core.Path.{_≡_, refl, ap, _∙_}
@@ -28,14 +28,14 @@ use Rattle.outline.specs.Row.{rowAt}
 use Rattle.listing.specs.Text.{lineText, mostLine, mostShort, mostRow, rowTexts, verdictText, fileText, mostFile}
 use Rattle.listing.proofs.ShortLaws.{row-short}
 
--- numbers with a space between each two, and a line end
+-- Numbers with a space between each two, followed by a line end, are a `sentence`.
 sentence-decimals : (ns : List ℕ) → decimals (text " ") ns ++ text "\n" ≡ sentence (map decimal ns)
 unfolding sentence decimals
 sentence-decimals [] = refl
 sentence-decimals (n ∷ []) = refl
 sentence-decimals (n ∷ m ∷ ns) = rw (← sentence-decimals (m ∷ ns)) (append-assoc (decimal n ++ text " ") (decimals (text " ") (m ∷ ns)) (text "\n"))
 
--- a line of numbers after some text is put
+-- If a text, numbers and a line end are put one after another, a line is put.
 pub line-put : (out a b c : Bytes) (at p q r : ℕ) (start : Bytes) (ns : List ℕ) → PutWhole out a at start (length start) p
     → PutDecimals a b p (text " ") ns q
     → PutWhole b c q (text "\n") 1 r
@@ -44,13 +44,13 @@ line-put out a b c at p q r start ns one two three =
     put-same (ap (λ (t : Bytes). start ++ t) (sentence-decimals ns)) (omega arith) (parts-put (whole-put one) (parts-put (decimals-put two) (whole-put three)))
 
 module _ (out after : Bytes) (x : ℕ) where
-  -- a refusal
+  -- The line of a refusal is put.
   pub refused-put : (r : Refusal) → PutAt out after 0 (lineText (text "refused ") (r .number ∷ r .place .0 ∷ [])) (mostLine 8 2) x
       → PutAt out after 0 (printed (refused r)) mostShort x
   unfolding printed sentence
   refused-put r = put-same refl (omega arith)
 
-  -- a tree, or none
+  -- The line of a tree is put. Case: there is no tree. Case: there is one.
   pub no-tree-put : (t : Tree) → t ≡ NoTree → PutWhole out after 0 (text "tree none\n") 10 x → PutAt out after 0 (treeText t) mostShort x
   unfolding treeText sentence
   no-tree-put t e put = rw e (put-same refl (omega arith) (whole-put put))
@@ -60,19 +60,19 @@ module _ (out after : Bytes) (x : ℕ) where
   unfolding treeText sentence
   tree-put t n e m is put = rw is (put-same refl (omega arith) put)
 
-  -- a verdict
+  -- The line of a verdict is put.
   pub verdict-put : (at : ℕ) (v w : Verdict) → v ≡ w → PutWhole out after at (verdictText w) (length (verdictText w)) x → length (verdictText w) ≤ mostShort
       → PutAt out after at (verdictText v) mostShort x
   verdict-put at v w e put few = rw e (put-same refl few (whole-put put))
 
--- a row
+-- The line of a row is put.
 pub row-put : (out after : Bytes) (at x : ℕ) (r : Row) (numbers : List ℕ) → numbers ≡ rowFields r
     → PutAt out after at (lineText [] numbers) (mostLine 0 (length numbers)) x
     → PutAt out after at (rowText r) (mostLine 0 10) x
 unfolding rowText
 row-put out after at x r numbers e put = rw e at put
 
--- row number k is read from its bytes
+-- The outline `b` holds all bytes of row `k`, and `x` is the answer of the function that reads this row.
 module _ (b : Bytes) (k : ℕ) (h : k * rowBytes + rowBytes ≤ length b) (x : RowAnswer) (read : rowAnswer x ≡ accepted (rowAt b (k * rowBytes))) where
   abbrev here : Row
   here = decodeRow (take rowBytes (drop (k * rowBytes) b))
@@ -90,7 +90,7 @@ module _ (b : Bytes) (k : ℕ) (h : k * rowBytes + rowBytes ≤ length b) (x : R
       let whole = rw row at put in
       record { buffer = whole .buffer; size = whole .size; end = whole .end; few = row-short (take rowBytes (drop (k * rowBytes) b)) }
 
-  -- so it is not missing, and not refused
+  -- The row exists, so the answer is neither `NoSuchRow` nor a refusal.
   pub row-not-none : x ≡ RowAnswer·is.NoSuchRow → (out : Bytes) (at : ℕ) → PutAt out out at (rowText here) mostRow at
   unfolding rowAnswer
   row-not-none e out at =
@@ -105,11 +105,11 @@ module _ (b : Bytes) (k : ℕ) (h : k * rowBytes + rowBytes ≤ length b) (x : R
       let z : _≡_ {A = ℕ} 0 1 = cc in
       absurd (omega arith)
 
--- the first n rows of an outline are put
+-- The lines of the first `n` rows of an outline are put.
 abbrev PutRows : Bytes → Bytes → ℕ → ℕ → Bytes → ℕ → Type 0
 PutRows out after at n b r = PutAt out after at (rowTexts n b) (mostRow * n) r
 
--- the rows from k on are left: putting them puts all
+-- The invariant: the rows from `k` on remain to be put. Once they are put, all rows are put.
 pub record Rows (before : Bytes) (at : ℕ) (b out : Bytes) (end k : ℕ) : Type 0 where
   pub inside : k ≤ length b / rowBytes
   pub size : length out ≡ length before
@@ -118,17 +118,17 @@ pub record Rows (before : Bytes) (at : ℕ) (b out : Bytes) (end k : ℕ) : Type
       → PutRows before after at (length b / rowBytes) b r
 
 module _ (before : Bytes) (at : ℕ) (b : Bytes) where
-  -- all are left
+  -- At the start, all rows are left.
   pub rows-start : at < 2 ^ 64 → Rows before at b before at 0
   rows-start h = record { inside = omega arith; size = refl; fits = h; left = λ {after} {r} put. let all : length b / rowBytes - 0 ≡ length b / rowBytes = omega arith in rw all at put }
 
   module _ (out : Bytes) (end k : ℕ) (h : Rows before at b out end k) where
-    -- another is left
+    -- Case: another row is left.
     module _ (p : k < length b / rowBytes) where
       pub rows-inside : k * rowBytes + rowBytes ≤ length b
       rows-inside = omega arith
 
-      -- it is put
+      -- Once this row is put, the invariant holds for `k + 1`.
       pub rows-step : (after : Bytes) (r : ℕ) → PutAt out after end (rowText (decodeRow (take rowBytes (drop (k * rowBytes) b)))) mostRow r
           → Rows before at b after r (k + 1)
       unfolding flatMap
@@ -143,14 +143,14 @@ module _ (before : Bytes) (at : ℕ) (b : Bytes) where
             h .left (rw (more, drop-drop) (put-same refl (omega arith) (parts-put put (rw next at rest))));
       }
 
-    -- none is left
+    -- Case: no row is left, so all rows are put.
     pub rows-done : length b / rowBytes ≤ k → PutRows before out at (length b / rowBytes) b end
     unfolding flatMap
     rows-done p =
         let none : length b / rowBytes - k ≡ 0 = omega arith in
         h .left (rw none (nothing-put (h .fits)))
 
--- all lines of a file
+-- If the tree, the rows and the verdict are put one after another, all lines of the file are put.
 pub file-put : (out a c after : Bytes) (p q r : ℕ) (t : Tree) (b : Bytes) (v : Verdict) → PutAt out a 0 (treeText t) mostShort p
     → PutRows a c p (length b / rowBytes) b q
     → PutAt c after q (verdictText v) mostShort r

@@ -1,3 +1,3 @@
--- What the contracts of the listing cite.
+-- Definitions that the conditions and promises of the listing cite.
 pub mod Text
 pub mod Listing

@@ -1,4 +1,4 @@
--- Parts of a listing's text, and the most bytes that each can have.
+-- Parts of a listing's text, and the maximum number of bytes in each.
 use Prim.Native.Nat.{ℕ, _+_, _*_, _/_}
 use mathlib.Core.List.{List, [], _∷_, _++_, map, flatMap}
 use lib.ListN.{length}
@@ -11,32 +11,34 @@ use Rattle.format.specs.Listing.{sentence, treeText, rowText, verdictWord}
 use Rattle.outline.specs.Row.{rowsIn}
 use Rattle.put.specs.Put.{mostDecimals}
 
--- a line of numbers after some text
+-- The text `start`, followed by a line of numbers.
 abbrev pub lineText : Bytes → List ℕ → Bytes
 lineText start ns = start ++ sentence (map decimal ns)
 
+-- The maximum number of bytes in such a line, if the text has `start` bytes and `count` numbers follow.
 abbrev pub mostLine : ℕ → ℕ → ℕ
 mostLine start count = start + (mostDecimals (text " ") count + 1)
 
--- every line but a row's is shorter
+-- A bound for every line except a row's, in bytes: each of these lines is shorter.
 abbrev pub mostShort : ℕ
 mostShort = 64
 
--- the line of a row that is read from sixteen bytes, which hold no long numbers
+-- The maximum number of bytes in the line of a row. The row is read from sixteen bytes, which hold no long numbers.
 abbrev pub mostRow : ℕ
 mostRow = 53
 
--- a line for each of the first n rows of an outline
+-- One line for each of the first `n` rows of an outline.
 abbrev pub rowTexts : ℕ → Bytes → Bytes
 rowTexts n b = flatMap rowText (rowsIn n b)
 
+-- The line of a verdict.
 abbrev pub verdictText : Verdict → Bytes
 verdictText v = sentence (text "index" ∷ verdictWord v ∷ [])
 
--- the lines of a file with this tree, this outline and this verdict
+-- The lines of a file with the tree `t`, the outline `b` and the verdict `v`.
 abbrev pub fileText : Tree → Bytes → Verdict → Bytes
 fileText t b v = treeText t ++ rowTexts (length b / rowBytes) b ++ verdictText v
 
--- the most bytes that they have where there are so many rows
+-- The maximum number of bytes in these lines, if there are `count` rows.
 abbrev pub mostFile : ℕ → ℕ
 mostFile count = mostShort + mostRow * count + mostShort

@@ -21,18 +21,18 @@ use put::text::write_text;
 // The longest file that is listed, in bytes.
 pub const MOST_INPUT: usize = 65536;
 
-// The bytes of a buffer that is long enough for every listing and every outline.
+// The bytes of a buffer that is long enough for every listing and for every outline of a listed file.
 pub const LENT_BYTES: usize = 65536;
 
-// The most bytes of the outline of a listed file.
+// The maximum number of bytes in the outline of a listed file.
 const MOST_OUTLINE: usize = MOST_INPUT / LEAST_BLOCK * ROW_BYTES;
 
-// Every line but a row's is shorter.
+// A bound for every line except a row's, in bytes: each of these lines is shorter.
 const MOST_SHORT: usize = 64;
 
-// Writes the listing of a file at the start of one buffer and the file's outline at the start of another, and answers how
-// many bytes the listing has; or 21 where one of the buffers is too short, and then neither changes. A file that is refused
-// or too long has one line for its listing and no outline.
+// Writes the listing of a file at the start of `out` and the file's outline at the start of `rows`, and answers how
+// many bytes the listing has. If one of the buffers is too short, the answer is refusal 21 and neither buffer changes.
+// A file that is refused or too long has one line as its listing, and no outline.
 pub fn list(s: &[u8], rows: &mut [u8], out: &mut [u8]) -> CountAnswer
     ensures { λ r. ⌜ Listed (now (s .entry)) (now (rows .entry)) (now (out .entry)) (now (rows .exit)) (now (out .exit)) r ⌝ }
 {
@@ -46,7 +46,8 @@ pub fn list(s: &[u8], rows: &mut [u8], out: &mut [u8]) -> CountAnswer
     list_outlined(s, answer, written, &own, rows, out)
 }
 
-// The same with buffers that are long enough for every file: the first bytes of one are the listing.
+// Does the same as `list`, with buffers that are long enough for every file. The listing is at the start of `out`, and
+// its length is returned.
 pub fn list_lent(s: &[u8], rows: &mut [u8; LENT_BYTES], out: &mut [u8; LENT_BYTES]) -> usize
     ensures { λ r. ⌜ ListedLent (now (s .entry)) (now (rows .entry)) (now (out .entry)) (now (rows .exit)) (now (out .exit)) r ⌝ }
 {
@@ -65,7 +66,8 @@ fn write_refused(r: Refusal, out: &mut [u8]) -> CountAnswer
     write_text(&own[..end], out)
 }
 
-// The same for a file of this layout, whose outline was written into a buffer that is long enough.
+// Does the same as `list` for a file that was already read with this answer, and whose outline was written into `own`,
+// a buffer that is long enough.
 fn list_outlined(
     s: &[u8],
     answer: LayoutAnswer,
@@ -90,8 +92,8 @@ fn list_outlined(
     }
 }
 
-// Writes an outline and the text of an accepted file that has it. The text is measured first, so that a refusal changes
-// nothing.
+// Writes the outline `b` and the text of an accepted file that has this outline. The text is measured first, so that a
+// refusal changes nothing.
 fn write_both(b: &[u8], l: Layout, rows: &mut [u8], out: &mut [u8]) -> CountAnswer
     requires { ⌜ length (now b) ≤ mostOutline ⌝ }
     ensures { λ r. ⌜ BothShort (now (b .entry)) (fileText (l .tree) (now (b .entry)) (l .verdict)) (now (rows .entry)) (now (out .entry)) (now (rows .exit)) (now (out .exit)) r ⌝ }

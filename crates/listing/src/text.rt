@@ -1,5 +1,6 @@
-// Parts of the text, put at an offset of a buffer. Each function answers where its part ends, also where the buffer is too
-// short: what is put into an empty buffer is only measured. Each promise names the most bytes that the part can have.
+// Puts the parts of the text at an offset of a buffer. Each function answers where its part ends, even if the buffer is
+// too short: to measure a part, it is put into a buffer that is too short for it. Each promise states the maximum
+// number of bytes in the part.
 ghost use Prim.Native.Nat.{_+_, _*_, _/_, _≤_};
 ghost use lib.ListN.{length, take, drop};
 ghost use Rattle.format.specs.Listing.{printed, rowText, treeText};
@@ -17,7 +18,7 @@ use outline::row;
 use put::decimal::put_decimals;
 use put::text::put_text;
 
-// A line of numbers after some text.
+// Puts a text and a line of numbers after it.
 fn put_line(out: &mut [u8], at: usize, start: &[u8], numbers: &[u64]) -> usize
     ensures { λ r. ⌜ PutAt (now (out .entry)) (now (out .exit)) at (lineText (now (start .entry)) (now (numbers .entry))) (mostLine (length (now (start .entry))) (length (now (numbers .entry)))) r ⌝ }
 {
@@ -26,7 +27,7 @@ fn put_line(out: &mut [u8], at: usize, start: &[u8], numbers: &[u64]) -> usize
     put_text(out, to, b"\n")
 }
 
-// The line of a refusal.
+// Puts the line of a refusal.
 pub(crate) fn put_refused(out: &mut [u8], r: Refusal) -> usize
     ensures { λ x. ⌜ PutAt (now (out .entry)) (now (out .exit)) 0 (printed (refused r)) mostShort x ⌝ }
 {
@@ -34,7 +35,7 @@ pub(crate) fn put_refused(out: &mut [u8], r: Refusal) -> usize
     put_line(out, 0, b"refused ", &numbers)
 }
 
-// The line of a tree.
+// Puts the line of a tree.
 fn put_tree(out: &mut [u8], t: Tree) -> usize
     ensures { λ r. ⌜ PutAt (now (out .entry)) (now (out .exit)) 0 (treeText t) mostShort r ⌝ }
 {
@@ -51,7 +52,8 @@ fn put_tree(out: &mut [u8], t: Tree) -> usize
     }
 }
 
-// The line of a row. Its bound is that of any ten numbers: it does not know that the row was read from its bytes.
+// Puts the line of a row. The bound is the bound for any ten numbers, because this function does not know that the row
+// was read from sixteen bytes.
 fn put_row(out: &mut [u8], at: usize, r: Row) -> usize
     ensures { λ x. ⌜ PutAt (now (out .entry)) (now (out .exit)) at (rowText r) (mostLine 0 10) x ⌝ }
 {
@@ -59,7 +61,7 @@ fn put_row(out: &mut [u8], at: usize, r: Row) -> usize
     put_line(out, at, b"", &numbers)
 }
 
-// The line of row number k of an outline.
+// Puts the line of row `k` of an outline.
 fn put_row_at(out: &mut [u8], at: usize, b: &[u8], k: usize) -> usize
     requires { ⌜ k * rowBytes + rowBytes ≤ length (now b) ⌝ }
     ensures { λ x. ⌜ PutAt (now (out .entry)) (now (out .exit)) at (rowText (decodeRow (take rowBytes (drop (k * rowBytes) (now (b .entry)))))) mostRow x ⌝ }
@@ -71,7 +73,7 @@ fn put_row_at(out: &mut [u8], at: usize, b: &[u8], k: usize) -> usize
     }
 }
 
-// The lines of all rows of an outline.
+// Puts the lines of all rows of an outline.
 fn put_rows(out: &mut [u8], at: usize, b: &[u8]) -> usize
     ensures { λ r. ⌜ PutAt (now (out .entry)) (now (out .exit)) at (rowTexts (length (now (b .entry)) / rowBytes) (now (b .entry))) (mostRow * (length (now (b .entry)) / rowBytes)) r ⌝ }
 {
@@ -84,7 +86,7 @@ fn put_rows(out: &mut [u8], at: usize, b: &[u8]) -> usize
     end
 }
 
-// The line of a verdict.
+// Puts the line of a verdict.
 fn put_verdict(out: &mut [u8], at: usize, v: Verdict) -> usize
     ensures { λ r. ⌜ PutAt (now (out .entry)) (now (out .exit)) at (verdictText v) mostShort r ⌝ }
 {
@@ -96,7 +98,7 @@ fn put_verdict(out: &mut [u8], at: usize, v: Verdict) -> usize
     }
 }
 
-// All lines of an accepted file, whose outline is b.
+// Puts all lines of an accepted file whose outline is `b`.
 pub(crate) fn put_file(out: &mut [u8], t: Tree, b: &[u8], v: Verdict) -> usize
     ensures { λ r. ⌜ PutAt (now (out .entry)) (now (out .exit)) 0 (fileText t (now (b .entry)) v) (mostFile (length (now (b .entry)) / rowBytes)) r ⌝ }
 {

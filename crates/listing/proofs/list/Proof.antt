@@ -1,4 +1,4 @@
--- One line where the file is too long, and else what the layout and the outline tell.
+-- A file that is too long gives one line. Otherwise the layout and the outline decide what is written.
 use borrow.Author.Needs.{needs}
 use Rattle.listing.proofs.ListLaws.{listed-long, outlined-by}
 use Rattle.listing.proofs.list.Statement.{statement}

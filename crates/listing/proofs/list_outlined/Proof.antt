@@ -1,4 +1,4 @@
--- A refused file has one line; an accepted one has an outline, and both are written from it.
+-- A refused file gives one line. An accepted file has an outline, from which both results are written.
 use borrow.Author.Needs.{needs}
 use Rattle.listing.proofs.ListLaws.{listed-refused, outline-refused, outline-inside, outline-length, outline-small, outline-listed}
 use Rattle.listing.proofs.list_outlined.Statement.{statement}

@@ -1,4 +1,4 @@
--- One of the two does not fit, or both are put.
+-- Either the outline or the text does not fit, or both are put.
 use borrow.Author.Needs.{needs}
 use Rattle.listing.proofs.ListLaws.{outline-long, text-long, both-put}
 use Rattle.listing.proofs.write_both.Statement.{statement}

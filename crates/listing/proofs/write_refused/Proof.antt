@@ -1,4 +1,4 @@
--- The line is made in a buffer of its own, and written from there.
+-- The line is made in a buffer of its own and written from there.
 use borrow.Author.Needs.{needs}
 use Rattle.put.proofs.WrittenLaws.{own-inside, own-length}
 use Rattle.listing.proofs.ListLaws.{line-written}

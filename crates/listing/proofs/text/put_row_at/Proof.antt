@@ -1,4 +1,4 @@
--- The row is there.
+-- By its condition the row exists, so reading it always finds one.
 use borrow.Author.Needs.{needs}
 use Rattle.listing.proofs.TextLaws.{row-at-put, row-not-none, row-not-refused}
 use Rattle.listing.proofs.text.put_row_at.Statement.{statement}

@@ -1,4 +1,4 @@
--- The invariant: the rows from k on are left to put.
+-- The invariant: the rows from `k` on remain to be put.
 use Prim.Native.Nat.{_-_, _/_}
 use lib.ListN.{length}
 use borrow.Author.Needs.{needs}

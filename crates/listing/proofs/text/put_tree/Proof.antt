@@ -1,4 +1,4 @@
--- The line is one of two kinds.
+-- There are two kinds of line: one for no tree, and one for a tree.
 use borrow.Author.Needs.{needs}
 use Rattle.listing.proofs.TextLaws.{no-tree-put, tree-put}
 use Rattle.listing.proofs.text.put_tree.Statement.{statement}

@@ -1,4 +1,4 @@
--- One line for each verdict.
+-- Each verdict has its own line.
 use borrow.Author.Needs.{needs}
 use Rattle.format.specs.Listing.{sentence, verdictWord}
 use Rattle.listing.proofs.TextLaws.{verdict-put}
