@@ -1,4 +1,4 @@
-// Prints the listing of each file that an argument names, with the name before it.
+// Prints the name and the listing of each file that an argument names.
 ghost use mathlib.Core.Path.{_≡_};
 ghost use Rattle.format.specs.Listing.{listing};
 use libc::STDOUT_FILENO;
@@ -11,7 +11,8 @@ fn main() {
     }
 }
 
-// Prints the name that argument i gives and the listing of that file, or says on standard error why it cannot be opened.
+// Prints the name that argument `i` gives, and the listing of that file. If the file cannot be opened, reports why on
+// standard error.
 fn print_case(i: usize) {
     let mut path = io::buffer();
     let n = os::arg(i, &mut path);
@@ -28,13 +29,13 @@ fn print_case(i: usize) {
 
 // Prints the listing of an open file.
 fn print_file(fd: i32) {
-    // One byte more than is taken, to see that the file is too long.
+    // One byte more than the listing takes, so that a file that is too long is noticed.
     let mut input = [0u8; MOST_INPUT + 1];
     let n = io::read_full(fd, &mut input);
     print_listing(&input[..n]);
 }
 
-// Prints the listing of a file's bytes.
+// Prints the listing of the bytes of a file.
 fn print_listing(s: &[u8]) {
     let mut rows = io::large_buffer();
     let mut out = io::large_buffer();
@@ -42,7 +43,8 @@ fn print_listing(s: &[u8]) {
     write_listing(s, &out[..n]);
 }
 
-// Writes a text to standard output, which is the listing of s. Beside the names nothing else is written.
+// Writes a text to standard output. Its condition is that the text is the listing of `s`. Apart from the names, nothing
+// else is written.
 fn write_listing(s: &[u8], text: &[u8])
     requires { ⌜ now text ≡ listing (now s) ⌝ }
 {

@@ -1,4 +1,4 @@
-// The program: prints the listing of what comes on standard input, of up to 65,536 bytes.
+// The program: prints the listing of the file that it reads from standard input. It takes up to 65,536 bytes.
 ghost use mathlib.Core.Path.{_≡_};
 ghost use Rattle.format.specs.Listing.{listing};
 use libc::STDIN_FILENO;
@@ -6,7 +6,7 @@ use libc::STDOUT_FILENO;
 use listing::MOST_INPUT;
 
 fn main() {
-    // One byte more than is taken, to see that the input is too long.
+    // One byte more than the program takes, so that an input that is too long is noticed.
     let mut input = [0u8; MOST_INPUT + 1];
     let n = io::read_full(STDIN_FILENO, &mut input);
     print_listing(&input[..n]);
@@ -20,7 +20,8 @@ fn print_listing(s: &[u8]) {
     write_listing(s, &out[..n]);
 }
 
-// Writes a text to standard output. Nothing else in this program writes, and what is written is the listing of s.
+// Writes a text to standard output. Its condition is that the text is the listing of `s`, and nothing else in this
+// program writes.
 fn write_listing(s: &[u8], text: &[u8])
     requires { ⌜ now text ≡ listing (now s) ⌝ }
 {

@@ -1,4 +1,4 @@
--- The loop ends at the last argument. Nothing has to hold from turn to turn.
+-- The loop ends after the last argument. It needs no invariant.
 use Prim.Native.Nat.{_-_}
 use borrow.Author.Needs.{needs}
 use Rattle.cases.proofs.main.Statement.{statement}
