@@ -1,6 +1,7 @@
 /* Lists an ASDF file: where the tree is, a line for each block, and the verdict on the index.
  *
- * Status 0; 1 where the file is refused, with its number and place in the place of the listing; 2 where it cannot be read. */
+ * The status is 0 if the file is accepted. If it is refused, the status is 1, and the number and the place of the
+ * refusal are printed instead of the listing. If the file cannot be read, the status is 2. */
 #include "asdf_layout.h"
 
 #include <inttypes.h>
@@ -9,7 +10,7 @@
 
 static const char *const VERDICTS[] = {"absent", "good", "ignored-form", "ignored-list"};
 
-/* Reads a whole file into memory that the caller frees; NULL where that fails. */
+/* Reads a whole file into memory, which the caller has to free. Returns NULL if that fails. */
 static uint8_t *read_file(const char *name, size_t *length)
 {
     uint8_t *bytes = NULL;
@@ -20,7 +21,7 @@ static uint8_t *read_file(const char *name, size_t *length)
         long end = ftell(file);
         rewind(file);
         *length = end < 0 ? 0 : (size_t)end;
-        /* One byte more, so that an empty file is not taken for a failure. */
+        /* One byte more, because malloc(0) may return NULL, and an empty file is not a failure. */
         bytes = end < 0 ? NULL : malloc(*length + 1);
     }
     if (bytes != NULL && fread(bytes, 1, *length, file) != *length) {
@@ -31,7 +32,7 @@ static uint8_t *read_file(const char *name, size_t *length)
     return bytes;
 }
 
-/* Prints a refusal and gives the status for it. */
+/* Prints a refusal and returns the status for it. */
 static int refused(uint64_t word)
 {
     printf("refused %d %" PRIu64 "\n", ASDF_REFUSAL_NUMBER(word), ASDF_REFUSAL_PLACE(word));
@@ -61,7 +62,7 @@ static void print_record(const uint8_t *record)
            checksum != 0, asdf_number(record, ASDF_RECORD_INNER));
 }
 
-/* Prints the lines of all blocks, those of inner files too; a refusal, or 0. */
+/* Prints the lines of all blocks, including those of inner files. Returns 0, or a refusal. */
 static uint64_t print_records(const uint8_t *file, size_t length)
 {
     uint64_t count = asdf_count(file, length);
@@ -77,7 +78,7 @@ static uint64_t print_records(const uint8_t *file, size_t length)
     return ASDF_IS_REFUSAL(written) ? written : 0;
 }
 
-/* Lists the bytes of a file. */
+/* Prints the listing of a file with these bytes, and returns the status. */
 static int list(const uint8_t *file, size_t length)
 {
     uint8_t layout[ASDF_LAYOUT_BYTES];
@@ -97,7 +98,7 @@ int main(int count, char **words)
     size_t length = 0;
     uint8_t *file = count == 2 ? read_file(words[1], &length) : NULL;
     if (file == NULL) {
-        fprintf(stderr, "usage: list FILE, which can be read\n");
+        fprintf(stderr, "usage: list FILE (a file that can be read)\n");
         return 2;
     }
     int status = list(file, length);

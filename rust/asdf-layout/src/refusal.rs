@@ -51,7 +51,7 @@ enum Place {
 macro_rules! reasons {
     ($($number:literal $name:ident $place:ident $words:literal,)*) => {
         impl Refusal {
-            $(#[doc = concat!($words, ".")] pub const $name: u8 = $number;)*
+            $(#[doc = concat!("Refusal ", $number, ": ", $words, ".")] pub const $name: u8 = $number;)*
         }
 
         /// All reasons, by their numbers.
@@ -67,23 +67,23 @@ reasons! {
     3 VERSION_MALFORMED Here "version line is malformed or has no line end",
     4 VERSION_NOT_ONE Here "first version number is not 1",
     5 COMMENT_NOT_ENDED Line "comment line has no line end",
-    6 INDEX_AMONG_COMMENTS Line "first line of a block index stands among the comments",
-    7 NEITHER_TREE_NOR_BLOCK Here "behind the comments is neither a tree nor a block nor the end of the file",
-    8 WRONG_LINE_BEFORE_START Line "wrong line stands before the start line of the tree",
+    6 INDEX_AMONG_COMMENTS Line "first line of a block index is among the comments",
+    7 NEITHER_TREE_NOR_BLOCK Here "after the comments there is neither a tree nor a block nor the end of the file",
+    8 WRONG_LINE_BEFORE_START Line "wrong line comes before the start line of the tree",
     9 SECOND_START_LINE Line "tree has a second start line",
     10 TREE_NOT_ENDED Here "tree does not end: its next line has no line end or is missing",
     11 HEADER_PASSES_END Block "block header passes the end of the file",
     12 HEADER_TOO_SMALL Block "header size is below 48",
     13 USED_ABOVE_ALLOCATED Block "used size is above allocated size",
-    14 DATA_SIZE_DIFFERS Block "data size differs from used size and nothing is compressed",
+    14 DATA_SIZE_DIFFERS Block "data size differs from used size although the content is not compressed",
     15 ALLOCATED_PASSES_END Block "allocated space passes the end of the file",
     16 TOO_MANY_BLOCKS Here "there is a 65th block mark",
-    17 STRAY_TAIL Here "stray bytes follow the last block: neither zeros only nor an index, and no mark after them",
-    18 EDIT_WITHOUT_TREE Whole "file has no tree to be edited",
+    17 STRAY_TAIL Here "stray bytes follow the last block: not all zeros, not an index, and no mark after them",
+    18 EDIT_WITHOUT_TREE Whole "file has no tree to edit",
     19 TEXT_NOT_ONE_TREE Whole "text is not exactly one tree",
     20 TEXT_LONGER_THAN_ROOM Whole "text is longer than the room of the tree",
     21 BUFFER_TOO_SHORT Whole "lent buffer is shorter than the result",
-    22 NO_INDEX_POSSIBLE Whole "file can have no index: it has no block, or its last block is streamed",
+    22 NO_INDEX_POSSIBLE Whole "file cannot have an index: it has no block, or its last block is streamed",
     23 OUTLINE_LENGTH Whole "length of the outline is not divisible by 16",
     24 OUTLINE_ROW Row "row of the outline breaks a rule",
 }
