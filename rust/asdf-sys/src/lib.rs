@@ -1,27 +1,29 @@
-//! The boundary to the proved functions: slices are lent to them, and the number that they return is handed on as it is.
+//! The boundary to the proved functions of `libasdf.a`.
 //!
-//! A returned number is how many bytes stand at the start of `out`, or the count that was asked for, or a refusal:
-//! [`answer`] tells them apart. A refusal changes no byte; what is behind a result is unchanged. A buffer that is too
-//! short is refused with 21.
+//! Each function lends slices to a proved function and passes on the number that it returns. This
+//! number is how many bytes were written at the start of `out`, or the count that was asked for, or
+//! a refusal: [`answer`] tells them apart. A refusal changes no byte. The bytes of `out` after a
+//! result are unchanged. A buffer that is too short is refused with 21.
 //!
-//! Every call keeps the caller's duties of `include/asdf_layout.h`: a slice is no longer than `isize::MAX`, is never
-//! null, and a slice that can be changed overlaps no other.
+//! Every call fulfils the caller's duties of `include/asdf_layout.h`: a slice is no longer than
+//! `isize::MAX` and is never null, and a slice that can be changed overlaps no other.
 
 /// The bytes of one number in a buffer, the most significant first.
 pub const NUMBER_BYTES: usize = 8;
-/// How many numbers tell a layout.
+/// How many numbers a layout has.
 pub const LAYOUT_NUMBERS: usize = 12;
-/// How many numbers tell a block.
+/// How many numbers a block has.
 pub const BLOCK_NUMBERS: usize = 10;
-/// How many numbers tell a record: five and those of its block.
+/// How many numbers a record has: five, and those of its block.
 pub const RECORD_NUMBERS: usize = 15;
-/// How many numbers tell a row of a stored outline.
+/// How many numbers a row of a stored outline has.
 pub const ROW_NUMBERS: usize = 10;
-/// The bytes of a row in an outline.
+/// How many bytes a row of an outline has.
 pub const ROW_BYTES: usize = 16;
-/// No index is longer.
+/// The maximum length of an index, in bytes.
 pub const LONGEST_INDEX: usize = 809;
-/// A refusal's place takes these low bits of a returned number, its own number the bits above.
+/// How many low bits of a returned number hold the place of a refusal. The bits above hold the
+/// refusal's number.
 pub const PLACE_BITS: u32 = 56;
 
 extern "C" {
@@ -69,12 +71,12 @@ extern "C" {
 
 /// A proved function that only counts.
 type Counter = unsafe extern "C" fn(*const u8, usize) -> u64;
-/// A proved function that writes what it finds.
+/// A proved function that writes a result.
 type Writer = unsafe extern "C" fn(*const u8, usize, *mut u8, usize) -> u64;
-/// A proved function that writes the one thing with a number.
+/// A proved function that writes the one item with a given number.
 type NumberedWriter = unsafe extern "C" fn(*const u8, usize, u64, *mut u8, usize) -> u64;
 
-/// What a returned number says: a count, or the number and the place of a refusal.
+/// Reads a returned number: as a count, or as the number and the place of a refusal.
 pub fn answer(word: u64) -> Result<u64, (u8, u64)> {
     let number = (word >> PLACE_BITS) as u8;
     let rest = word & ((1 << PLACE_BITS) - 1);
@@ -84,82 +86,88 @@ pub fn answer(word: u64) -> Result<u64, (u8, u64)> {
     }
 }
 
-/// Asks for the layout of a file.
+/// Writes the layout of a file.
 pub fn read(file: &[u8], out: &mut [u8]) -> u64 {
     written(asdf_read, file, out)
 }
 
-/// Asks for the block of an ordinal; no bytes where there is none.
+/// Writes the block with this ordinal. If there is no such block, no bytes are written.
 pub fn block(file: &[u8], ordinal: u64, out: &mut [u8]) -> u64 {
     written_at(asdf_block, file, ordinal, out)
 }
 
-/// Asks how many rows a file has: its blocks, and those of the files inside.
+/// Returns how many rows a file has: one for each of its blocks, and for each block of the files
+/// inside.
 pub fn count(file: &[u8]) -> u64 {
     counted(asdf_count, file)
 }
 
-/// Asks for the outline of a file.
+/// Writes the outline of a file.
 pub fn outline(file: &[u8], out: &mut [u8]) -> u64 {
     written(asdf_outline, file, out)
 }
 
-/// Asks for the record of a number in walking order; no bytes where there is none.
+/// Writes the record with this number in walking order. If there is no such record, no bytes are
+/// written.
 pub fn record(file: &[u8], number: u64, out: &mut [u8]) -> u64 {
     written_at(asdf_record, file, number, out)
 }
 
-/// Asks for all records.
+/// Writes all records of a file, in walking order.
 pub fn records(file: &[u8], out: &mut [u8]) -> u64 {
     written(asdf_records, file, out)
 }
 
-/// Asks for the text of a file's index.
+/// Writes the text of a block index for a file.
 pub fn index(file: &[u8], out: &mut [u8]) -> u64 {
     written(asdf_index, file, out)
 }
 
-/// Asks how many rows a stored outline has.
+/// Returns how many rows a stored outline has.
 pub fn stored_count(stored: &[u8]) -> u64 {
     counted(asdf_stored_count, stored)
 }
 
-/// Asks for the row of a number in a stored outline; no bytes where there is none.
+/// Writes the numbers of one row of a stored outline. If there is no row with this number, no bytes
+/// are written.
 pub fn stored_row(stored: &[u8], number: u64, out: &mut [u8]) -> u64 {
     written_at(asdf_stored_row, stored, number, out)
 }
 
-/// Asks for all rows of a stored outline.
+/// Writes the numbers of all rows of a stored outline.
 pub fn stored_rows(stored: &[u8], out: &mut [u8]) -> u64 {
     written(asdf_stored_rows, stored, out)
 }
 
-/// Asks for a stored outline to be written again.
+/// Reads a stored outline and writes it again.
 pub fn rewrite(stored: &[u8], out: &mut [u8]) -> u64 {
     written(asdf_rewrite, stored, out)
 }
 
-/// Asks for a file's tree to be replaced by a text; 0 where it was.
+/// Replaces the tree of a file by a text, and returns 0 if that is done.
 pub fn edit(file: &mut [u8], text: &[u8]) -> u64 {
-    // SAFETY: both pointers come from slices with these lengths, live through the call, and do not overlap.
+    // SAFETY: both pointers come from slices with these lengths, which live through the call and do
+    // not overlap.
     unsafe { asdf_edit(file.as_mut_ptr(), file.len(), text.as_ptr(), text.len()) }
 }
 
-/// Asks a function that only counts.
+/// Calls a function that only counts.
 fn counted(counter: Counter, bytes: &[u8]) -> u64 {
-    // SAFETY: the pointer comes from a slice with this length, and lives through the call.
+    // SAFETY: the pointer comes from a slice with this length, which lives through the call.
     unsafe { counter(bytes.as_ptr(), bytes.len()) }
 }
 
-/// Asks a function that writes what it finds.
+/// Calls a function that writes a result.
 fn written(writer: Writer, bytes: &[u8], out: &mut [u8]) -> u64 {
-    // SAFETY: both pointers come from slices with these lengths, live through the call, and do not overlap.
+    // SAFETY: both pointers come from slices with these lengths, which live through the call and do
+    // not overlap.
     unsafe { writer(bytes.as_ptr(), bytes.len(), out.as_mut_ptr(), out.len()) }
 }
 
-/// Asks a function that writes the one thing with this number.
+/// Calls a function that writes the one item with this number.
 fn written_at(writer: NumberedWriter, bytes: &[u8], number: u64, out: &mut [u8]) -> u64 {
     let (start, length) = (bytes.as_ptr(), bytes.len());
-    // SAFETY: both pointers come from slices with these lengths, live through the call, and do not overlap.
+    // SAFETY: both pointers come from slices with these lengths, which live through the call and do
+    // not overlap.
     unsafe { writer(start, length, number, out.as_mut_ptr(), out.len()) }
 }

@@ -1,5 +1,6 @@
-//! The functions are said three times, by the proved exports, by the C header and by this crate: with the same names,
-//! and parameters of the same kinds in the same order.
+//! Checks that the three declarations of each function agree: in the proved exports, in the C
+//! header and in this crate. The names have to be the same, and so do the kinds of the parameters
+//! and their order.
 
 use std::collections::BTreeMap;
 use std::fs;
@@ -8,21 +9,22 @@ use std::path::Path;
 /// The repository's root, from this package's folder.
 const ROOT: &str = concat!(env!("CARGO_MANIFEST_DIR"), "/../..");
 
-/// The parameters of each function by its name, and what it returns behind them, in the words of C.
+/// The C types of each function by its name: those of its parameters, followed by the type that it
+/// returns.
 type Declarations = BTreeMap<String, Vec<&'static str>>;
 
-/// A text of the repository.
+/// The text of a file in the repository.
 fn text(path: impl AsRef<Path>) -> String {
     fs::read_to_string(Path::new(ROOT).join(path)).unwrap()
 }
 
-/// All sources of the exports, one behind another.
+/// All sources of the exports, one after another.
 fn export_sources() -> String {
     let folder = fs::read_dir(Path::new(ROOT).join("crates/asdf/src")).unwrap();
     folder.map(|entry| text(entry.unwrap().path())).collect()
 }
 
-/// What is declared behind each place with these words before the name.
+/// The functions that a source declares. The words `before` precede the name of each.
 fn declared(
     source: &str,
     before: &str,
@@ -30,8 +32,8 @@ fn declared(
     parameter: impl Fn(&str) -> &'static [&'static str],
 ) -> Declarations {
     let mut found = Declarations::new();
-    for behind in source.split(before).skip(1) {
-        let (name, rest) = behind.split_once('(').unwrap();
+    for declaration in source.split(before).skip(1) {
+        let (name, rest) = declaration.split_once('(').unwrap();
         let (parameters, rest) = rest.split_once(')').unwrap();
         let parameters = parameters.split(',').map(str::trim);
         let named = parameters.filter(|parameter| !parameter.is_empty());
@@ -42,12 +44,12 @@ fn declared(
     found
 }
 
-/// The type of a parameter or result that is written `name: type`, or `-> type`.
-fn type_behind<'a>(text: &'a str, mark: &str) -> &'a str {
+/// The type after a mark, in a parameter `name: type` or in a result `-> type`.
+fn type_after<'a>(text: &'a str, mark: &str) -> &'a str {
     text.split_once(mark).unwrap().1.trim()
 }
 
-/// Rattle's types. A slice is a pointer and a length.
+/// The C types for a type of Rattle. A slice is a pointer and a length.
 fn rattle_type(name: &str) -> &'static [&'static str] {
     match name {
         "&[u8]" => &["const uint8_t *", "size_t"],
@@ -57,7 +59,7 @@ fn rattle_type(name: &str) -> &'static [&'static str] {
     }
 }
 
-/// Rust's types.
+/// The C type for a type of Rust.
 fn rust_type(name: &str) -> &'static [&'static str] {
     match name {
         "*const u8" => &["const uint8_t *"],
@@ -68,7 +70,7 @@ fn rust_type(name: &str) -> &'static [&'static str] {
     }
 }
 
-/// C's types, before the name of a parameter.
+/// The C type with which a parameter begins. The name of the parameter follows it.
 fn c_type(parameter: &str) -> &'static [&'static str] {
     let known: [&'static [&'static str]; 4] = [
         &["const uint8_t *"],
@@ -80,7 +82,7 @@ fn c_type(parameter: &str) -> &'static [&'static str] {
     known.iter().find(is_type).unwrap()
 }
 
-/// What a result's text says up to the first of these.
+/// The text before the first of these characters.
 fn up_to<'a>(text: &'a str, ends: &[char]) -> &'a str {
     text.split(ends).next().unwrap().trim()
 }
@@ -90,8 +92,8 @@ fn exports() -> Declarations {
     declared(
         &export_sources(),
         "pub extern \"C\" fn ",
-        |rest| rattle_type(up_to(type_behind(rest, "->"), &['\n', '{'])),
-        |parameter| rattle_type(type_behind(parameter, ":")),
+        |rest| rattle_type(up_to(type_after(rest, "->"), &['\n', '{'])),
+        |parameter| rattle_type(type_after(parameter, ":")),
     )
 }
 
@@ -111,8 +113,8 @@ fn this_crate_declares_what_is_exported() {
     let here = declared(
         &text("rust/asdf-sys/src/lib.rs").replace("fn asdf_", "\u{0}asdf_"),
         "\u{0}",
-        |rest| rust_type(up_to(type_behind(rest, "->"), &[';'])),
-        |parameter| rust_type(type_behind(parameter, ":")),
+        |rest| rust_type(up_to(type_after(rest, "->"), &[';'])),
+        |parameter| rust_type(type_after(parameter, ":")),
     );
     assert_eq!(here, exports());
 }

@@ -1,14 +1,16 @@
-//! What docs/PROMISES.md says of all promises at once: every public function has one, none has a condition, and those that
-//! carry the demands cite definitions of `crates/format/specs` alone, the one folder that a reader has to believe.
+//! Checks what docs/PROMISES.md says about all promises together. Every public function has a
+//! promise, and none has a condition. The promises that carry the demands cite only definitions of
+//! `crates/format/specs`, the one folder that a reader has to believe.
 
 use std::collections::BTreeMap;
 use std::fs;
 use std::path::{Path, PathBuf};
 
-/// The crates, from this package's folder.
+/// The folder of the crates, from this package's folder.
 const CRATES: &str = concat!(env!("CARGO_MANIFEST_DIR"), "/../../crates");
 
-/// The sources whose public functions docs/PROMISES.md names. Those of the leaves and steps cite definitions beside them.
+/// The sources whose public functions docs/PROMISES.md names. The steps and leaves under them may
+/// cite definitions that are beside them.
 const DEMANDS: [&str; 7] = [
     "asdf/src/lib.rt",
     "edit/src/lib.rt",
@@ -25,7 +27,7 @@ struct Function {
     promise: Vec<String>,
 }
 
-/// All files below a folder that end so.
+/// All files below a folder whose paths end with `suffix`.
 fn files(folder: &Path, suffix: &str) -> Vec<PathBuf> {
     let entries = fs::read_dir(folder).unwrap().map(|e| e.unwrap().path());
     entries
@@ -37,8 +39,8 @@ fn files(folder: &Path, suffix: &str) -> Vec<PathBuf> {
         .collect()
 }
 
-/// The public functions of a source, methods too. A promise ends where the body begins, and there is none where the body's
-/// brace stands on the signature's own line.
+/// The public functions of a source, including methods. A promise ends where the body begins. If
+/// the brace of the body is on the line of the signature, there is no promise.
 fn public_functions(source: &str) -> Vec<Function> {
     let mut found = Vec::new();
     let mut lines = source.lines().map(str::trim);
@@ -58,7 +60,7 @@ fn public_functions(source: &str) -> Vec<Function> {
     found
 }
 
-/// The names that a source brings in for its promises, each with the module that it comes from.
+/// The names that a source imports for its promises, each with the module that it comes from.
 fn imported(source: &str) -> BTreeMap<String, String> {
     let uses = source.lines().filter_map(|l| l.strip_prefix("ghost use "));
     uses.flat_map(|item| {
@@ -91,7 +93,7 @@ fn every_public_function_has_a_promise_and_no_condition() {
         .filter(|path| !path.ends_with("src/main.rt"))
         .flat_map(|path| public_functions(&fs::read_to_string(path).unwrap()))
         .collect();
-    assert!(functions.len() > 40, "the sources are read");
+    assert!(functions.len() > 40, "too few functions were found");
     for Function { name, promise } in functions {
         assert!(promise.iter().any(|l| l.starts_with("ensures")), "{name}");
         assert!(!promise.iter().any(|l| l.starts_with("requires")), "{name}");
