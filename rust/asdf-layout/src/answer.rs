@@ -1,17 +1,17 @@
-//! What the proved functions return, and the numbers that they put into a buffer.
+//! Turns the numbers that proved functions return into results, and reads numbers from a buffer.
 
 use crate::Refusal;
 use asdf_sys::NUMBER_BYTES;
 
-/// A file's rows are written at the first try if there are no more.
+/// If a file has at most this many rows, they are written at the first try.
 const USUAL_ROWS: usize = 64;
 
-/// A count, or the refusal.
+/// Returns a count, or the refusal.
 pub(crate) fn answer(word: u64) -> Result<u64, Refusal> {
     asdf_sys::answer(word).map_err(|(number, place)| Refusal { number, place })
 }
 
-/// What a function writes into a buffer of at most so many bytes.
+/// Returns what a function writes into a buffer of `most` bytes.
 pub(crate) fn written(most: usize, ask: impl FnOnce(&mut [u8]) -> u64) -> Result<Vec<u8>, Refusal> {
     let mut out = vec![0; most];
     let length = answer(ask(&mut out))?;
@@ -19,7 +19,8 @@ pub(crate) fn written(most: usize, ask: impl FnOnce(&mut [u8]) -> u64) -> Result
     Ok(out)
 }
 
-/// All rows of a file, of so many bytes each, by one call for usual files; the rows of others are counted first.
+/// Returns all rows of a file, each of `row_bytes` bytes. For usual files one call is enough. The
+/// rows of other files are counted, and a second call writes them.
 pub(crate) fn written_rows(
     file: &[u8],
     row_bytes: usize,
@@ -34,7 +35,7 @@ pub(crate) fn written_rows(
     }
 }
 
-/// The N numbers that a function writes, or that it writes none.
+/// Returns the `N` numbers that a function writes, or `None` if it writes none.
 pub(crate) fn numbers<const N: usize>(
     ask: impl FnOnce(&mut [u8]) -> u64,
 ) -> Result<Option<[u64; N]>, Refusal> {
@@ -42,7 +43,7 @@ pub(crate) fn numbers<const N: usize>(
     Ok((!bytes.is_empty()).then(|| numbers_of(&bytes)))
 }
 
-/// The numbers in so many bytes of a buffer.
+/// Reads `N` numbers from the start of a buffer.
 pub(crate) fn numbers_of<const N: usize>(bytes: &[u8]) -> [u64; N] {
     let (numbers, _) = bytes.as_chunks();
     std::array::from_fn(|k| u64::from_be_bytes(numbers[k]))

@@ -1,47 +1,51 @@
-//! A block of one file by itself.
+//! The blocks of one file, without those of the files inside.
 
 use crate::answer::numbers;
 use crate::Refusal;
 use asdf_sys::BLOCK_NUMBERS;
 
-/// The header size counts from this offset in a block.
+/// The offset in a block from which its header size counts.
 const HEADER_SIZE_COUNTS_FROM: usize = 6;
-/// The flag of a block that reaches to the end of its file.
+/// The flag of a streamed block, which reaches to the end of its file.
 const STREAMED: u32 = 1;
 
-/// What is reported of a block of a file by itself.
+/// What is reported about a block in its own file.
 #[derive(Debug, Clone, Copy, PartialEq, Eq)]
 pub struct Block {
-    /// Its number in its file, from 0.
+    /// The number of the block in its file, counted from 0.
     pub ordinal: u8,
-    /// Its first byte, in its own file. Unallocated space may stand between the end of the block before and this.
+    /// The block's first byte, in its own file. Unallocated space may precede it, after the end of
+    /// the previous block.
     pub at: usize,
-    /// The header's size, counted from the block's sixth byte.
+    /// The header size, counted from offset 6 of the block.
     pub header_size: u16,
     /// The 32 flags.
     pub flags: u32,
-    /// The four bytes of the compression's name; zeros for none.
+    /// The four bytes of the compression's name, or zeros if there is none.
     pub compression: [u8; 4],
-    /// The bytes that are kept for content. Of a streamed block each size is the length of its content.
+    /// The allocated size: how many bytes are kept for content. In a streamed block, each of the
+    /// three sizes is the length of the content.
     pub allocated: usize,
-    /// The bytes of content.
+    /// The used size: how many bytes the content has.
     pub used: usize,
-    /// The bytes of content when it is not compressed, as the block says.
+    /// The data size: how many bytes the content has when it is not compressed, as the block
+    /// states.
     pub data_size: u64,
-    /// The checksum; zeros for none.
+    /// The checksum, or zeros if there is none.
     pub checksum: [u8; 16],
 }
 
 impl Block {
-    /// The block of this ordinal, if there is one.
+    /// Reads the block with this ordinal. Returns `None` if there is no such block.
     ///
-    /// Every call reads the file anew; for all blocks, ask [`Records::read`](crate::Records::read) once.
+    /// Every call reads the file again. To get all blocks, call
+    /// [`Records::read`](crate::Records::read) once.
     pub fn read(file: &[u8], ordinal: u64) -> Result<Option<Block>, Refusal> {
         let numbers = numbers(|out| asdf_sys::block(file, ordinal, out))?;
         Ok(numbers.map(Block::from_numbers))
     }
 
-    /// The block that these numbers tell; each is promised to fit its field.
+    /// Makes a block from its numbers. Each of them is promised to fit its field.
     pub(crate) fn from_numbers(numbers: [u64; BLOCK_NUMBERS]) -> Block {
         let [ordinal, at, header_size, flags, compression, allocated, used, data_size, high, low] =
             numbers;
@@ -73,7 +77,7 @@ impl Block {
         self.checksum != [0; 16]
     }
 
-    /// How many bytes stand before the content.
+    /// How many bytes of the block precede its content.
     pub(crate) fn header_bytes(&self) -> usize {
         HEADER_SIZE_COUNTS_FROM + usize::from(self.header_size)
     }

@@ -1,11 +1,13 @@
-//! The layout of one file by itself.
+//! The layout of one file, without the files inside.
 
 use crate::answer::numbers;
 use crate::Refusal;
 use std::fmt;
 use std::ops::Range;
 
-/// What is reported of a file by itself. Every end is exclusive, and every offset counts from the file's first byte.
+/// What is reported about one file, without the files inside its blocks.
+///
+/// Every end is exclusive, and every offset counts from the file's first byte.
 #[derive(Debug, Clone, PartialEq, Eq)]
 pub struct Layout {
     /// The version of the file format, from the header line.
@@ -14,17 +16,17 @@ pub struct Layout {
     pub header_end: usize,
     /// How the header line ends.
     pub line_end: LineEnd,
-    /// Where the comments end, which begin at the header's end.
+    /// Where the comments end. They begin at the end of the header.
     pub comments_end: usize,
     /// The tree, if there is one.
     pub tree: Option<Tree>,
     /// How many blocks the file itself has.
     pub blocks: u8,
-    /// What is to be thought of the block index.
+    /// The verdict on the block index.
     pub index: Verdict,
 }
 
-/// Three numbers.
+/// The three numbers of a version.
 #[derive(Debug, Clone, Copy, PartialEq, Eq)]
 #[allow(missing_docs)]
 pub struct Version {
@@ -33,7 +35,9 @@ pub struct Version {
     pub patch: u16,
 }
 
-/// How a line ends. Files written under Windows often end their lines with two bytes; the lines of an index that is
+/// How a line ends.
+///
+/// Files written under Windows often end their lines with two bytes. The lines of an index that is
 /// written for a file end as its header line does.
 ///
 /// ```
@@ -54,32 +58,33 @@ pub enum LineEnd {
     Crlf,
 }
 
-/// Where the tree is.
+/// Where the tree of a file is.
 #[derive(Debug, Clone, Copy, PartialEq, Eq)]
 pub struct Tree {
-    /// The `%` of its first line.
+    /// The offset of the `%` in its first line.
     pub start: usize,
-    /// Behind the line end of its `...`.
+    /// The offset after the line end of its last line, `...`.
     pub end: usize,
-    /// The first block, or the end of the file: an [`edit`](crate::edit) may fill the room up to here.
+    /// The offset of the first block, or the end of the file. An [`edit`](crate::edit) may fill the
+    /// room up to here.
     pub room_end: usize,
 }
 
-/// What is to be thought of the block index, which may be written in brackets or with dashes.
+/// The verdict on the block index, which may be written in brackets or with dashes.
 #[derive(Debug, Clone, Copy, PartialEq, Eq)]
 pub enum Verdict {
-    /// There is none.
+    /// There is no index.
     Absent,
-    /// It lists the offsets of the blocks.
+    /// The index lists the offsets of the blocks.
     Good,
-    /// Its text is no index.
+    /// The index is ignored for its form: its text is not an index.
     IgnoredForm,
-    /// It lists other offsets.
+    /// The index is ignored for its list: it lists other offsets.
     IgnoredList,
 }
 
 impl Layout {
-    /// Reads a file's layout.
+    /// Reads the layout of a file.
     ///
     /// ```
     /// use asdf_layout::Layout;
@@ -97,7 +102,7 @@ impl Layout {
         ))
     }
 
-    /// The layout that these numbers tell; each is promised to fit its field.
+    /// Makes a layout from its numbers. Each of them is promised to fit its field.
     fn from_numbers(numbers: [u64; asdf_sys::LAYOUT_NUMBERS]) -> Layout {
         let [major, minor, patch, header_end, comments_end, present, start, end, room_end, blocks, verdict, line_end] =
             numbers;
@@ -121,14 +126,14 @@ impl Layout {
         }
     }
 
-    /// Where the comments are; empty where there are none.
+    /// Where the comments are. The range is empty if there are none.
     pub fn comments(&self) -> Range<usize> {
         self.header_end..self.comments_end
     }
 }
 
 impl Tree {
-    /// Where the tree's own text is.
+    /// Where the text of the tree is, without the free space.
     pub fn text(&self) -> Range<usize> {
         self.start..self.end
     }
@@ -140,7 +145,7 @@ impl Tree {
 }
 
 impl LineEnd {
-    /// The line end of a number.
+    /// Returns the line end with this number.
     fn from_number(number: u64) -> LineEnd {
         match number {
             0 => LineEnd::Lf,
@@ -150,7 +155,7 @@ impl LineEnd {
 }
 
 impl Verdict {
-    /// The verdict of a number.
+    /// Returns the verdict with this number.
     fn from_number(number: u64) -> Verdict {
         match number {
             0 => Verdict::Absent,
@@ -162,7 +167,7 @@ impl Verdict {
 }
 
 impl fmt::Display for LineEnd {
-    /// Its bytes, in hexadecimal.
+    /// Writes the bytes of the line end, in hexadecimal.
     fn fmt(&self, f: &mut fmt::Formatter<'_>) -> fmt::Result {
         f.write_str(match self {
             LineEnd::Lf => "0A",
@@ -172,7 +177,7 @@ impl fmt::Display for LineEnd {
 }
 
 impl fmt::Display for Verdict {
-    /// The word of the listing.
+    /// Writes the word for the verdict that the listing uses.
     fn fmt(&self, f: &mut fmt::Formatter<'_>) -> fmt::Result {
         f.write_str(match self {
             Verdict::Absent => "absent",

@@ -1,7 +1,8 @@
-//! Where everything lies in an ASDF file, also in the files inside its blocks.
+//! The layout of ASDF files: where everything is, also in the files inside blocks.
 //!
-//! Every answer comes from a function that is proved to give it; this crate lends them bytes and gives their numbers
-//! names. What is turned away comes as a [`Refusal`], which prints as a sentence.
+//! Every answer comes from a function that is proved to give it. This crate lends bytes to these
+//! functions and gives names to their numbers. What they refuse is returned as a [`Refusal`], which
+//! prints as a sentence.
 //!
 //! ```
 //! use asdf_layout::{Layout, Records, Verdict};
@@ -23,22 +24,22 @@
 //!     assert_eq!(file[record.content()], *b"abc");
 //! }
 //!
-//! // The block says that it uses more than it has.
+//! // Now the used size of the block is 4, and its allocated size is still 3.
 //! file[12 + 29] = 4;
 //! let refusal = Layout::read(&file).unwrap_err();
 //! assert_eq!(refusal.to_string(), "used size is above allocated size, in the block at 12 (refusal 13)");
 //! # Ok::<(), asdf_layout::Refusal>(())
 //! ```
 //!
-//! | Wanted | Ask |
+//! | To get | call |
 //! |---|---|
-//! | header, comments, tree, index verdict | [`Layout::read`] |
+//! | the header, the comments, the tree and the verdict on the index | [`Layout::read`] |
 //! | one block of the file itself | [`Block::read`] |
-//! | every block, those of inner files too, with all that is known of it | [`Records::read`] |
+//! | every block, including those of inner files, with all that is known about it | [`Records::read`] |
 //! | sixteen bytes for each block, to be stored | [`Outline::of_file`] |
 //! | the rows of a stored outline | [`Outline::read`] |
 //! | the text of a block index | [`index_text`] |
-//! | another tree in the place of the old one | [`edit`] |
+//! | another tree in place of the old one | [`edit`] |
 
 #![forbid(unsafe_code)]
 #![warn(missing_docs)]

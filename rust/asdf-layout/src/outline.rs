@@ -6,10 +6,10 @@ use asdf_sys::{NUMBER_BYTES, ROW_BYTES, ROW_NUMBERS};
 use std::borrow::Cow;
 use std::fmt;
 
-/// The bytes of a stored row's numbers.
+/// How many bytes the numbers of a stored row take.
 const STORED_ROW_BYTES: usize = ROW_NUMBERS * NUMBER_BYTES;
 
-/// An outline that is accepted.
+/// An accepted outline.
 ///
 /// ```
 /// use asdf_layout::Outline;
@@ -30,17 +30,17 @@ pub struct Outline<'a> {
 /// A row of an outline.
 #[derive(Debug, Clone, Copy, PartialEq, Eq)]
 pub struct Row {
-    /// How many files lie around the block's own.
+    /// How many files surround the block's own file.
     pub depth: u8,
-    /// The block's number in its own file.
+    /// The number of the block in its own file.
     pub ordinal: u8,
     /// The block's first byte, in the outermost file.
     pub offset: usize,
-    /// The header's size, counted from the block's sixth byte.
+    /// The header size, counted from offset 6 of the block.
     pub header_size: u16,
-    /// The bytes that are kept for content.
+    /// The allocated size: how many bytes are kept for content.
     pub allocated: usize,
-    /// The bytes of content.
+    /// The used size: how many bytes the content has.
     pub used: usize,
     /// Whether the content reaches to the end of the file.
     pub streamed: bool,
@@ -48,25 +48,25 @@ pub struct Row {
     pub compressed: bool,
     /// Whether there is a checksum.
     pub checksum: bool,
-    /// What the content is as a file of its own.
+    /// Whether the content is itself a file.
     pub inner: InnerState,
 }
 
-/// What a block's content is as a file of its own, without the reason of a refusal.
+/// Whether a block's content is itself a file, without the reason if it is refused.
 #[derive(Debug, Clone, Copy, PartialEq, Eq)]
 pub enum InnerState {
-    /// It is none.
+    /// The content is not a file.
     Plain = 0,
-    /// It is one, and its rows follow.
+    /// The content is a file, and its rows follow.
     Opened = 1,
-    /// It begins like one and is refused.
+    /// The content begins like a file, but is refused.
     Refused = 2,
-    /// It begins like one, deeper than files are read.
+    /// The content begins like a file, but is deeper than files are read.
     TooDeep = 3,
 }
 
 impl Outline<'static> {
-    /// The outline of a file.
+    /// Makes the outline of a file.
     pub fn of_file(file: &[u8]) -> Result<Outline<'static>, Refusal> {
         let bytes = Cow::Owned(written_rows(file, ROW_BYTES, asdf_sys::outline)?);
         Ok(Outline { bytes })
@@ -74,26 +74,27 @@ impl Outline<'static> {
 }
 
 impl<'a> Outline<'a> {
-    /// A stored outline.
+    /// Reads a stored outline.
     pub fn read(stored: &'a [u8]) -> Result<Outline<'a>, Refusal> {
         answer(asdf_sys::stored_count(stored))?;
         let bytes = Cow::Borrowed(stored);
         Ok(Outline { bytes })
     }
 
-    /// The same outline with bytes of its own, written by the rows that were read: they are the same.
+    /// Writes the outline again from the rows that were read, into bytes of its own. These bytes
+    /// are the same.
     pub fn rewritten(&self) -> Result<Outline<'static>, Refusal> {
         let rewrite = |out: &mut [u8]| asdf_sys::rewrite(&self.bytes, out);
         let bytes = Cow::Owned(written(self.bytes.len(), rewrite)?);
         Ok(Outline { bytes })
     }
 
-    /// The bytes to be stored.
+    /// Returns the bytes to be stored.
     pub fn as_bytes(&self) -> &[u8] {
         &self.bytes
     }
 
-    /// The rows, in walking order. Each call judges the outline anew.
+    /// Returns the rows, in walking order. Each call judges the outline again.
     pub fn rows(&self) -> impl Iterator<Item = Row> {
         let count = self.bytes.len() / ROW_BYTES;
         let ask = |out: &mut [u8]| asdf_sys::stored_rows(&self.bytes, out);
@@ -104,7 +105,7 @@ impl<'a> Outline<'a> {
 }
 
 impl Row {
-    /// The row that these numbers tell; each is promised to fit its field.
+    /// Makes a row from its numbers. Each of them is promised to fit its field.
     fn from_numbers(numbers: [u64; ROW_NUMBERS]) -> Row {
         let [depth, ordinal, offset, header_size, allocated, used, streamed, compressed, checksum, inner] =
             numbers;
@@ -124,7 +125,7 @@ impl Row {
 }
 
 impl fmt::Display for Row {
-    /// The row's ten numbers, as the listing has them.
+    /// Writes the ten numbers of the row as the listing does.
     fn fmt(&self, f: &mut fmt::Formatter<'_>) -> fmt::Result {
         write!(
             f,
@@ -144,7 +145,7 @@ impl fmt::Display for Row {
 }
 
 impl InnerState {
-    /// The inner state of a number.
+    /// Returns the inner state with this number.
     fn from_number(number: u64) -> InnerState {
         match number {
             0 => InnerState::Plain,

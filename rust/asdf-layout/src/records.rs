@@ -7,37 +7,38 @@ use std::iter::Map;
 use std::ops::Range;
 use std::slice::ChunksExact;
 
-/// The bytes of a record.
+/// How many bytes a record has.
 const RECORD_BYTES: usize = RECORD_NUMBERS * NUMBER_BYTES;
 
-/// How many blocks a file and the files inside it have.
+/// Returns how many blocks a file and the files inside it have.
 pub fn row_count(file: &[u8]) -> Result<u64, Refusal> {
     answer(asdf_sys::count(file))
 }
 
-/// What is reported of a block among all blocks of an outermost file.
+/// What is reported about a block among all blocks of an outermost file.
 #[derive(Debug, Clone, Copy, PartialEq, Eq)]
 pub struct Record {
-    /// How many files lie around the block's own.
+    /// How many files surround the block's own file.
     pub depth: u8,
-    /// Its first byte, in the outermost file.
+    /// The block's first byte, in the outermost file.
     pub offset: usize,
-    /// What its content is as a file of its own.
+    /// Whether the block's content is itself a file.
     pub inner: Inner,
-    /// What its own file says of it.
+    /// What is reported about the block in its own file.
     pub block: Block,
 }
 
-/// What a block's content is as a file of its own.
+/// Whether a block's content is itself a file.
 #[derive(Debug, Clone, Copy, PartialEq, Eq)]
 pub enum Inner {
-    /// It is none.
+    /// The content is not a file.
     Plain,
-    /// It is one, and its records follow.
+    /// The content is a file, and its records follow.
     Opened,
-    /// It begins like one and is refused; the place counts from its first byte.
+    /// The content begins like a file, but is refused. The place counts from the first byte of the
+    /// content.
     Refused(Refusal),
-    /// It begins like one, deeper than files are read.
+    /// The content begins like a file, but is deeper than files are read.
     TooDeep,
 }
 
@@ -58,18 +59,22 @@ pub struct Records {
 }
 
 impl Records {
-    /// All records by one call; where there are more than 64, their number is asked for first.
+    /// Reads all records of a file.
+    ///
+    /// For up to 64 records, one call of the proved function is enough. If there are more, they are
+    /// counted, and a second call reads them.
     pub fn read(file: &[u8]) -> Result<Records, Refusal> {
         let bytes = written_rows(file, RECORD_BYTES, asdf_sys::records)?;
         Ok(Records { bytes })
     }
 
-    /// The records, in walking order: those of an opened inner file follow its block's own.
+    /// Returns the records in walking order. Those of an opened inner file follow the record of its
+    /// block.
     pub fn iter(&self) -> <&Records as IntoIterator>::IntoIter {
         self.into_iter()
     }
 
-    /// The blocks of the outermost file.
+    /// Returns the blocks of the outermost file.
     pub fn blocks(&self) -> impl Iterator<Item = Block> + '_ {
         let outermost = self.iter().filter(|record| record.depth == 0);
         outermost.map(|record| record.block)
@@ -87,15 +92,16 @@ impl<'a> IntoIterator for &'a Records {
 }
 
 impl Record {
-    /// The record of this number in walking order, if there is one.
+    /// Reads the record with this number in walking order. Returns `None` if there is no such
+    /// record.
     ///
-    /// Every call walks the file anew; for all records, ask [`Records::read`] once.
+    /// Every call walks the file again. To get all records, call [`Records::read`] once.
     pub fn read(file: &[u8], number: u64) -> Result<Option<Record>, Refusal> {
         let numbers = numbers(|out| asdf_sys::record(file, number, out))?;
         Ok(numbers.map(Record::from_numbers))
     }
 
-    /// The record that these numbers tell; each is promised to fit its field.
+    /// Makes a record from its numbers. Each of them is promised to fit its field.
     fn from_numbers(numbers: [u64; RECORD_NUMBERS]) -> Record {
         let [depth, offset, state, number, place, block @ ..] = numbers;
         Record {
@@ -114,7 +120,7 @@ impl Record {
 }
 
 impl Inner {
-    /// The inner state of these numbers.
+    /// Makes an inner state from its numbers.
     fn from_numbers(state: u64, number: u64, place: u64) -> Inner {
         match state {
             0 => Inner::Plain,

@@ -1,9 +1,11 @@
-//! Why something is turned away, in words.
+//! Why something is refused, in words.
 
 use std::error::Error;
 use std::fmt;
 
-/// Why something is turned away, and where. It prints as a sentence.
+/// Why something is refused, and where.
+///
+/// A refusal prints as a sentence.
 ///
 /// ```
 /// use asdf_layout::Refusal;
@@ -13,13 +15,14 @@ use std::fmt;
 /// ```
 #[derive(Debug, Clone, Copy, PartialEq, Eq, Hash)]
 pub struct Refusal {
-    /// The reason: one of the constants here.
+    /// The reason: one of the constants of this type.
     pub number: u8,
-    /// Where, counted from the first byte of what was lent; 0 where it is about the whole.
+    /// The place, counted from the first byte of what was lent. It is 0 if the reason is about the
+    /// whole.
     pub place: u64,
 }
 
-/// A reason to turn something away.
+/// A reason to refuse something.
 #[derive(Debug, Clone, Copy)]
 pub struct Reason {
     /// The number that is returned for it.
@@ -28,14 +31,14 @@ pub struct Reason {
     pub name: &'static str,
     /// What is wrong.
     pub words: &'static str,
-    /// What the place is.
+    /// What is at the place.
     place: Place,
 }
 
-/// What a refusal's place is.
+/// What is at the place of a refusal.
 #[derive(Debug, Clone, Copy)]
 enum Place {
-    /// The reason is about the whole.
+    /// Nothing: the reason is about the whole.
     Whole,
     /// Something begins there.
     Here,
@@ -47,14 +50,14 @@ enum Place {
     Row,
 }
 
-/// Makes the constants, and the table of all reasons.
+/// Makes the constants and the table of all reasons.
 macro_rules! reasons {
     ($($number:literal $name:ident $place:ident $words:literal,)*) => {
         impl Refusal {
             $(#[doc = concat!("Refusal ", $number, ": ", $words, ".")] pub const $name: u8 = $number;)*
         }
 
-        /// All reasons, by their numbers.
+        /// All reasons, in the order of their numbers.
         pub const REASONS: &[Reason] = &[
             $(Reason { number: $number, name: stringify!($name), words: $words, place: Place::$place },)*
         ];
@@ -89,13 +92,13 @@ reasons! {
 }
 
 impl Refusal {
-    /// The reason in words, without the place.
+    /// Returns the reason in words, without the place.
     pub fn words(&self) -> &'static str {
         self.reason()
             .map_or("unknown reason", |reason| reason.words)
     }
 
-    /// The reason of the number.
+    /// Returns the reason with this number.
     fn reason(&self) -> Option<&'static Reason> {
         REASONS.iter().find(|reason| reason.number == self.number)
     }
@@ -122,7 +125,7 @@ impl Error for Refusal {}
 mod tests {
     use super::*;
 
-    /// The sentence of a number, with 70 for its place.
+    /// The sentence for a number, with 70 as its place.
     fn sentence(number: u8) -> String {
         Refusal { number, place: 70 }.to_string()
     }
@@ -134,7 +137,7 @@ mod tests {
     }
 
     #[test]
-    fn sentence_names_the_place_where_there_is_one() {
+    fn sentence_names_the_place_if_there_is_one() {
         assert_eq!(
             sentence(1),
             "file is longer than 4,294,967,295 bytes (refusal 1)"

@@ -1,11 +1,13 @@
-//! The text of a block index, and another tree.
+//! Writes the text of a block index, and replaces a tree.
 
 use crate::answer::{answer, written};
 use crate::Refusal;
 use asdf_sys::LONGEST_INDEX;
 
-/// The text of a file's block index, in brackets, to be set directly after its last block. Its lines end as the header
-/// line does.
+/// Returns the text of a block index for a file.
+///
+/// The index is in brackets, and is to be placed directly after the last block. Its lines end as
+/// the header line does.
 ///
 /// ```
 /// use asdf_layout::{index_text, Layout, Verdict};
@@ -22,8 +24,9 @@ pub fn index_text(file: &[u8]) -> Result<Vec<u8>, Refusal> {
     written(LONGEST_INDEX, |out| asdf_sys::index(file, out))
 }
 
-/// Replaces a file's tree by a text that is exactly one tree, and the rest of its room by spaces. A refusal changes
-/// no byte.
+/// Replaces the tree of a file by a text that is exactly one tree.
+///
+/// The rest of the room is filled with spaces. A refusal changes no byte.
 ///
 /// ```
 /// use asdf_layout::{edit, Refusal};

@@ -1,4 +1,4 @@
-//! What this crate makes of the proved functions' numbers is what the second program says, on every real file.
+//! Compares this crate with the second program, on every real file: both have to report the same.
 
 use asdf_layout::{
     edit, index_text, row_count, Block, Inner, InnerState, Layout, LineEnd, Outline, Record,
@@ -7,12 +7,12 @@ use asdf_layout::{
 use asdf_second as second;
 use std::fs;
 
-/// The real files.
+/// The folder of the real files.
 const DATA: &str = concat!(env!("CARGO_MANIFEST_DIR"), "/../../tests/data");
-/// The files that are there; more may come, none may get lost.
+/// How many real files there are at least. More may be added, but none may get lost.
 const AT_LEAST: usize = 18;
 
-/// Does the same with the bytes of every real file.
+/// Calls `check` with the bytes of every real file.
 fn each_real_file(check: impl Fn(&[u8])) {
     let mut checked = 0;
     for entry in fs::read_dir(DATA).unwrap() {
@@ -23,10 +23,10 @@ fn each_real_file(check: impl Fn(&[u8])) {
             checked += 1;
         }
     }
-    assert!(checked >= AT_LEAST, "only {checked} files");
+    assert!(checked >= AT_LEAST, "only {checked} files were checked");
 }
 
-/// The second program's refusal.
+/// The second program's refusal, as a refusal of this crate.
 fn refusal(refusal: second::Refusal) -> Refusal {
     let second::Refusal { number, place } = refusal;
     Refusal { number, place }
@@ -113,15 +113,15 @@ fn row(row: &second::Row) -> Row {
 fn layouts_and_blocks_are_the_same() {
     each_real_file(|file| {
         let expected = second::read(file);
-        let told = expected
+        let reported = expected
             .as_ref()
             .map(layout)
             .map_err(|&found| refusal(found));
-        assert_eq!(Layout::read(file), told);
+        assert_eq!(Layout::read(file), reported);
         let Ok(expected) = expected else { return };
         for ordinal in 0..=expected.blocks.len() {
-            let told = expected.blocks.get(ordinal).map(block);
-            assert_eq!(Block::read(file, ordinal as u64), Ok(told));
+            let reported = expected.blocks.get(ordinal).map(block);
+            assert_eq!(Block::read(file, ordinal as u64), Ok(reported));
         }
         let blocks: Vec<Block> = Records::read(file).unwrap().blocks().collect();
         assert_eq!(
@@ -135,16 +135,16 @@ fn layouts_and_blocks_are_the_same() {
 fn records_are_the_same() {
     each_real_file(|file| {
         let expected = second::records(file).map_err(refusal);
-        let told = expected.map(|records| records.iter().map(record).collect::<Vec<_>>());
+        let reported = expected.map(|records| records.iter().map(record).collect::<Vec<_>>());
         let found = Records::read(file).map(|records| records.iter().collect::<Vec<_>>());
-        assert_eq!(found, told);
+        assert_eq!(found, reported);
         assert_eq!(
             row_count(file),
-            told.clone().map(|records| records.len() as u64)
+            reported.clone().map(|records| records.len() as u64)
         );
-        let Ok(told) = told else { return };
-        for number in 0..=told.len() {
-            let record = told.get(number).copied();
+        let Ok(reported) = reported else { return };
+        for number in 0..=reported.len() {
+            let record = reported.get(number).copied();
             assert_eq!(Record::read(file, number as u64), Ok(record));
         }
     });
@@ -154,12 +154,12 @@ fn records_are_the_same() {
 fn outlines_and_their_rows_are_the_same() {
     each_real_file(|file| {
         let expected = second::rows(file).map_err(refusal);
-        let told = expected.map(|rows| rows.iter().map(row).collect::<Vec<_>>());
+        let reported = expected.map(|rows| rows.iter().map(row).collect::<Vec<_>>());
         let outline = Outline::of_file(file);
         let found = outline
             .clone()
             .map(|outline| outline.rows().collect::<Vec<_>>());
-        assert_eq!(found, told);
+        assert_eq!(found, reported);
         let Ok(outline) = outline else { return };
         let stored = Outline::read(outline.as_bytes());
         assert_eq!(stored, Ok(outline.clone()));
@@ -182,8 +182,8 @@ fn indexes_and_edits_are_the_same() {
         );
 
         let (mut found, mut expected) = (file.to_vec(), file.to_vec());
-        let told = second::edit(&mut expected, text).map_err(refusal);
-        assert_eq!(edit(&mut found, text), told);
+        let reported = second::edit(&mut expected, text).map_err(refusal);
+        assert_eq!(edit(&mut found, text), reported);
         assert!(found == expected);
     });
 }

@@ -1,9 +1,10 @@
-//! The reasons of refusals are the same here, in the C header and in the documentation, and so are the sizes of results.
+//! Checks that the reasons of refusals are the same in this crate, in the C header and in the
+//! documentation, and that the sizes of results are the same in `asdf-sys` and in the C header.
 
 use asdf_layout::REASONS;
 use std::fs;
 
-/// A text of the repository.
+/// The text of a file in the repository.
 fn text(path: &str) -> String {
     let root = concat!(env!("CARGO_MANIFEST_DIR"), "/../..");
     fs::read_to_string(format!("{root}/{path}")).unwrap()
@@ -12,8 +13,8 @@ fn text(path: &str) -> String {
 #[test]
 fn header_has_every_reason_in_the_same_words() {
     let header = text("include/asdf_layout.h");
-    let (_, behind) = header.split_once("enum asdf_refusal {").unwrap();
-    let (found, _) = behind.split_once("};").unwrap();
+    let (_, after) = header.split_once("enum asdf_refusal {").unwrap();
+    let (found, _) = after.split_once("};").unwrap();
     let spaced = |line: &str| line.split_whitespace().collect::<Vec<_>>().join(" ");
     let found: Vec<String> = found.trim().lines().map(spaced).collect();
     let expected: Vec<String> = REASONS
