@@ -98,7 +98,7 @@ int main(int count, char **words)
     size_t length = 0;
     uint8_t *file = count == 2 ? read_file(words[1], &length) : NULL;
     if (file == NULL) {
-        fprintf(stderr, "usage: list FILE (a file that can be read)\n");
+        fprintf(stderr, "usage: list FILE, which can be read\n");
         return 2;
     }
     int status = list(file, length);

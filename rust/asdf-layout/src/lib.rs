@@ -31,7 +31,7 @@
 //! # Ok::<(), asdf_layout::Refusal>(())
 //! ```
 //!
-//! | To get | call |
+//! | To get | Call |
 //! |---|---|
 //! | the header, the comments, the tree and the verdict on the index | [`Layout::read`] |
 //! | one block of the file itself | [`Block::read`] |

@@ -137,7 +137,7 @@ mod tests {
     }
 
     #[test]
-    fn sentence_names_the_place_if_there_is_one() {
+    fn sentence_names_the_place_where_there_is_one() {
         assert_eq!(
             sentence(1),
             "file is longer than 4,294,967,295 bytes (refusal 1)"

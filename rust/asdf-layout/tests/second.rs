@@ -113,15 +113,15 @@ fn row(row: &second::Row) -> Row {
 fn layouts_and_blocks_are_the_same() {
     each_real_file(|file| {
         let expected = second::read(file);
-        let reported = expected
+        let told = expected
             .as_ref()
             .map(layout)
             .map_err(|&found| refusal(found));
-        assert_eq!(Layout::read(file), reported);
+        assert_eq!(Layout::read(file), told);
         let Ok(expected) = expected else { return };
         for ordinal in 0..=expected.blocks.len() {
-            let reported = expected.blocks.get(ordinal).map(block);
-            assert_eq!(Block::read(file, ordinal as u64), Ok(reported));
+            let told = expected.blocks.get(ordinal).map(block);
+            assert_eq!(Block::read(file, ordinal as u64), Ok(told));
         }
         let blocks: Vec<Block> = Records::read(file).unwrap().blocks().collect();
         assert_eq!(
@@ -135,16 +135,16 @@ fn layouts_and_blocks_are_the_same() {
 fn records_are_the_same() {
     each_real_file(|file| {
         let expected = second::records(file).map_err(refusal);
-        let reported = expected.map(|records| records.iter().map(record).collect::<Vec<_>>());
+        let told = expected.map(|records| records.iter().map(record).collect::<Vec<_>>());
         let found = Records::read(file).map(|records| records.iter().collect::<Vec<_>>());
-        assert_eq!(found, reported);
+        assert_eq!(found, told);
         assert_eq!(
             row_count(file),
-            reported.clone().map(|records| records.len() as u64)
+            told.clone().map(|records| records.len() as u64)
         );
-        let Ok(reported) = reported else { return };
-        for number in 0..=reported.len() {
-            let record = reported.get(number).copied();
+        let Ok(told) = told else { return };
+        for number in 0..=told.len() {
+            let record = told.get(number).copied();
             assert_eq!(Record::read(file, number as u64), Ok(record));
         }
     });
@@ -154,12 +154,12 @@ fn records_are_the_same() {
 fn outlines_and_their_rows_are_the_same() {
     each_real_file(|file| {
         let expected = second::rows(file).map_err(refusal);
-        let reported = expected.map(|rows| rows.iter().map(row).collect::<Vec<_>>());
+        let told = expected.map(|rows| rows.iter().map(row).collect::<Vec<_>>());
         let outline = Outline::of_file(file);
         let found = outline
             .clone()
             .map(|outline| outline.rows().collect::<Vec<_>>());
-        assert_eq!(found, reported);
+        assert_eq!(found, told);
         let Ok(outline) = outline else { return };
         let stored = Outline::read(outline.as_bytes());
         assert_eq!(stored, Ok(outline.clone()));
@@ -182,8 +182,8 @@ fn indexes_and_edits_are_the_same() {
         );
 
         let (mut found, mut expected) = (file.to_vec(), file.to_vec());
-        let reported = second::edit(&mut expected, text).map_err(refusal);
-        assert_eq!(edit(&mut found, text), reported);
+        let told = second::edit(&mut expected, text).map_err(refusal);
+        assert_eq!(edit(&mut found, text), told);
         assert!(found == expected);
     });
 }
