@@ -1,4 +1,4 @@
--- All that is known of an accepted block.
+-- All that is known about an accepted block.
 use Prim.Native.Nat.{ℕ, _+_, _≤_, _<_}
 use mathlib.Core.Path.{_≡_, refl, sym, _∙_}
 use mathlib.Core.Bool.{Bool, true, false, _||_, true≢false}
@@ -15,7 +15,7 @@ use Rattle.format.specs.Chain.{extent}
 use Rattle.format.proofs.OutcomeLaws.{Accepts, accepted-holds, accepts-need, accepts-choice}
 use Rattle.format.proofs.PackLaws.{number-lt}
 
--- all that is known where t, which stands at offset n, begins with block i and b is that block
+-- All that is known if the bytes `t` at offset `n` begin with block `i`, and `b` is that block.
 pub record BlockIs (i n : ℕ) (t : Bytes) (b : Block) : Type 0 where
   pub sound : Sound t
   pub is : b ≡ soundBlock i n t
@@ -30,7 +30,7 @@ pub record BlockIs (i n : ℕ) (t : Bytes) (b : Block) : Type 0 where
   pub plain : isStreamed (flags t) ≡ false → extent b ≡ contentStart t + allocatedSize t
 
 module _ (i n : ℕ) (t : Bytes) where
-  -- it is known of a block with these sizes
+  -- `BlockIs` holds for a block with these sizes, if the sizes keep their bounds and are those of a sound block.
   with-sizes : (a u d : ℕ) → Sound t → blockWith i n t a u d ≡ soundBlock i n t → u ≤ a → a ≤ bytesLeft t
       → (isStreamed (flags t) ≡ true → a ≡ bytesLeft t) → (isStreamed (flags t) ≡ false → a ≡ allocatedSize t)
       → BlockIs i n t (blockWith i n t a u d)
@@ -50,7 +50,7 @@ module _ (i n : ℕ) (t : Bytes) where
   }
 
   module _ (least : leb leastHeader (headerSize t) ≡ true) (whole : leb (contentStart t) (length t) ≡ true) where
-    -- of a streamed block, where its tests hold
+    -- If a block is streamed and its tests hold, `BlockIs` holds for it.
     streamed-known : isStreamed (flags t) ≡ true → BlockIs i n t (blockWith i n t (bytesLeft t) (bytesLeft t) (bytesLeft t))
     unfolding soundBlock
     streamed-known h =
@@ -58,7 +58,7 @@ module _ (i n : ℕ) (t : Bytes) where
         with-sizes (bytesLeft t) (bytesLeft t) (bytesLeft t) sound (rw (soundBlock, h)) (le-refl (bytesLeft t)) (le-refl (bytesLeft t)) (λ k. refl)
         (λ k. absurd (true≢false (sym h ∙ k)))
 
-    -- of another, where its tests hold
+    -- If a block is not streamed and its tests hold, `BlockIs` holds for it.
     plain-known : isStreamed (flags t) ≡ false → leb (usedSize t) (allocatedSize t) ≡ true
         → (isCompressed (compression t) || eqb (dataSize t) (usedSize t)) ≡ true → leb (allocatedSize t) (bytesLeft t) ≡ true
         → BlockIs i n t (blockWith i n t (allocatedSize t) (usedSize t) (dataSize t))
@@ -69,12 +69,12 @@ module _ (i n : ℕ) (t : Bytes) where
         with-sizes (allocatedSize t) (usedSize t) (dataSize t) sound (rw (soundBlock, h)) (sizes .used) (sizes .allocated)
         (λ k. absurd (true≢false (sym k ∙ h))) (λ k. refl)
 
-  -- of every block that can be accepted
+  -- If a block is accepted at the start of `t`, `BlockIs` holds for it.
   block-accepts : Accepts (BlockIs i n t) (block i n t)
   unfolding block
   block-accepts = search (accepts-need, accepts-choice (BlockIs i n t) (isStreamed (flags t)), streamed-known, plain-known) depth 12
 
-  -- a block that nothing is wrong with is accepted
+  -- A block that nothing is wrong with is accepted.
   pub sound-accepted : Sound t → block i n t ≡ accepted (soundBlock i n t)
   unfolding block soundBlock
   sound-accepted sound = go (isStreamed (flags t)) refl
@@ -103,6 +103,6 @@ module _ (i n : ℕ) (t : Bytes) where
             le-leb (allocatedSize t) (bytesLeft t) (sizes .allocated),
           )
 
--- all that is known of an accepted block
+-- If `b` is accepted as block `i` at offset `n`, then `BlockIs` holds for it.
 pub accepted-block : {i n : ℕ} {t : Bytes} {b : Block} → block i n t ≡ accepted b → BlockIs i n t b
 accepted-block {i} {n} {t} {b} = accepted-holds (BlockIs i n t) (block i n t) b (block-accepts i n t)
