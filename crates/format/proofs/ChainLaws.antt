@@ -1,4 +1,5 @@
--- The blocks of a chain, with the space between them, are a front part of the bytes, and the same with another tail after the last of them.
+-- The blocks of a chain, with the space between them, are a front part of the bytes. They are the same with another
+-- tail after the last of them.
 use Prim.Native.Nat.{ℕ, zero, suc, _+_, _≤_}
 use mathlib.Core.Path.{_≡_, refl, sym, ap, subst, _∙_}
 use mathlib.Core.Bool.{Bool, true, false, not, _&&_, true≢false}
@@ -23,7 +24,7 @@ use Rattle.format.proofs.BlockLaws.{BlockIs, accepted-block, sound-acce
 use Rattle.format.proofs.InductionLaws.{accepted-chain}
 use Rattle.format.proofs.NextLaws.{Next, next-tail, next-mark}
 
--- a field in the least bytes of a block is the same with anything after them
+-- A field within the first `leastBlock` bytes of a block is the same with anything after them.
 header-field : (p y z : Bytes) → leastBlock ≤ length p → (n w : ℕ) → leb (n + w) leastBlock ≡ true → take w (drop n (p ++ y)) ≡ take w (drop n (p ++ z))
 header-field p y z h n w q =
     let inside : n + w ≤ leastBlock = leb-true _ _ q in
@@ -31,7 +32,7 @@ header-field p y z h n w q =
     let room : w ≤ length (drop n p) = simp length-drop (omega arith) in
     rw (drop-append-le n p y, drop-append-le n p z, take-append-le w (drop n p) y, take-append-le w (drop n p) z)
 
--- a block that is not streamed is the same with anything after its allocated space
+-- If a block is not streamed, it is the same with anything after its allocated space.
 block-again : (i n : ℕ) (p y z : Bytes) (b : Block) → length p ≡ extent b → isStreamed (b .flags) ≡ false
     → block i n (p ++ z) ≡ accepted b → block i n (p ++ y) ≡ accepted b
 unfolding soundBlock blockWith
@@ -53,8 +54,8 @@ block-again i n p y z b size plain read =
     let same-block : soundBlock i n (p ++ y) ≡ soundBlock i n (p ++ z) = simp (soundBlock, same-fields, streamed) in
     sound-accepted i n (p ++ y) sound ∙ ap accepted (same-block ∙ sym (known .is))
 
--- the blocks of c, at most k, with the space between them are a front part of t and its tail is the rest; they are the same with
--- another tail if, of a block b and them, the last is not streamed
+-- The blocks of `c`, at most `k`, are a front part of `t` together with the space between them, and the tail of `c` is
+-- the rest. If the last of a block `b` and these blocks is not streamed, they are the same with another tail.
 record ChainFront (k i n : ℕ) (t : Bytes) (c : Chain) : Type 0 where
   front : Bytes
   whole : t ≡ front ++ c .tail
@@ -64,34 +65,34 @@ record ChainFront (k i n : ℕ) (t : Bytes) (c : Chain) : Type 0 where
   local : (b : Block) → mayHaveIndex (b ∷ c .blocks) ≡ true → (y : Bytes) → isTail y ≡ true
       → chain k i n (front ++ y) ≡ accepted (record { blocks = c .blocks; tail = y })
 
--- where no block follows, the tail begins
+-- If no block follows, the outcome of the chain is that of the tail.
 pub chain-none : (k i n : ℕ) (t : Bytes) → nextBlock t ≡ none → chain k i n t ≡ tail n t
 unfolding chain
 chain-none zero i n t h = rw (h, chain)
 chain-none (suc k) i n t h = rw (h, chain)
 
--- where a block follows and none is allowed, its mark is refused
+-- If a block follows and none is allowed, the chain is refused at its mark.
 pub chain-many : (i n g : ℕ) (t : Bytes) → nextBlock t ≡ some g → chain zero i n t ≡ refused (refusal 16 (n + g))
 unfolding chain
 chain-many i n g t h = rw (h, chain)
 
--- where a block follows, the chain goes on at its mark
+-- If a block follows, the chain continues at its mark.
 pub chain-next : (k i n g : ℕ) (t : Bytes) → nextBlock t ≡ some g → chain (suc k) i n t ≡ linkedAt i (n + g) (drop g t) (chain k (i + 1))
 unfolding chain
 chain-next k i n g t h = rw (h, chain)
 
--- a tail is a chain of no blocks
+-- A tail is read as a chain of no blocks.
 pub no-blocks : (k i n : ℕ) (y : Bytes) → isTail y ≡ true → chain k i n y ≡ accepted (ended y)
 unfolding tail
 no-blocks k i n y h = chain-none k i n y (next-tail y h) ∙ rw (tail, h)
 
--- a tail is the rest of no blocks
+-- For a chain of no blocks, the front part is empty and the tail is all of `t`.
 tail-front : (k i n : ℕ) (t : Bytes) → ChainFront k i n t (ended t)
 unfolding blocksEnd mayHaveIndex
 tail-front k i n t =
     record { front = []; whole = refl; end = omega arith; few = omega arith; marked = λ h. absurd (true≢false (sym h)); local = λ b h. no-blocks k i n }
 
--- a streamed block, after g bytes, is all that is left
+-- If a streamed block follows after `g` bytes, the front part is all of `t`.
 streamed-front : (k i n g : ℕ) (t : Bytes) (b : Block) → Next t g → block i (n + g) (drop g t) ≡ accepted b → isStreamed (b .flags) ≡ true
     → ChainFront (suc k) i n t (linked b (ended []))
 unfolding blocksEnd mayHaveIndex
@@ -106,25 +107,25 @@ streamed-front k i n g t b next read s =
       local = λ a q. absurd (true≢false (sym q ∙ ap not s));
     }
 
--- what begins with p does so with anything behind the first bytes
+-- If `s` is at least as long as `p`, what follows `s` does not matter for whether the bytes begin with `p`.
 begins-front : (p s y z : Bytes) → length p ≤ length s → begins p (s ++ y) ≡ begins p (s ++ z)
 begins-front [] s y z h = refl
 begins-front (a ∷ p) [] y z h = absurd (omega arith)
 begins-front (a ∷ p) (b ∷ s) y z h = ap (λ (x : Bool). eqb a b && x) (begins-front p s y z (omega arith))
 
--- after q, in which no mark begins, stands the block b, which is p
+-- The bytes `q`, in which no mark begins, are followed by the bytes `p` of the block `b`.
 module _ (k i n : ℕ) (q p z : Bytes) (b : Block) (size : length p ≡ extent b) (unindexed : begins indexLine (q ++ (p ++ z)) ≡ false)
     (free : freeSpace (q ++ (p ++ z)) ≡ length q) (marked : begins mark (p ++ z) ≡ true)
     (read : block i (n + length q) (p ++ z) ≡ accepted b) (unstreamed : isStreamed (b .flags) ≡ false) where
-  -- all that is known of it
   known : BlockIs i (n + length q) (p ++ z) b
   known = accepted-block read
 
-  -- its mark is the same with anything after it
+  -- The bytes `p` begin with the mark, whatever follows them.
   marked-again : (u : Bytes) → begins mark (p ++ u) ≡ true
   marked-again u = begins-front mark p u z (omega (arith, known .header-least)) ∙ marked
 
-  -- a block is the first of a chain with any chain behind it
+  -- If the bytes `u` are read as the chain `d`, then `q`, `p` and `u` together are read as the block `b` followed by
+  -- `d`.
   linked-again : (u : Bytes) (d : Chain) → chain k (i + 1) (n + length q + extent b) u ≡ accepted d → chain (suc k) i n (q ++ (p ++ u)) ≡ accepted (linked b d)
   unfolding linkedAt
   linked-again u d h =
@@ -141,7 +142,8 @@ module _ (k i n : ℕ) (q p z : Bytes) (b : Block) (size : length p ≡ extent b
       ∙ ap (λ (v : Bytes). linkedAt i (n + length q) v (chain k (i + 1))) (drop-append-seam q (p ++ u))
       ∙ here
 
-  -- a block that is not streamed is a front part, with those behind it
+  -- If the blocks of `c` are a front part of `z`, then `b` and the blocks of `c` are a front part of `q`, `p` and `z`
+  -- together.
   linked-front : (c : Chain) → ChainFront k (i + 1) (n + length q + extent b) z c → ChainFront (suc k) i n (q ++ (p ++ z)) (linked b c)
   unfolding blocksEnd mayHaveIndex
   linked-front c f = record {
@@ -160,7 +162,7 @@ module _ (k i n : ℕ) (q p z : Bytes) (b : Block) (size : length p ≡ extent b
       no-gap [] e y = rw (append-assoc p (f .front) y) (marked-again (f .front ++ y))
       no-gap (a ∷ q) e y = absurd (omega arith)
 
--- a block that is not streamed, after g bytes, is a front part with those after it
+-- If a block that is not streamed follows after `g` bytes, it is a front part of `t` together with the blocks after it.
 plain-front : (k i n g : ℕ) (t : Bytes) (b : Block) (c : Chain) → Next t g → block i (n + g) (drop g t) ≡ accepted b → isStreamed (b .flags) ≡ false
     → ChainFront k (i + 1) (n + g + extent b) (drop (extent b) (drop g t)) c → ChainFront (suc k) i n t (linked b c)
 plain-front k i n g t b c next read e f =
@@ -174,27 +176,27 @@ plain-front k i n g t b c next read e f =
     (rw (inner, outer) (next .unindexed)) (rw (inner, outer, gap) (next .free)) (rw inner (next .marked))
     (rw (inner, gap) read) e c (rw gap f))
 
--- where the last block is not streamed, a block may stand in front
+-- If the last of some blocks is not streamed, this remains so with a further block before them.
 with-first : (bs : List Block) → mayHaveIndex bs ≡ true → (b : Block) × (mayHaveIndex (b ∷ bs) ≡ true)
 unfolding mayHaveIndex
 with-first [] h = absurd (true≢false (sym h))
 with-first (b ∷ bs) h = (b, h)
 
 module _ (k i n : ℕ) (c : Chain) where
-  -- the blocks of an accepted chain are a front part
+  -- The blocks of an accepted chain are a front part of `t`.
   accepted-front : (t : Bytes) → chain k i n t ≡ accepted c → ChainFront k i n t c
   accepted-front t =
       accepted-chain {P = ChainFront} (record { no-block = λ k i n t h. tail-front k i n t; streamed-block = streamed-front; plain-block = plain-front })
 
-  -- there are no more than are allowed
+  -- An accepted chain has no more blocks than are allowed.
   pub blocks-few : (t : Bytes) → chain k i n t ≡ accepted c → length (c .blocks) ≤ k
   blocks-few t e = accepted-front t e .few
 
-  -- the last block ends inside the bytes
+  -- The last block of an accepted chain ends within the bytes.
   pub blocks-bounds : (t : Bytes) → chain k i n t ≡ accepted c → Between n (n + length t) (blocksEnd n (c .blocks))
   blocks-bounds t e = let f = accepted-front t e in omega (arith, simp length-append at (ap length (f .whole)))
 
-  -- the tail stands behind the last block
+  -- The tail of an accepted chain begins where its last block ends.
   pub tail-after : (s : Bytes) → chain k i n (drop n s) ≡ accepted c → c .tail ≡ drop (blocksEnd n (c .blocks)) s
   tail-after s e =
       let f = accepted-front (drop n s) e in
@@ -202,18 +204,18 @@ module _ (k i n : ℕ) (c : Chain) where
       ∙ ap (λ (m : ℕ). drop m s) (sym (f .end))
 
   module _ (p z : Bytes) (e : chain k i n (p ++ z) ≡ accepted c) (size : blocksEnd n (c .blocks) ≡ n + length p) (h : mayHaveIndex (c .blocks) ≡ true) where
-    -- the blocks, and the space between them, are p
+    -- The blocks, with the space between them, are exactly `p`.
     same-front : accepted-front (p ++ z) e .front ≡ p
     same-front =
         let f = accepted-front (p ++ z) e in
         let same-length : length (f .front) ≡ length p = omega (arith, f .end) in
         sym (take-at (f .front) (c .tail) (length p) same-length) ∙ ap (take (length p)) (sym (f .whole)) ∙ take-append-seam p z
 
-    -- where no space stands before the first of them, p begins with its mark
+    -- If there is no space before the first block, the bytes begin with its mark, whatever follows `p`.
     pub blocks-begin : freeSpace (p ++ z) ≡ 0 → (y : Bytes) → begins mark (p ++ y) ≡ true
     blocks-begin g y = subst (λ (x : Bytes). begins mark (x ++ y) ≡ true) same-front (accepted-front (p ++ z) e .marked h g y)
 
-    -- where the last is not streamed, they are the same with another tail
+    -- If the last block is not streamed, the blocks are the same with another tail.
     pub chain-again : (y : Bytes) → isTail y ≡ true → chain k i n (p ++ y) ≡ accepted (record { blocks = c .blocks; tail = y })
     chain-again y q =
         let (b, m) = with-first (c .blocks) h in

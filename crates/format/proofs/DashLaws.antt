@@ -1,4 +1,5 @@
--- The dash style of an index: lines that are read as numbers are those numbers written, and numbers written are read again.
+-- The dash style of an index: lines that are read as numbers are these numbers written with dashes, and numbers that
+-- are written with dashes are read again.
 use Prim.Native.Nat.{ℕ, suc, _^_, _≤_, _<_}
 use mathlib.Core.Path.{_≡_, refl, ap, _∙_}
 use mathlib.Core.Bool.{Bool, true, false}
@@ -18,11 +19,11 @@ use Rattle.format.proofs.LineLaws.{joinLines, plain-line, lacks-ends, A
 use Rattle.format.proofs.NumeralLaws.{decimal-is, decimal-lacks, numeral-decimal, numeral-text, both-some}
 use Rattle.format.proofs.SpaceLaws.{end-spaces, end-text}
 
--- the numbers of dash lines
+-- The numbers of these dash lines.
 abbrev pub dashed-numbers : List DashLine → List ℕ
 dashed-numbers ds = map (λ (d : DashLine). d .number) ds
 
--- a line that is read as a number is a dash, a space, that number and spaces
+-- A line that is read as a number consists of a dash, a space, that number in decimal and any number of spaces.
 dash-read : (t : Bytes) (n : ℕ) → dashed t ≡ some n → (k : ℕ) × (t ≡ dash ++ (decimal n ++ replicate k 32))
 unfolding dashed
 dash-read t n h = go (without dash t) refl
@@ -34,16 +35,16 @@ dash-read t n h = go (without dash t) refl
         let digits = numeral-text 10 (trimEnd u) n (rw (e, dashed) at h) in
         (i .0, without-some dash t u e ∙ ap (λ (x : Bytes). dash ++ x) (i .1 ∙ ap (λ (x : Bytes). x ++ replicate (i .0) 32) digits))
 
--- lines with numbers after dashes, in front of others
+-- Lines with numbers after dashes, followed by the lines `l`.
 unfoldable pub dashLines : List DashLine → Lines → Lines
 dashLines [] l = l
 dashLines (d ∷ ds) l = line (dashText d) (d .ending) (dashLines ds l)
 
--- the end line of an index, and zeros after it
+-- The end line of an index, followed by zeros.
 abbrev pub endLines : LineEnd → ℕ → Lines
 endLines e zeros = line endLine e (unended (replicate zeros 0))
 
--- what is found before zeros only
+-- If `withZeros` gives numbers, only zeros follow and the numbers are those it was given.
 pub zeros-read : (o : Option (List ℕ)) (l : Lines) (ns : List ℕ) → withZeros o l ≡ some ns → (k : ℕ) × (l ≡ unended (replicate k 0)) × (o ≡ some ns)
 unfolding withZeros
 zeros-read o (line t e l) ns h = absurd (Option·none-ne-some ns h)
@@ -53,7 +54,7 @@ zeros-read o (unended z) ns h = go (allZero z) refl
     go true q = (length z, ap unended (all-zero-true z q), rw (q, withZeros) at h)
     go false q = absurd (Option·none-ne-some ns (rw (q, withZeros) at h))
 
--- l are lines with these numbers after dashes, and the end of an index
+-- `l` consists of lines with these numbers after dashes, followed by the end of an index.
 pub record ReadDashes (l : Lines) (ns : List ℕ) : Type 0 where
   pub list : List DashLine
   pub last : LineEnd
@@ -61,7 +62,7 @@ pub record ReadDashes (l : Lines) (ns : List ℕ) : Type 0 where
   pub lined : l ≡ dashLines list (endLines last zeros)
   pub same-numbers : dashed-numbers list ≡ ns
 
--- one such line more
+-- A line that is read as a number may come before such lines, and its number comes first.
 dashes-more : (t : Bytes) (e : LineEnd) (l : Lines) (n : ℕ) (ns : List ℕ) → dashed t ≡ some n → ReadDashes l ns → ReadDashes (line t e l) (n ∷ ns)
 unfolding dashLines dashText
 dashes-more t e l n ns h rest =
@@ -74,7 +75,7 @@ dashes-more t e l n ns h rest =
       same-numbers = ap (λ (ms : List ℕ). n ∷ ms) (rest .same-numbers);
     }
 
--- only such lines are read as numbers after dashes
+-- If lines are read as numbers after dashes, `ReadDashes` holds for them.
 pub dashes-read : (l : Lines) (ns : List ℕ) → dashNumbers l ≡ some ns → ReadDashes l ns
 unfolding dashNumbers dashLines
 dashes-read (unended t) ns h = absurd (Option·none-ne-some ns h)
@@ -94,20 +95,21 @@ dashes-read (line t e l) ns h = go (same t endLine) refl (dashes-read l)
         let (n, ms, first, others, whole) = both-some (dashed t) (dashNumbers l) ns (rw (q, dashNumbers) at h) in
         rw (← whole) (dashes-more t e l n ms first (i ms others))
 
--- where at least one number is read, there is one
+-- If `atLeastOne` gives numbers, there is at least one, and they are those it was given.
 pub some-read : (o : Option (List ℕ)) (ns : List ℕ) → atLeastOne o ≡ some ns → (o ≡ some ns) × (1 ≤ length ns)
 unfolding atLeastOne
 some-read none ns h = absurd (Option·none-ne-some ns h)
 some-read (some []) ns h = absurd (Option·none-ne-some ns h)
 some-read (some (n ∷ ms)) ns h = let e : n ∷ ms ≡ ns = cc in (h, omega (arith, ap length e))
 
--- and where there is one, at least one is read
+-- If there is at least one number, `atLeastOne` gives the numbers unchanged.
 pub some-again : (ns : List ℕ) → 1 ≤ length ns → atLeastOne (some ns) ≡ some ns
 unfolding atLeastOne
 some-again [] h = absurd (omega arith)
 some-again (n ∷ ns) h = refl
 
--- numbers after dashes are the bytes of their lines
+-- The bytes of lines with numbers after dashes are the bytes of each dash line, followed by the bytes of the other
+-- lines.
 pub dash-join : (ds : List DashLine) (l : Lines) → joinLines (dashLines ds l) ≡ flatMap dashLine ds ++ joinLines l
 unfolding dashLines joinLines flatMap dashLine
 dash-join [] l = refl
@@ -115,33 +117,33 @@ dash-join (d ∷ ds) l =
     ap (λ (x : Bytes). dashText d ++ (lineEnd (d .ending) ++ x)) (dash-join ds l)
     ∙ simp append-assoc
 
--- a dash line has no other bytes than those of a dash, spaces and digits
+-- The text of a dash line lacks every byte that is not a digit, a space or a byte of `dash`.
 dash-lacks : (b : ℕ) → lacks b dash ≡ true → eqb 32 b ≡ false → isDigit b ≡ false → (d : DashLine) → lacks b (dashText d) ≡ true
 unfolding dashText
 dash-lacks b p h k d =
     lacks-append b (dash ++ decimal (d .number)) (replicate (d .after) 32)
     (lacks-append b dash (decimal (d .number)) p (decimal-lacks b (d .number) k)) (lacks-replicate b 32 (d .after) h)
 
--- lines with numbers after dashes have texts of lines, if those after them do
+-- If `AreLines` holds for `l`, it still holds with dash lines before `l`.
 pub dashes-are-lines : (ds : List DashLine) (l : Lines) → AreLines l → AreLines (dashLines ds l)
 unfolding dashLines
 dashes-are-lines [] l h = h
 dashes-are-lines (d ∷ ds) l h =
     (plain-line (dashText d) (d .ending) (dash-lacks 10 refl refl refl d) (lacks-ends 13 (dashText d) (dash-lacks 13 refl refl refl d)), dashes-are-lines ds l h)
 
--- a number after a dash is read as the number
+-- The text of a dash line with a number of at most ten digits is read as that number.
 dash-again : (d : DashLine) → d .number < 10 ^ 10 → dashed (dashText d) ≡ some (d .number)
 unfolding dashed dashText without
 dash-again d h =
     rw (dashed, end-text (decimal (d .number)) (d .after) (decimal-is (d .number) .some-digit) (decimal-lacks 32 (d .number) refl))
     (numeral-decimal 10 (d .number) (omega arith) h)
 
--- it is not the end of an index
+-- The text of a dash line is not the end line.
 dash-other : (d : DashLine) → same (dashText d) endLine ≡ false
 unfolding dashText
 dash-other d = refl
 
--- many are read as the numbers
+-- Dash lines with numbers of at most ten digits, followed by the end of an index, are read as their numbers.
 pub dashes-again : (ds : List DashLine) (e : LineEnd) (zeros : ℕ) → ((i : ℕ) → getD (dashed-numbers ds) i 0 < 10 ^ 10)
     → dashNumbers (dashLines ds (endLines e zeros)) ≡ some (dashed-numbers ds)
 unfolding dashNumbers dashLines withZeros both

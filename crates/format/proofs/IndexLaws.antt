@@ -1,4 +1,4 @@
--- An index is good exactly when it is a rendering of the blocks' offsets; and the index that is written here is one.
+-- An index is good exactly if it is a rendering of the blocks' offsets. The index that is written here is one.
 use Prim.Native.Nat.{ℕ, suc, _+_, _-_, _*_, _^_, _≤_, _<_}
 use mathlib.Core.Path.{_≡_, refl, sym, ap, ap₂, _∙_}
 use mathlib.Core.Bool.{Bool, true, false}
@@ -21,11 +21,11 @@ use Rattle.format.proofs.NumeralLaws.{decimal-is, decimal-lacks, joined
 use Rattle.format.proofs.SpaceLaws.{trim-padded, trim-text}
 use Rattle.format.proofs.DashLaws.{dashed-numbers, dashLines, endLines, zeros-read, dashes-read, some-read, some-again, dash-join, dashes-are-lines, dashes-again}
 
--- the list's line, with u between the brackets
+-- The line of a list in brackets, with `u` between the brackets.
 abbrev listLine : Bytes → Bytes
 listLine u = text "--- [" ++ (u ++ text "]")
 
--- a line is that of what is found between its brackets
+-- If `u` is found between the brackets of a line, the line is `u` in brackets.
 brackets-some : (c u : Bytes) → inBrackets c ≡ some u → c ≡ listLine u
 unfolding inBrackets
 brackets-some c u h = outer (without (text "--- [") c) refl
@@ -41,38 +41,38 @@ brackets-some c u h = outer (without (text "--- [") c) refl
     outer none e = let n : none ≡ some u = rw (e, inBrackets) at h in cc
     outer (some w) e = inner w (without (text "]") (reverse w)) refl e
 
--- what stands between the brackets is found there
+-- In the line with `u` between the brackets, `u` is found there.
 brackets-of : (u : Bytes) → inBrackets (listLine u) ≡ some u
 unfolding inBrackets without
 brackets-of u = rw (reverse-append u (text "]"), inBrackets) (ap some (reverse-reverse u))
 
--- the numbers of entries
+-- The numbers of these entries.
 abbrev numbers : List Entry → List ℕ
 numbers es = map (λ (e : Entry). e .number) es
 
--- entries are written with commas between
+-- Entries are written with commas between them.
 entries-joined : (es : List Entry) → entries es ≡ joined 44 (map entry es)
 unfolding entries joined
 entries-joined [] = refl
 entries-joined (e ∷ []) = refl
 entries-joined (e ∷ f ∷ es) = append-assoc (entry e) (text ",") (entries (f ∷ es)) ∙ ap (λ (t : Bytes). entry e ++ (44 ∷ t)) (entries-joined (f ∷ es))
 
--- ps are entries of these numbers
+-- `ps` are the texts of entries with these numbers.
 record AreEntries (ps : List Bytes) (ns : List ℕ) : Type 0 where
   list : List Entry
   written : map entry list ≡ ps
   same-numbers : numbers list ≡ ns
 
--- a number with the spaces around it that a part has
+-- The number `n`, with as many spaces before and after it as `p` has.
 abbrev entry-of : Bytes → ℕ → Entry
 entry-of p n = record { before = trim-padded p .before; number = n; after = trim-padded p .after }
 
--- a part that is read as a number, trimmed, is that number's entry
+-- If a part is read as a number when it is trimmed, it is the text of an entry with that number.
 entry-written : (p : Bytes) (n : ℕ) → numeral 10 (trim p) ≡ some n → entry (entry-of p n) ≡ p
 unfolding entry
 entry-written p n h = rw (← numeral-text 10 (trim p) n h) (sym (trim-padded p .padded))
 
--- parts that are read as numbers, trimmed, are entries of those numbers
+-- If parts are read as numbers when they are trimmed, they are the texts of entries with these numbers.
 all-entries : (ps : List Bytes) (ns : List ℕ) → numerals 10 (map trim ps) ≡ some ns → AreEntries ps ns
 unfolding numerals
 all-entries [] ns h = record { list = []; written = refl; same-numbers = cc }
@@ -85,14 +85,14 @@ all-entries (p ∷ ps) ns h =
       same-numbers = ap (λ (ks : List ℕ). n ∷ ks) (rest .same-numbers) ∙ whole;
     }
 
--- t is a list of entries of these numbers
+-- `t` is a list of entries with these numbers, at least one.
 record IsList (t : Bytes) (ns : List ℕ) : Type 0 where
   list : List Entry
   written : entries list ≡ t
   same-numbers : numbers list ≡ ns
   some-number : 1 ≤ length list
 
--- a list that is read as numbers is one of entries of them
+-- If the text between brackets is read as numbers, it is a list of entries with these numbers.
 list-read : (t : Bytes) (ns : List ℕ) → listed (some t) ≡ some ns → IsList t ns
 unfolding listed
 list-read t ns h =
@@ -105,7 +105,7 @@ list-read t ns h =
       some-number = omega (arith, parts .some-part, ap length (es .written), length-map (es .list) entry);
     }
 
--- the list's line is read by what is between its brackets
+-- If a line is read as numbers in brackets, it has a text between brackets, and that text is read as these numbers.
 line-read : (c : Bytes) (ns : List ℕ) → listed (inBrackets c) ≡ some ns → (u : Bytes) × (c ≡ listLine u) × (listed (some u) ≡ some ns)
 unfolding listed
 line-read c ns h = go (inBrackets c) refl
@@ -114,16 +114,16 @@ line-read c ns h = go (inBrackets c) refl
     go none e = absurd (Option·none-ne-some ns (rw (e, listed) at h))
     go (some u) e = (u, brackets-some c u e, rw e at h)
 
--- the lines of a list, in front of others
+-- The lines of a list, followed by the lines `l`.
 unfoldable listLines : StyledList → Lines → Lines
 listLines (brackets es e) l = line (listLine (entries es)) e l
 listLines (dashes e ds) l = line dashStart e (dashLines ds l)
 
--- the lines of an index
+-- The lines of an index.
 abbrev indexLines : LineEnd → LineEnd → StyledList → LineEnd → ℕ → Lines
 indexLines a b x d zeros = line indexLine a (line yamlLine b (listLines x (endLines d zeros)))
 
--- what is found after a word
+-- If numbers are found after a word, the first line is that word, and `f` finds the numbers in the lines after it.
 word-read : (word : Bytes) (f : Lines → Option (List ℕ)) (l : Lines) (ns : List ℕ) → afterWord word f l ≡ some ns
     → (e : LineEnd) × (m : Lines) × (l ≡ line word e m) × (f m ≡ some ns)
 unfolding afterWord
@@ -134,7 +134,7 @@ word-read word f (line t e l) ns h = go (same t word) refl
     go true q = (e, l, ap (λ (u : Bytes). line u e l) (same-true t word q), rw (q, afterWord) at h)
     go false q = absurd (Option·none-ne-some ns (rw (q, afterWord) at h))
 
--- l are the lines of a list of these numbers, and the end of an index
+-- `l` consists of the lines of a list with these numbers, at least one, followed by the end of an index.
 record ReadList (l : Lines) (ns : List ℕ) : Type 0 where
   list : StyledList
   last : LineEnd
@@ -143,7 +143,7 @@ record ReadList (l : Lines) (ns : List ℕ) : Type 0 where
   same-numbers : numbersOf list ≡ ns
   some-number : 1 ≤ length ns
 
--- only such lines are read as a list
+-- If lines are read as a list in either style, `ReadList` holds for them.
 styled-read : (l : Lines) (ns : List ℕ) → styled l ≡ some ns → ReadList l ns
 unfolding styled listLines numbersOf
 styled-read (unended t) ns h = absurd (Option·none-ne-some ns h)
@@ -175,7 +175,7 @@ styled-read (line t e l) ns h = go (same t dashStart) refl
           some-number = omega (arith, es .some-number, length-map (es .list) (λ (x : Entry). x .number), ap length (es .same-numbers));
         }
 
--- a list is the bytes of its lines
+-- The text of a list, followed by the bytes of `l`, is the bytes of the list's lines followed by `l`.
 list-join : (x : StyledList) (l : Lines) → styledText x ++ joinLines l ≡ joinLines (listLines x l)
 unfolding styledText listLines joinLines
 list-join (brackets es e) l = grouped (text "--- [") (entries es) (text "]") (lineEnd e) (joinLines l)
@@ -188,7 +188,7 @@ list-join (dashes e ds) l =
     grouped : (a b c z : Bytes) → a ++ b ++ c ++ z ≡ a ++ (b ++ (c ++ z))
     grouped a b c z = simp append-assoc
 
--- a rendering is the bytes of its lines
+-- A rendering is the bytes of its lines.
 rendering-join : (a b : LineEnd) (x : StyledList) (d : LineEnd) (zeros : ℕ) → rendering a b x d zeros ≡ joinLines (indexLines a b x d zeros)
 unfolding rendering joinLines
 rendering-join a b x d zeros =
@@ -198,7 +198,7 @@ rendering-join a b x d zeros =
     grouped : (i a y b x e d z : Bytes) → i ++ a ++ y ++ b ++ x ++ e ++ d ++ z ≡ i ++ (a ++ (y ++ (b ++ (x ++ (e ++ (d ++ z))))))
     grouped i a y b x e d z = simp append-assoc
 
--- numbers are good if they are the offsets
+-- If what is found is judged good, it is the offsets.
 judged-good : (offsets : List ℕ) (o : Option (List ℕ)) → judged offsets o ≡ Good → o ≡ some offsets
 unfolding judged
 judged-good offsets none h = cc
@@ -208,7 +208,7 @@ judged-good offsets (some ns) h = go (same ns offsets) refl
     go true e = ap some (same-true ns offsets e)
     go false e = let z : IgnoredList ≡ Good = rw (e, judged) at h in cc
 
--- what is good is read as the offsets
+-- If the verdict on a tail is good, the tail is read as an index of the offsets.
 good-read : (offsets : List ℕ) (t : Bytes) → verdict offsets t ≡ Good → indexed (lines t) ≡ some offsets
 unfolding verdict
 good-read offsets t h = go (allZero t) refl
@@ -217,7 +217,7 @@ good-read offsets t h = go (allZero t) refl
     go true e = let z : Absent ≡ Good = rw (e, verdict) at h in cc
     go false e = judged-good offsets (indexed (lines t)) (rw (e, verdict) at h)
 
--- what is read as the offsets is a rendering of them
+-- If a tail is read as an index of the offsets, it is a rendering of them.
 read-is-index : (offsets : List ℕ) (t : Bytes) → indexed (lines t) ≡ some offsets → IsIndex offsets t
 unfolding indexed
 read-is-index offsets t h =
@@ -238,11 +238,11 @@ read-is-index offsets t h =
       some-number = r .some-number;
     }
 
--- a good index is a rendering of the offsets
+-- If the verdict on a tail is good, the tail is a rendering of the offsets.
 pub good-is-index : (offsets : List ℕ) (t : Bytes) → verdict offsets t ≡ Good → IsIndex offsets t
 good-is-index offsets t h = read-is-index offsets t (good-read offsets t h)
 
--- an entry has digits and spaces only
+-- The texts of entries lack every byte that is neither a digit nor a space.
 entries-lack : (b : ℕ) → eqb 32 b ≡ false → isDigit b ≡ false → (es : List Entry) → AllLack b (map entry es)
 unfolding entry
 entries-lack b h k [] = tt
@@ -252,7 +252,7 @@ entries-lack b h k (e ∷ es) =
     let number = lacks-append b (replicate (e .before) 32) (decimal (e .number)) before (decimal-lacks b (e .number) k) in
     (lacks-append b (replicate (e .before) 32 ++ decimal (e .number)) (replicate (e .after) 32) number after, entries-lack b h k es)
 
--- the list's line has the text of a line
+-- The line of a list in brackets is the text of a line with any line end.
 list-is-line : (es : List Entry) (e : LineEnd) → IsLine (listLine (entries es)) e
 list-is-line es e =
     let u = entries es in
@@ -260,39 +260,39 @@ list-is-line es e =
     let whole = lacks-append 10 (text "--- [") (u ++ text "]") refl (lacks-append 10 u (text "]") lack refl) in
     plain-line (listLine u) e whole (ends-snoc 13 93 (text "--- [" ++ u))
 
--- the lines of a list have texts of lines, if those after them do
+-- If `AreLines` holds for `l`, it still holds with the lines of a list before `l`.
 list-are-lines : (x : StyledList) (l : Lines) → AreLines l → AreLines (listLines x l)
 unfolding listLines
 list-are-lines (brackets es e) l h = (list-is-line es e, h)
 list-are-lines (dashes e ds) l h = (plain-line dashStart e refl refl, dashes-are-lines ds l h)
 
--- the lines of an index have texts of lines
+-- `AreLines` holds for the lines of an index.
 index-are-lines : (a b : LineEnd) (x : StyledList) (d : LineEnd) (zeros : ℕ) → AreLines (indexLines a b x d zeros)
 index-are-lines a b x d zeros =
     let end : AreLines (endLines d zeros) = (plain-line endLine d refl refl, lacks-replicate 10 0 zeros refl) in
     (plain-line indexLine a refl refl, (plain-line yamlLine b refl refl, list-are-lines x (endLines d zeros) end))
 
--- a rendering has the lines of an index
+-- The lines of a rendering are the lines of an index.
 lines-rendering : (a b : LineEnd) (x : StyledList) (d : LineEnd) (zeros : ℕ) → lines (rendering a b x d zeros) ≡ indexLines a b x d zeros
 lines-rendering a b x d zeros = ap lines (rendering-join a b x d zeros) ∙ lines-join (indexLines a b x d zeros) (index-are-lines a b x d zeros)
 
--- entries are split at their commas
+-- If there is an entry, the text of the entries is split at its commas into the text of each entry.
 split-entries : (es : List Entry) → 1 ≤ length es → split 44 (entries es) ≡ map entry es
 split-entries [] h = absurd (omega arith)
 split-entries (e ∷ es) h = ap (split 44) (entries-joined (e ∷ es)) ∙ split-joined 44 (entry e) (map entry es) (entries-lack 44 refl refl (e ∷ es))
 
--- an entry, trimmed, is its number in decimal
+-- The text of an entry, trimmed, is its number in decimal.
 trim-entry : (e : Entry) → trim (entry e) ≡ decimal (e .number)
 unfolding entry
 trim-entry e = trim-text (e .before) (decimal (e .number)) (e .after) (decimal-is (e .number) .some-digit) (decimal-lacks 32 (e .number) refl)
 
--- entries are read as their numbers
+-- If their numbers have at most ten digits, entries are read as their numbers.
 read-entries : (es : List Entry) → ((i : ℕ) → getD (numbers es) i 0 < 10 ^ 10) → numerals 10 (map trim (map entry es)) ≡ some (numbers es)
 unfolding numerals both
 read-entries [] h = refl
 read-entries (e ∷ es) h = rw (trim-entry e, numeral-decimal 10 (e .number) (omega arith) (h 0), read-entries es (λ i. h (suc i)))
 
--- the lines of an index are read as its numbers
+-- If there is a number and all have at most ten digits, the lines of an index are read as its numbers.
 read-lines : (a b : LineEnd) (x : StyledList) (d : LineEnd) (zeros : ℕ) → 1 ≤ length (numbersOf x) → ((i : ℕ) → getD (numbersOf x) i 0 < 10 ^ 10)
     → indexed (indexLines a b x d zeros) ≡ some (numbersOf x)
 unfolding indexed afterWord styled withZeros listLines listed numbersOf
@@ -302,35 +302,35 @@ read-lines a b (brackets es c) d zeros p h =
 read-lines a b (dashes c ds) d zeros p h =
     ap atLeastOne (dashes-again ds d zeros h) ∙ some-again (dashed-numbers ds) p
 
--- what is read as the offsets is good
+-- If a tail that is not all zero is read as the offsets, the verdict on it is good.
 read-good : (offsets : List ℕ) (t : Bytes) → allZero t ≡ false → indexed (lines t) ≡ some offsets → verdict offsets t ≡ Good
 unfolding verdict judged
 read-good offsets t z h = rw (z, verdict, h, eq-same offsets offsets refl, judged)
 
--- a rendering of numbers of at most ten digits is a good index of them
+-- A rendering of numbers of at most ten digits, at least one, is a good index of them.
 rendering-good : (a b : LineEnd) (x : StyledList) (d : LineEnd) (zeros : ℕ) → 1 ≤ length (numbersOf x) → ((i : ℕ) → getD (numbersOf x) i 0 < 10 ^ 10)
     → verdict (numbersOf x) (rendering a b x d zeros) ≡ Good
 unfolding rendering
 rendering-good a b x d zeros p h =
     read-good (numbersOf x) (rendering a b x d zeros) refl (ap indexed (lines-rendering a b x d zeros) ∙ read-lines a b x d zeros p h)
 
--- a rendering of the offsets, where they have at most ten digits, is a good index
+-- If the offsets have at most ten digits, a rendering of them is a good index.
 pub index-is-good : (offsets : List ℕ) (t : Bytes) → ((i : ℕ) → getD offsets i 0 < 10 ^ 10) → IsIndex offsets t → verdict offsets t ≡ Good
 index-is-good offsets t h i =
     ap₂ verdict (sym (i .same-numbers)) (i .written)
     ∙ rendering-good (i .first) (i .second) (i .list) (i .last) (i .zeros) (rw (i .same-numbers) (i .some-number)) (λ k. rw (i .same-numbers) (h k))
 
--- a number after a comma, as it is written here
+-- A number after a comma, as it is written here.
 abbrev next : ℕ → Entry
 next m = record { before = 1; number = m; after = 0 }
 
--- the numbers of the entries that are written are the offsets
+-- The numbers of the entries that are written are the offsets.
 spaced-numbers : (offsets : List ℕ) → numbers (spaced offsets) ≡ offsets
 unfolding spaced
 spaced-numbers [] = refl
 spaced-numbers (n ∷ ns) = ap (λ (ms : List ℕ). n ∷ ms) (map-map (λ (e : Entry). e .number) next ns ∙ map-id ns)
 
--- the index that is written is an index of the offsets
+-- If there is an offset, the index that is written is an index of the offsets.
 pub text-is-index : (e : LineEnd) (offsets : List ℕ) → 1 ≤ length offsets → IsIndex offsets (indexText e offsets)
 unfolding indexText numbersOf
 text-is-index e offsets h = record {
@@ -344,23 +344,24 @@ text-is-index e offsets h = record {
   some-number = h;
 }
 
--- how many digits numbers have together
+-- How many digits these numbers have together.
 unfoldable pub digitCount : List ℕ → ℕ
 digitCount [] = 0
 digitCount (n ∷ ns) = length (decimal n) + digitCount ns
 
--- an entry is as long as its spaces and its digits
+-- An entry is as long as its spaces and its digits together.
 entry-length : (e : Entry) → length (entry e) ≡ e .before + length (decimal (e .number)) + e .after
 unfolding entry
 entry-length e = simp (length-append, length-replicate)
 
--- each number after the first takes its digits, a comma and a space
+-- Each number after the first takes its digits, a comma and a space.
 entries-length : (e : Entry) (ns : List ℕ) → length (entries (e ∷ map next ns)) ≡ length (entry e) + digitCount ns + 2 * length ns
 unfolding entries digitCount
 entries-length e [] = omega arith
 entries-length e (n ∷ ns) = simp length-append (omega (arith, entry-length (next n), entries-length (next n) ns))
 
--- the index that is written is as long as its words, four line ends, its digits, and a comma and a space between each two numbers
+-- The index that is written is as long as its words, its four line ends and its digits together, with a comma and a
+-- space between each two numbers.
 pub text-length : (e : LineEnd) (offsets : List ℕ) → 1 ≤ length offsets
     → length (indexText e offsets) ≡ 35 + 4 * length (lineEnd e) + digitCount offsets + 2 * (length offsets - 1)
 unfolding indexText rendering styledText spaced digitCount
@@ -369,14 +370,14 @@ text-length e (n ∷ ns) h =
     let first : Entry = record { before = 0; number = n; after = 0 } in
     simp length-append (omega (arith, entry-length first, entries-length first ns))
 
--- numbers below 2 ^ 32 have at most ten digits each
+-- Numbers below 2^32 have at most ten digits each.
 digits-at-most : (ns : List ℕ) → ((i : ℕ) → getD ns i 0 < 2 ^ 32) → digitCount ns ≤ 10 * length ns
 unfolding digitCount
 digits-at-most [] h = omega arith
 digits-at-most (n ∷ ns) h =
     omega (arith, decimal-is n .few 10 (omega arith) (omega (arith, h 0)), digits-at-most ns (λ i. h (suc i)))
 
--- the index of at most 64 offsets below 2 ^ 32 takes at most 809 bytes
+-- The index of 1 to 64 offsets below 2^32 takes at most 809 bytes.
 pub text-at-most : (e : LineEnd) (offsets : List ℕ) → 1 ≤ length offsets → length offsets ≤ 64 → ((i : ℕ) → getD offsets i 0 < 2 ^ 32)
     → length (indexText e offsets) ≤ 809
 text-at-most e offsets some-number few small = omega (arith, text-length e offsets some-number, end-length e, digits-at-most offsets small)

@@ -1,4 +1,4 @@
--- Where the next block begins: at the first mark, unless an index begins at once.
+-- Where the next block begins: at the first mark, unless an index begins immediately.
 use Prim.Native.Nat.{ℕ, _≤_, _<_}
 use mathlib.Core.Path.{_≡_, refl, sym, ap, _∙_}
 use mathlib.Core.Bool.{Bool, true, false, or-false}
@@ -14,17 +14,17 @@ use Rattle.format.specs.Chain.{isTail, markAhead, nextBlock}
 use Rattle.format.proofs.ByteLaws.{begins-true, all-zero-true, lacks-replicate}
 use Rattle.format.proofs.LocalLaws.{free-space-all, free-space-mark, free-space-stops}
 
--- what begins with a mark begins no index
+-- Bytes that begin with a mark do not begin with an index.
 mark-unindexed : (t : Bytes) → begins mark t ≡ true → begins indexLine t ≡ false
 mark-unindexed t h = ap (begins indexLine) (begins-true mark t h)
 
 module _ (t : Bytes) where
-  -- where an index begins, no block follows
+  -- If an index begins, no block follows.
   pub next-index : begins indexLine t ≡ true → nextBlock t ≡ none
   unfolding nextBlock
   next-index h = rw (h, nextBlock)
 
-  -- where there is no mark, no block follows
+  -- If there is no mark, no block follows.
   pub next-none : length t ≤ freeSpace t → nextBlock t ≡ none
   unfolding nextBlock markAhead
   next-none h = go (begins indexLine t) refl
@@ -33,7 +33,7 @@ module _ (t : Bytes) where
       go true e = next-index e
       go false e = rw (e, nextBlock, le-ltb (freeSpace t) (length t) h, markAhead)
 
-  -- no block follows in a tail
+  -- No block follows in a tail.
   pub next-tail : isTail t ≡ true → nextBlock t ≡ none
   next-tail h = go (begins indexLine t) refl
     where
@@ -43,18 +43,18 @@ module _ (t : Bytes) where
           let zeros : allZero t ≡ true = sym (or-false (allZero t)) ∙ rw e at h in
           next-none (omega (arith, free-space-all t (rw (all-zero-true t zeros) (lacks-replicate 0xD3 0 (length t) refl))))
 
-  -- where no index begins, the next block is at the first mark
+  -- If no index begins and there is a mark, the next block is at the first mark.
   pub next-mark : begins indexLine t ≡ false → freeSpace t < length t → nextBlock t ≡ some (freeSpace t)
   unfolding nextBlock markAhead
   next-mark e h = rw (e, nextBlock, lt-ltb (freeSpace t) (length t) h, markAhead)
 
-  -- a block follows at once where a mark stands
+  -- If `t` begins with a mark, a block follows immediately.
   pub next-here : begins mark t ≡ true → 0 < length t → nextBlock t ≡ some 0
   next-here h l =
       let free = free-space-mark t h in
       next-mark (mark-unindexed t h) (omega (arith, free)) ∙ ap some free
 
--- after g bytes of t stands the next block
+-- The next block begins after `g` bytes of `t`.
 pub record Next (t : Bytes) (g : ℕ) : Type 0 where
   pub is : nextBlock t ≡ some g
   pub unindexed : begins indexLine t ≡ false
@@ -62,7 +62,7 @@ pub record Next (t : Bytes) (g : ℕ) : Type 0 where
   pub inside : g < length t
   pub marked : begins mark (drop g t) ≡ true
 
--- where a block follows, its mark is the first, and no index begins
+-- If a block follows after `g` bytes, the first mark is there, and no index begins.
 pub next-is : (t : Bytes) (g : ℕ) → nextBlock t ≡ some g → Next t g
 unfolding nextBlock markAhead
 next-is t g h = go (begins indexLine t) refl (ltb (freeSpace t) (length t)) refl
