@@ -1,4 +1,4 @@
--- What a part of a file means does not depend on where it stands, nor on what follows it.
+-- What a part of a file means depends neither on where it is nor on what follows it.
 use Prim.Native.Nat.{ℕ, suc, _+_, _-_, _≤_, _<_}
 use mathlib.Core.Path.{_≡_, refl, sym, ap, subst, _∙_}
 use mathlib.Core.Bool.{Bool, true, false, and-false}
@@ -27,39 +27,40 @@ use Rattle.format.proofs.ReadLaws.{Reading, Front, header-front, commen
 
 module _ {Next : Bytes → Type 0} {reads : Reading} {n m : ℕ} (l : ℕ) (p z : Bytes) (f : Front Next reads n (p ++ z) m)
     (size : m ≡ n + l) (inside : l ≤ length p) where
-  -- what is read of p and z are the first bytes of p
+  -- What is read of `p` followed by `z` is the first `l` bytes of `p`.
   front-part : f .front ≡ take l p
   front-part =
       sym (take-at (f .front) (f .rest) l (omega (arith, f .end))) ∙ ap (take l) (sym (f .whole)) ∙ take-append-le l p z inside
 
-  -- what is read reads the same from any offset with anything behind p that may come next
+  -- It reads the same from any offset `k` with any `y` after `p`, if what follows the first `l` bytes may come next.
   front-again : (k : ℕ) (y : Bytes) → Next (drop l p ++ y) → reads k (p ++ y) (k + l)
   front-again k y h =
       let again : reads k (take l p ++ (drop l p ++ y)) (k + length (take l p)) = rw front-part at (f .local k (drop l p ++ y) h) in
       rw (← append-assoc, take-append-drop, length-take-le l p inside) at again
 
--- and so where only its end is known
+-- What is read of `p` followed by `z` and ends within `p` reads the same with any `y` after `p`, if what follows may
+-- come next.
 front-within : {Next : Bytes → Type 0} {reads : Reading} {n m : ℕ} (p z : Bytes) → Front Next reads n (p ++ z) m → m ≤ n + length p
     → (y : Bytes) → Next (drop (m - n) p ++ y) → reads n (p ++ y) m
 front-within {reads} {n} {m} p z f inside y next =
     let size : m ≡ n + (m - n) = omega (arith, f .end) in
     subst (reads n (p ++ y)) (sym size) (front-again (m - n) p z f size (omega arith) n y next)
 
--- a header is the same with anything behind it
+-- If a header ends within `p`, it is the same with anything after `p`.
 pub header-again : (p z y : Bytes) (h : Header) → header (p ++ z) ≡ accepted h → h .end .0 ≤ length p → header (p ++ y) ≡ accepted h
 header-again p z y h q inside = front-within p z (header-front (p ++ z) h q) (omega arith) y tt
 
--- a tree is the same at any offset with anything behind it
+-- A tree is the same at any offset, with anything after it.
 tree-again : (n : ℕ) (t z : Bytes) → treeEnd n (lines (t ++ z)) ≡ accepted (some (n + length t)) → (k : ℕ) (y : Bytes)
     → treeEnd k (lines (t ++ y)) ≡ accepted (some (k + length t))
 tree-again n t z q k y = front-again (length t) t z (tree-front n (t ++ z) (n + length t) q) refl (le-refl (length t)) k y tt
 
--- a tree by itself is one at any offset with anything behind
+-- A text that is one tree at offset 0 is one at any offset, with anything after it.
 pub tree-anywhere : (t : Bytes) → treeEnd 0 (lines t) ≡ accepted (some (length t)) → (n : ℕ) (z : Bytes)
     → treeEnd n (lines (t ++ z)) ≡ accepted (some (n + length t))
 tree-anywhere t q = tree-again 0 t [] (rw (append-nil, zero-add) q)
 
--- where `%YAML 1.1` does not stand no tree begins
+-- If the bytes do not begin with `%YAML 1.1`, no tree begins there.
 pub no-tree : (n : ℕ) (s : Bytes) → begins yamlLine s ≡ false → treeEnd n (lines s) ≡ accepted none
 unfolding treeEnd joinLines
 no-tree n s h = on-lines (lines s) (rw join-lines h)
@@ -72,11 +73,11 @@ no-tree n s h = on-lines (lines s) (rw join-lines h)
     on-lines (unended t) q = refl
     on-lines (line t e l) q = rw (first t (lineEnd e ++ joinLines l) q (same t yamlLine) refl, treeEnd)
 
--- no tree begins where a block begins
+-- If the bytes begin with a mark, no tree begins there.
 pub no-tree-mark : (n : ℕ) (s : Bytes) → begins mark s ≡ true → treeEnd n (lines s) ≡ accepted none
 no-tree-mark n s h = no-tree n s (ap (begins yamlLine) (begins-true mark s h))
 
--- free space goes on over bytes with no D3
+-- Bytes without D3 are free space, and the free space of what follows is added to them.
 pub free-space-lacks : (p z : Bytes) → lacks 0xD3 p ≡ true → freeSpace (p ++ z) ≡ length p + freeSpace z
 unfolding freeSpace
 free-space-lacks [] z h = omega arith
@@ -84,23 +85,24 @@ free-space-lacks (b ∷ p) z h =
     let other : eqb 0xD3 b ≡ false = ne-eqb 0xD3 b (λ e. eqb-false b 0xD3 (lacks-head 0xD3 b p h) (sym e)) in
     rw (other, freeSpace) (omega (arith, free-space-lacks p z (lacks-tail 0xD3 b p h)))
 
--- free space goes on over spaces
+-- Spaces are free space, and the free space of what follows is added to them.
 pub free-space-spaces : (k : ℕ) (z : Bytes) → freeSpace (replicate k 32 ++ z) ≡ k + freeSpace z
 free-space-spaces k z = rw length-replicate at (free-space-lacks (replicate k 32) z (lacks-replicate 0xD3 32 k refl))
 
--- bytes with no D3 are free space
+-- If there is no D3 in the bytes, all of them are free space.
 pub free-space-all : (s : Bytes) → lacks 0xD3 s ≡ true → freeSpace s ≡ length s
 unfolding freeSpace
 free-space-all s h = rw (append-nil, add-zero) at (free-space-lacks s [] h)
 
--- a mark that begins at a byte before another mark ends before it
+-- If no mark begins at the byte `b` before `p` and `y`, none begins there with a mark after `p`, since two marks cannot
+-- overlap.
 mark-apart : (b : ℕ) (p y z : Bytes) → begins mark (b ∷ p ++ y) ≡ false → begins mark (b ∷ p ++ (mark ++ z)) ≡ false
 mark-apart b [] y z h = simp and-false
 mark-apart b (c ∷ []) y z h = simp and-false
 mark-apart b (c ∷ d ∷ []) y z h = simp and-false
 mark-apart b (c ∷ d ∷ e ∷ p) y z h = h
 
--- free space before a mark is free before another mark
+-- If the free space of `p` followed by `y` is exactly `p`, it is exactly `p` with a mark after `p`.
 free-before : (p y z : Bytes) → freeSpace (p ++ y) ≡ length p → freeSpace (p ++ (mark ++ z)) ≡ length p
 unfolding freeSpace
 free-before [] y z h = refl
@@ -113,11 +115,13 @@ free-before (b ∷ p) y z h = go (begins mark (b ∷ p ++ y)) refl (free-before 
         let one : suc (freeSpace (p ++ y)) ≡ suc (length p) = rw (e, freeSpace) at h in
         rw (mark-apart b p y z e, freeSpace) (ap suc (i (omega arith)))
 
--- free space ends at the first mark, whatever is behind the mark
+-- If the free space of `p` followed by `y` is exactly `p`, it is exactly `p` with any bytes after `p` that begin with a
+-- mark.
 pub free-space-again : (p y z : Bytes) → freeSpace (p ++ y) ≡ length p → begins mark z ≡ true → freeSpace (p ++ z) ≡ length p
 free-space-again p y z h m = subst (λ (x : Bytes). freeSpace (p ++ x) ≡ length p) (sym (begins-true mark z m)) (free-before p y (drop 4 z) h)
 
--- and so where the free space is the first bytes of p
+-- If the free space of `p` followed by `y` is the first `l` bytes of `p`, it is the same with `z` after `p` if a mark
+-- comes next.
 pub free-space-within : (l : ℕ) (p y z : Bytes) → l ≤ length p → freeSpace (p ++ y) ≡ l → begins mark (drop l p ++ z) ≡ true
     → freeSpace (p ++ z) ≡ l
 free-space-within l p y z inside h m =
@@ -125,7 +129,7 @@ free-space-within l p y z inside h m =
     let size : length (take l p) ≡ l = length-take-le l p inside in
     sym (ap freeSpace (parts z)) ∙ free-space-again (take l p) (drop l p ++ y) (drop l p ++ z) (ap freeSpace (parts y) ∙ h ∙ sym size) m ∙ size
 
--- after free space no byte is free
+-- After the free space there is no more free space.
 free-space-end : (s : Bytes) → freeSpace (drop (freeSpace s) s) ≡ 0
 unfolding freeSpace
 free-space-end [] = refl
@@ -135,13 +139,13 @@ free-space-end (b ∷ s) = go (begins mark (b ∷ s)) refl (free-space-end s)
     go true e i = rw (e, freeSpace) (rw e)
     go false e i = rw (e, freeSpace) i
 
--- no byte stands before a mark
+-- If the bytes begin with a mark, there is no free space before it.
 pub free-space-mark : (s : Bytes) → begins mark s ≡ true → freeSpace s ≡ 0
 unfolding freeSpace
 free-space-mark [] h = refl
 free-space-mark (b ∷ s) h = rw (h, freeSpace)
 
--- free space that ends before the end does so at a mark
+-- If free space ends before the end of the bytes, it ends at a mark.
 pub free-space-stops : (s : Bytes) → freeSpace s < length s → begins mark (drop (freeSpace s) s) ≡ true
 unfolding freeSpace
 free-space-stops [] h = absurd (omega arith)
@@ -154,7 +158,7 @@ free-space-stops (b ∷ s) h = go (begins mark (b ∷ s)) refl (free-space-stops
         let more : suc (freeSpace s) < suc (length s) = rw (e, freeSpace) at h in
         rw (e, freeSpace) (i (omega arith))
 
--- no free byte stands where the first block is to begin
+-- There is no free space at the offset where the first block has to begin.
 pub start-free : (n : ℕ) (s : Bytes) (t : Tree) → tree n s ≡ accepted t → goesOn t (drop n s) ≡ true → freeSpace (drop (firstBlock n t) s) ≡ 0
 unfolding tree withRoom goesOn firstBlock freeSpace
 start-free n s t =
@@ -170,7 +174,7 @@ start-free n s t =
     with-room none e h = marked (drop n s) h
     with-room (some m) e h = ap freeSpace (sym (drop-drop (freeSpace (drop m s)) m s)) ∙ free-space-end (drop m s)
 
--- where a tree is, `%YAML 1.1` stands
+-- If a tree is read, the bytes begin with `%YAML 1.1`.
 pub tree-begins : (n : ℕ) (s : Bytes) (m : ℕ) → treeEnd n (lines s) ≡ accepted (some m) → begins yamlLine s ≡ true
 tree-begins n s m h = go (begins yamlLine s) refl
   where
@@ -178,7 +182,7 @@ tree-begins n s m h = go (begins yamlLine s) refl
     go true e = e
     go false e = let z : accepted none ≡ accepted (some m) = sym (no-tree n s e) ∙ h in cc
 
--- no comment begins where a tree or a block begins, or at the end
+-- If a tree or a block begins at the end of the comments, or the file ends there, no comment begins there.
 pub goes-on-no-comment : (n : ℕ) (s : Bytes) (t : Tree) → tree n s ≡ accepted t → goesOn t (drop n s) ≡ true → begins (text "#") (drop n s) ≡ false
 unfolding tree withRoom goesOn
 goes-on-no-comment n s t =
@@ -194,7 +198,7 @@ goes-on-no-comment n s t =
     with-room (some m) e h = ap (begins (text "#")) (begins-true yamlLine (drop n s) (tree-begins n (drop n s) m e))
 
 module _ (n : ℕ) (p z y : Bytes) (before : n ≤ length p) where
-  -- comments in p are the same with other bytes behind p, where no `#` comes next
+  -- Comments that end within `p` are the same with `y` after `p`, if no `#` comes next.
   pub comments-kept : (m : ℕ) → comments n (lines (drop n (p ++ z))) ≡ accepted m → m ≤ length p → begins (text "#") (drop m (p ++ y)) ≡ false
       → comments n (lines (drop n (p ++ y))) ≡ accepted m
   comments-kept m e inside h =
@@ -203,7 +207,8 @@ module _ (n : ℕ) (p z y : Bytes) (before : n ≤ length p) where
       let next : begins (text "#") (drop (m - n) (drop n p) ++ y) ≡ false = rw (drop-drop, after, ← drop-append-le m p y inside) h in
       rw drop-append-le (front-within (drop n p) z front (simp length-drop (omega arith)) y next)
 
-  -- a tree and its room are the same with other bytes behind a block's beginning
+  -- If the first block begins within `p` or at its end, and a mark is there with `y` after `p`, then the tree and its
+  -- room are the same with `y` after `p`.
   pub tree-kept : (t : Tree) → tree n (p ++ z) ≡ accepted t → firstBlock n t ≤ length p → begins mark (drop (firstBlock n t) p ++ y) ≡ true
       → tree n (p ++ y) ≡ accepted t
   unfolding tree withRoom firstBlock

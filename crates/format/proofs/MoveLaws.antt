@@ -1,5 +1,5 @@
--- A block, a chain of blocks and the records of a file read the same d bytes further on. No law cites these yet: they are for reading a file
--- in parts and for files that stand elsewhere in the outermost one.
+-- A block, a chain of blocks and the records of a file read the same `d` bytes further on. No law uses these yet. They
+-- are for reading a file in parts, and for files at another offset of the outermost file.
 use Prim.Native.Nat.{ℕ, zero, suc, _+_}
 use native.Mathlib.Nat.{add-assoc}
 use mathlib.Core.Path.{_≡_, refl, ap, _∙_}
@@ -19,12 +19,12 @@ use Rattle.format.proofs.NextLaws.{Next}
 use Rattle.format.proofs.InductionLaws.{chain-induction}
 use Rattle.format.proofs.ChainLaws.{chain-none, chain-many, chain-next}
 
--- an outcome d bytes further on, where f moves what is accepted
+-- An outcome `d` bytes further on. `f` moves what is accepted.
 abbrev pub further : {A : Type 0} → (A → A) → ℕ → Outcome A → Outcome A
 further f d (accepted a) = accepted (f a)
 further f d (refused r) = refused (refusal (r .number) (d + r .place .0))
 
--- a block d bytes further on
+-- A block `d` bytes further on.
 abbrev pub movedBlock : ℕ → Block → Block
 movedBlock d b =
     record {
@@ -53,7 +53,7 @@ module _ {A : Type 0} (f : A → A) (d n : ℕ) where
   choice-further true o p u v h k = h
   choice-further false o p u v h k = k
 
--- a block is the same d bytes further on
+-- A block reads the same `d` bytes further on.
 pub block-further : (d i n : ℕ) (t : Bytes) → block i (d + n) t ≡ further (movedBlock d) d (block i n t)
 unfolding block blockWith
 block-further d i n t = search (need-further, choice-further (movedBlock d) d n (isStreamed (flags t))) depth 12
@@ -62,7 +62,7 @@ tail-further : (d n : ℕ) (t : Bytes) → tail (d + n) t ≡ further (movedChai
 unfolding tail
 tail-further d n t = search need-further
 
--- where a block follows after g bytes, the chain d bytes further on begins with it
+-- If a block follows after `g` bytes, the chain `d` bytes further on begins with it.
 next-further : (d k i n g : ℕ) (t : Bytes) → Next t g → (o : Outcome Block) → block i (n + g) (drop g t) ≡ o
     → chain (suc k) i (d + n) t ≡ _>>=_ (further (movedBlock d) d o) (λ b. _>>=_ (elim (isStreamed (b .flags)) [
       | true ↦ accepted (ended [])
@@ -73,7 +73,7 @@ next-further d k i n g t next o read =
     chain-next k i (d + n) g t (next .is) ∙ ap (λ (m : ℕ). linkedAt i m (drop g t) (chain k (i + 1))) (add-assoc d n g)
     ∙ rw (block-further d i (n + g) (drop g t), linkedAt, read)
 
--- a chain is the same d bytes further on
+-- A chain reads the same `d` bytes further on.
 pub chain-further : (d k i n : ℕ) (t : Bytes) → chain k i (d + n) t ≡ further (movedChain d) d (chain k i n t)
 chain-further d = chain-induction {P = λ k i n t o. chain k i (d + n) t ≡ further (movedChain d) d o} (record {
   no-block = λ k i n t e. chain-none k i (d + n) t e ∙ tail-further d n t;
@@ -94,15 +94,16 @@ chain-further d = chain-induction {P = λ k i n t o. chain k i (d + n) t ≡ fur
     plain k i n g t b o next read e h =
         next-further d k i n g t next (accepted b) read ∙ rw (e, add-assoc d (n + g) (extent b), h) (linked-further b o)
 
--- a record d bytes further on in the outermost file
+-- A record `d` bytes further on in the outermost file.
 abbrev pub movedRecord : ℕ → Record → Record
 movedRecord d r = record { depth = r .depth; at = record { 0 = d + r .at .0 }; block = r .block; inner = r .inner }
 
--- what is inside a block, d bytes further on there
+-- What is inside a block, `d` bytes further on in the outermost file.
 abbrev movedInside : ℕ → Inside → Inside
 movedInside d i = record { state = i .state; records = map (movedRecord d) (i .records) }
 
--- the records of a file, d bytes further on there; its refusal counts from its own first byte and stays
+-- The records of a file, `d` bytes further on in the outermost file. The place of a refusal counts from the first byte
+-- of the file itself, so it does not change.
 abbrev pub movedRecords : ℕ → Outcome (List Record) → Outcome (List Record)
 movedRecords d o = _>>=_ o (λ rs. accepted (map (movedRecord d) rs))
 
@@ -136,7 +137,7 @@ unfolding opened
 opened-further d (accepted rs) = refl
 opened-further d (refused r) = refl
 
--- the records of a file are the same d bytes further on in the outermost file
+-- The records of a file read the same `d` bytes further on in the outermost file.
 pub records-further : (d levels depth start : ℕ) (s : Bytes) → recordsFrom levels depth (d + start) s ≡ movedRecords d (recordsFrom levels depth start s)
 unfolding recordsFrom
 records-further d zero depth start s = walk-file-further (λ n t. closed TooDeep) d (λ n t. refl) depth start s

@@ -8,11 +8,11 @@ use lib.ListN.{length, take, drop, getElem?, length-drop}
 use lib.Seq.{take-all}
 
 module _ {A : Type 0} where
-  -- the part from an offset to the end is all from there on
+  -- The part from an offset up to the end is everything from that offset on.
   pub part-all : (s : List A) (n : ℕ) → take (length s - n) (drop n s) ≡ drop n s
   part-all s n = take-all (length s - n) (drop n s) (simp length-drop (omega arith))
 
-  -- there is no element after the last
+  -- There is no element after the last.
   pub no-element : (s : List A) (j : ℕ) → length s ≤ j → getElem? s j ≡ none
   no-element [] j h = refl
   no-element (b ∷ s) zero h = absurd (omega arith)

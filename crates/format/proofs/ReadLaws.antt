@@ -1,4 +1,5 @@
--- What is read of bytes is a front part of them: it ends inside them, and reads the same elsewhere and with other bytes behind.
+-- What is read of bytes is a front part of them. It ends within them, and reads the same at another offset and with
+-- other bytes after it.
 use Prim.Native.Nat.{ℕ, suc, _+_, _≤_}
 use mathlib.Core.Path.{_≡_, refl, sym, ap, subst, _∙_}
 use mathlib.Core.Bool.{true, false}
@@ -23,11 +24,12 @@ use Rattle.format.proofs.OutcomeLaws.{Accepts, accepted-holds, accepts-
 use Rattle.format.proofs.ByteLaws.{begins-true}
 use Rattle.format.proofs.LineLaws.{joinLines, join-lines, AreLines, lines-line, are-lines}
 
--- a way to read the bytes that stand from an offset on, up to another offset
+-- A way to read bytes from one offset up to another.
 abbrev pub Reading : Type 1
 Reading = ℕ → Bytes → ℕ → Type 0
 
--- of s, from offset n on, a front part is read up to offset m; it reads the same from any offset on, with anything behind it that may come next
+-- A front part of `s`, which begins at offset `n`, is read up to offset `m`. It reads the same from any offset, with
+-- anything after it that may come next.
 pub record Front (Next : Bytes → Type 0) (reads : Reading) (n : ℕ) (s : Bytes) (m : ℕ) : Type 0 where
   pub front : Bytes
   pub rest : Bytes
@@ -36,21 +38,21 @@ pub record Front (Next : Bytes → Type 0) (reads : Reading) (n : ℕ) (s : Byte
   pub next : Next rest
   pub local : (k : ℕ) (z : Bytes) → Next z → reads k (front ++ z) (k + length front)
 
--- an offset from low to high
+-- An offset `m` from `low` to `high`.
 pub record Between (low high m : ℕ) : Type 0 where
   pub above : low ≤ m
   pub below : m ≤ high
 
--- what is read ends no earlier than it begins, and inside the bytes
+-- What is read ends no earlier than it begins, and within the bytes.
 pub front-bounds : {Next : Bytes → Type 0} {reads : Reading} {n : ℕ} {s : Bytes} {m : ℕ} → Front Next reads n s m → Between n (n + length s) m
 front-bounds f = omega (arith, f .end, simp length-append at (ap length (f .whole)))
 
 module _ (Next : Bytes → Type 0) (reads : Reading) (n : ℕ) where
-  -- nothing is read
+  -- Case: nothing is read.
   front-none : (s : Bytes) → Next s → ((k : ℕ) (z : Bytes) → Next z → reads k z k) → Front Next reads n s n
   front-none s h here = record { front = []; rest = s; whole = refl; end = omega arith; next = h; local = λ k z q. rw add-zero (here k z q) }
 
-  -- p is read, and then something behind it
+  -- Case: `p` is read, and then a front part of `s` after it.
   front-after : (then : Reading) (p s : Bytes) (m : ℕ) → ((k : ℕ) (z : Bytes) (j : ℕ) → then (k + length p) z j → reads k (p ++ z) j)
       → Front Next then (n + length p) s m → Front Next reads n (p ++ s) m
   front-after then p s m step f = record {
@@ -62,7 +64,7 @@ module _ (Next : Bytes → Type 0) (reads : Reading) (n : ℕ) where
     local = λ k z q. rw (append-assoc, length-append, ← add-assoc) (step k (f .front ++ z) _ (f .local (k + length p) z q));
   }
 
--- a line is read, and then something behind it
+-- Case: a line is read, and then a front part of `s` after it.
 front-line : (Next : Bytes → Type 0) (reads then : Reading) (n : ℕ) (t : Bytes) (e : LineEnd) (s : Bytes) (m : ℕ)
     → ((k : ℕ) (z : Bytes) (j : ℕ) → then (afterLine k t e) z j → reads k (t ++ (lineEnd e ++ z)) j)
     → Front Next then (afterLine n t e) s m → Front Next reads n (t ++ (lineEnd e ++ s)) m
@@ -72,31 +74,31 @@ front-line Next reads then n t e s m step f =
     line-step : (k : ℕ) (z : Bytes) (j : ℕ) → then (k + length (t ++ lineEnd e)) z j → reads k (t ++ lineEnd e ++ z) j
     line-step k z j h = rw append-assoc (step k z j (rw (length-append, ← add-assoc) at h))
 
--- to read lines up to offset m
+-- The reading in which `reader` ends at offset `m`.
 abbrev pub Ends : (ℕ → Lines → Outcome ℕ) → Reading
 Ends reader n s m = reader n (lines s) ≡ accepted m
 
--- to read a tree up to offset m
+-- The reading of a tree that ends at offset `m`.
 abbrev pub TreeEnds : Reading
 TreeEnds n s m = treeEnd n (lines s) ≡ accepted (some m)
 
--- to read no more
+-- The reading that reads nothing more.
 abbrev Stops : Reading
 Stops n s m = n ≡ m
 
--- anything may come next
+-- Anything may come next.
 abbrev pub Any : Bytes → Type 0
 Any z = Unit {0}
 
--- no comment comes next
+-- No comment comes next.
 abbrev pub NoComment : Bytes → Type 0
 NoComment z = begins (text "#") z ≡ false
 
--- behind a line no more is read
+-- After a line nothing more is read.
 stopped : (n : ℕ) (t : Bytes) (e : LineEnd) (l : Lines) → Front Any Stops (afterLine n t e) (joinLines l) (afterLine n t e)
 stopped n t e l = front-none Any Stops (afterLine n t e) (joinLines l) tt (λ k z h. refl)
 
--- and so for all that can be accepted behind the line
+-- If everything that `reader` accepts after a line is a front part, the same holds with the line before it.
 accepts-line : (Next : Bytes → Type 0) (reads : Reading) (reader : ℕ → Lines → Outcome ℕ) (n : ℕ) (t : Bytes) (e : LineEnd) (l : Lines)
     → ((k : ℕ) (z : Bytes) (j : ℕ) → Ends reader (afterLine k t e) z j → reads k (t ++ (lineEnd e ++ z)) j)
     → Accepts (Front Next (Ends reader) (afterLine n t e) (joinLines l)) (reader (afterLine n t e) l)
@@ -107,7 +109,7 @@ accepts-line Next reads reader n t e l step = on (reader (afterLine n t e) l)
     on (accepted m) f = front-line Next reads (Ends reader) n t e (joinLines l) m step f
     on (refused r) f = tt
 
--- content of a tree is a front part of the bytes of its lines
+-- The content of a tree is a front part of the bytes of its lines.
 content-lines : (n : ℕ) (l : Lines) → AreLines l → Accepts (Front Any (Ends content) n (joinLines l)) (content n l)
 unfolding content joinLines
 content-lines n (unended t) a = tt
@@ -117,7 +119,7 @@ content-lines n (line t e l) a =
     λ q. accepts-choice _ (isStart t) _ _ (λ r. tt)
     λ r. accepts-line Any (Ends content) content n t e l (λ k z j h. rw (lines-line t e z (a .0), q, content, r) h) (content-lines (afterLine n t e) l (a .1))
 
--- directives and content of a tree are so too
+-- The directives and the content of a tree are a front part of the bytes of its lines.
 directives-lines : (n : ℕ) (l : Lines) → AreLines l → Accepts (Front Any (Ends directives) n (joinLines l)) (directives n l)
 unfolding directives joinLines
 directives-lines n (unended t) a = tt
@@ -130,12 +132,12 @@ directives-lines n (line t e l) a =
     (directives-lines (afterLine n t e) l (a .1)))
     (λ r. tt)
 
--- there is no tree, or it is a front part
+-- There is no tree, or the tree is a front part.
 abbrev TreeFront : ℕ → Bytes → Option ℕ → Type 0
 TreeFront n s none = Unit {0}
 TreeFront n s (some m) = Front Any TreeEnds n s m
 
--- a tree is a front part of the bytes of its lines
+-- A tree, if there is one, is a front part of the bytes of its lines.
 tree-lines : (n : ℕ) (l : Lines) → AreLines l → Accepts (TreeFront n (joinLines l)) (treeEnd n l)
 unfolding treeEnd joinLines
 tree-lines n (unended t) a = tt
@@ -146,13 +148,13 @@ tree-lines n (line t e l) a =
     (accepted-holds _ _ m (directives-lines (afterLine n t e) l (a .1)) h))
     (λ q. tt)
 
--- a line begins with a `#` exactly if its text does
+-- A line begins with `#` exactly if its text does.
 hash-line : (t : Bytes) (e : LineEnd) (s : Bytes) → begins (text "#") (t ++ (lineEnd e ++ s)) ≡ begins (text "#") t
 hash-line [] Lf s = refl
 hash-line [] Crlf s = refl
 hash-line (b ∷ t) e s = refl
 
--- where no `#` stands there are no comments
+-- If the bytes do not begin with `#`, there are no comments.
 pub no-comments : (n : ℕ) (s : Bytes) → begins (text "#") s ≡ false → comments n (lines s) ≡ accepted n
 unfolding comments joinLines
 no-comments n s h = on-lines (lines s) (rw join-lines h)
@@ -161,7 +163,7 @@ no-comments n s h = on-lines (lines s) (rw join-lines h)
     on-lines (unended t) q = rw (q, comments)
     on-lines (line t e l) q = rw (sym (hash-line t e (joinLines l)) ∙ q, comments)
 
--- comments are a front part of the bytes of their lines, and no comment comes next
+-- Comments are a front part of the bytes of their lines, and no comment comes next.
 comments-lines : (n : ℕ) (l : Lines) → AreLines l → Accepts (Front NoComment (Ends comments) n (joinLines l)) (comments n l)
 unfolding comments joinLines
 comments-lines n (unended t) a = accepts-choice _ (begins (text "#") t) _ _ (λ q. tt) (λ q. front-none NoComment _ _ _ q no-comments)
@@ -173,39 +175,39 @@ comments-lines n (line t e l) a =
     (λ q. front-none NoComment _ _ _ (hash-line t e (joinLines l) ∙ q) no-comments)
 
 module _ (n : ℕ) (s : Bytes) (m : ℕ) where
-  -- what is a front part of the bytes of the lines of s is one of s
+  -- A front part of the bytes of the lines of `s` is a front part of `s`.
   of-lines : (Next : Bytes → Type 0) (reader : ℕ → Lines → Outcome ℕ)
       → Accepts (Front Next (Ends reader) n (joinLines (lines s))) (reader n (lines s))
       → reader n (lines s) ≡ accepted m → Front Next (Ends reader) n s m
   of-lines Next reader h = accepted-holds (Front Next (Ends reader) n s) (reader n (lines s)) m (rw join-lines at h)
 
-  -- comments are a front part, and no comment comes next
+  -- Comments are a front part of `s`, and no comment comes next.
   pub comments-front : comments n (lines s) ≡ accepted m → Front NoComment (Ends comments) n s m
   comments-front = of-lines NoComment comments (comments-lines n (lines s) (are-lines s))
 
-  -- a tree is a front part
+  -- A tree is a front part of `s`.
   pub tree-front : treeEnd n (lines s) ≡ accepted (some m) → Front Any TreeEnds n s m
   tree-front = accepted-holds (TreeFront n s) (treeEnd n (lines s)) (some m) (rw join-lines at (tree-lines n (lines s) (are-lines s)))
 
-  -- where comments end
+  -- Comments end no earlier than they begin, and within the bytes.
   pub comments-bounds : comments n (lines s) ≡ accepted m → Between n (n + length s) m
   comments-bounds h = front-bounds (comments-front h)
 
-  -- where a tree ends
+  -- A tree ends no earlier than it begins, and within the bytes.
   pub tree-bounds : treeEnd n (lines s) ≡ accepted (some m) → Between n (n + length s) m
   tree-bounds h = front-bounds (tree-front h)
 
--- a header ends where its line ends
+-- An accepted header ends where its line ends.
 header-end : (v : Option Version) (e : LineEnd) (n : ℕ) → Accepts (λ h. h .end .0 ≡ n) (headerOf v e n)
 unfolding headerOf
 header-end none e n = tt
 header-end (some v) e n = search accepts-need
 
--- to read the line of the header h
+-- The reading of the line of the header `h`, from the version on.
 abbrev IsVersion : Header → Reading
 IsVersion h n s m = versionLine (lines s) ≡ accepted h
 
--- the header's line is a front part of the bytes of the lines
+-- The header's line, from the version on, is a front part of the bytes of the lines.
 version-lines : (h : Header) (l : Lines) → AreLines l → versionLine l ≡ accepted h → Front Any (IsVersion h) 6 (joinLines l) (h .end .0)
 unfolding versionLine joinLines
 version-lines h (unended t) a q = let z : _≡_ {A = ℕ} 0 1 = cc in absurd (omega arith)
@@ -213,11 +215,11 @@ version-lines h (line t e l) a q =
     subst (Front Any (IsVersion h) 6 _) (sym (accepted-holds _ _ h (header-end (version t) e (afterLine 6 t e)) q))
     (front-line Any (IsVersion h) Stops 6 t e (joinLines l) (afterLine 6 t e) (λ k z j r. rw (lines-line t e z (a .0)) q) (stopped 6 t e l))
 
--- to read the header h
+-- The reading of the header `h`.
 abbrev pub IsHeader : Header → Reading
 IsHeader h n s m = header s ≡ accepted h
 
--- the header is a front part
+-- The header is a front part of the file.
 pub header-front : (s : Bytes) (h : Header) → header s ≡ accepted h → Front Any (IsHeader h) 0 s (h .end .0)
 unfolding header
 header-front s h = accepted-holds (λ g. Front Any (IsHeader g) 0 s (g .end .0)) (header s) h (search (accepts-need, accepts-each, after-token))
@@ -228,17 +230,17 @@ header-front s h = accepted-holds (λ g. Front Any (IsHeader g) 0 s (g .end .0))
         (front-after Any (IsHeader g) 0 (IsVersion g) token (drop 6 s) _ (λ k z j h. h)
         (rw join-lines at (version-lines g (lines (drop 6 s)) (are-lines _) q)))
 
--- the header ends inside the file
+-- The header ends within the file.
 pub header-bounds : (s : Bytes) (h : Header) → header s ≡ accepted h → h .end .0 ≤ length s
 header-bounds s h q = omega (arith, front-bounds (header-front s h q))
 
--- free space is no longer than the bytes it stands in
+-- Free space is no longer than the bytes it is in.
 pub free-space-bounds : (s : Bytes) → freeSpace s ≤ length s
 unfolding freeSpace
 free-space-bounds [] = omega arith
 free-space-bounds (b ∷ s) = choice (λ n. n ≤ suc (length s)) (begins mark (b ∷ s)) _ _ (omega arith) (omega (arith, free-space-bounds s))
 
--- the first block, or the tail, begins where the comments end or behind, and inside the file
+-- The first block, or the tail, begins no earlier than where the comments end, and within the file.
 pub first-block-bounds : (n : ℕ) (s : Bytes) (t : Tree) → n ≤ length s → tree n s ≡ accepted t → Between n (length s) (firstBlock n t)
 unfolding tree withRoom firstBlock
 first-block-bounds n s t inside =
