@@ -1,4 +1,5 @@
--- An edit is accepted exactly if the file can be edited to the text, and then the file is edited: of all that is reported only the tree is new.
+-- An edit is accepted exactly if the file can be edited to the text. Then the file is edited: of all that is reported,
+-- only the tree is new.
 use Prim.Native.Nat.{ℕ, _+_, _-_, _≤_}
 use mathlib.Core.Path.{_≡_, refl, subst}
 use mathlib.Core.List.{append-assoc}
@@ -22,7 +23,7 @@ use Rattle.format.proofs.EditWalkLaws.{records-again, outline-again}
 use Rattle.format.proofs.FileBlockLaws.{file-from}
 
 module _ (s t : Bytes) where
-  -- what is accepted can be edited
+  -- If an edit is accepted, the file can be edited to the text.
   edit-tests : Accepts (λ u. Editable s t) (edit s t)
   unfolding edit editTree
   edit-tests = accepts-bind _ (file s) _ (λ f e. on-tree f e (f .tree) refl)
@@ -50,30 +51,30 @@ module _ (s t : Bytes) (h : Editable s t) where
   room : FileRoom s (h .before) (h .start) (h .room-end)
   room = file-room s (h .before) (h .read-before) (h .start) (h .end) (h .room-end) (h .tree-before)
 
-  -- how many bytes are left in it behind the text
+  -- How many bytes are left in the room after the text.
   abbrev left : ℕ
   left = h .room-end - h .start - length t
 
   room-size : h .start + length t + left ≡ h .room-end
   room-size = omega (arith, h .fits, room .order)
 
-  -- how many stand before it
+  -- Exactly `h .start` bytes come before the room.
   front-size : length (take (h .start) s) ≡ h .start
   front-size = length-take-le (h .start) s (omega (arith, room .order, room .inside))
 
-  -- the file with its room filled
+  -- The file with its room filled with the text and then spaces.
   abbrev refilled : Bytes
   refilled = treed (take (h .start) s) t left (drop (h .room-end) s)
 
-  -- it is as long as it was
+  -- The filled file is as long as `s`.
   refilled-length : length refilled ≡ length s
   refilled-length = simp (length-append, length-replicate, length-drop) (omega (arith, front-size, room-size, room .inside))
 
-  -- what is reported of it
+  -- What is reported about the filled file.
   abbrev refound : File
   refound = withTree (h .before) (treeAt (h .start) (h .start + length t) (h .room-end)) (h .before .blocks) (h .before .verdict)
 
-  -- it is accepted
+  -- The filled file is accepted, with what is reported about it.
   refilled-file : file refilled ≡ accepted refound
   refilled-file =
       let f = h .before in
@@ -86,7 +87,7 @@ module _ (s t : Bytes) (h : Editable s t) where
       (treed-parts n (take n s) (drop n s) f (rw take-append-drop parts) (room .begin) front-size t (h .one-tree) left (drop m s)
       (room .full) short m room-size (f .blocks) (parts .tail) blocks (f .verdict) (parts .judged))
 
-  -- it is the file edited to the text
+  -- The filled file is the file `s` edited to the text.
   refilled-edited : Edited s t refilled
   refilled-edited =
       let f = h .before in
@@ -117,17 +118,17 @@ module _ (s t : Bytes) (h : Editable s t) where
         outline = outline-again _ s _ f refilled-file (h .read-before) refl m after rest;
       }
 
-  -- what can be edited is accepted, and its room is filled
+  -- If the file can be edited to the text, the edit is accepted and fills the room.
   pub editable-accepted : edit s t ≡ accepted (filled s (h .start) (h .room-end) t)
   unfolding edit editTree
   editable-accepted = rw (h .read-before, h .tree-before, h .one-tree, le-leb (length t) (h .room-end - h .start) (h .fits))
 
-  -- and then it is edited
+  -- The result of that edit is the file `s` edited to the text.
   pub editable-edited : Edited s t (filled s (h .start) (h .room-end) t)
   unfolding filled
   editable-edited = simp append-assoc refilled-edited
 
--- the file that an accepted edit leaves is edited
+-- The file that an accepted edit leaves is the file `s` edited to the text.
 pub accepted-edited : (s t u : Bytes) → edit s t ≡ accepted u → Edited s t u
 accepted-edited s t u e =
     let h = accepted-editable s t u e in

@@ -1,4 +1,4 @@
--- A file with another tree and spaces behind it: what stands before the tree reads as it did, and the tree is the text.
+-- A file with another tree, followed by spaces: what comes before the tree reads as it did, and the tree is the text.
 use Prim.Native.Nat.{ℕ, _+_, _≤_}
 use mathlib.Core.Path.{_≡_, refl, sym, ap, _∙_}
 use mathlib.Core.Bool.{true}
@@ -25,7 +25,7 @@ use Rattle.format.proofs.OutcomeLaws.{accepted-holds, accepts-bind}
 use Rattle.format.proofs.LocalLaws.{header-again, comments-kept, tree-anywhere, free-space-spaces, goes-on-no-comment, start-free}
 use Rattle.format.proofs.FileLaws.{blocksStart, Parts, file-parts, in-order}
 
--- a text that is exactly one tree ends with it
+-- If a text is exactly one tree, that tree ends where the text ends.
 pub one-tree-end : (t : Bytes) → isOneTree t ≡ true → treeEnd 0 (lines t) ≡ accepted (some (length t))
 unfolding isOneTree endsAt
 one-tree-end t = ends (treeEnd 0 (lines t))
@@ -35,12 +35,12 @@ one-tree-end t = ends (treeEnd 0 (lines t))
     ends (accepted none) h = cc
     ends (accepted (some m)) h = ap (λ (n : ℕ). accepted (some n)) (eqb-true m (length t) h)
 
--- a tree, if there is one, begins at offset n
+-- The tree, if there is one, begins at offset `n`.
 abbrev BeginsAt : ℕ → Tree → Type 0
 BeginsAt n NoTree = Unit {0}
 BeginsAt n (Found a e m) = n ≡ a .0
 
--- a tree that is read does
+-- A tree that is read at offset `n` begins there.
 tree-begins-at : (n : ℕ) (s : Bytes) (t : Tree) → tree n s ≡ accepted t → BeginsAt n t
 unfolding tree withRoom
 tree-begins-at n s t = accepted-holds (BeginsAt n) (tree n s) t (accepts-bind _ (treeEnd n (lines (drop n s))) _ with-room)
@@ -49,7 +49,8 @@ tree-begins-at n s t = accepted-holds (BeginsAt n) (tree n s) t (accepts-bind _ 
     with-room none q = tt
     with-room (some k) q = refl
 
--- the room from n to m in the file s, which is accepted as f: behind the comments, up to the first block
+-- The room of the file `s`, which is accepted as `f`. It goes from `n`, where the comments end, to `m`, where the first
+-- block begins.
 pub record FileRoom (s : Bytes) (f : File) (n m : ℕ) : Type 0 where
   pub begin : f .commentsEnd ≡ n
   pub first : blocksStart f ≡ m
@@ -57,7 +58,7 @@ pub record FileRoom (s : Bytes) (f : File) (n m : ℕ) : Type 0 where
   pub order : n ≤ m
   pub inside : m ≤ length s
 
--- a tree of an accepted file has its room there
+-- If an accepted file has a tree, its room is from the end of the comments to the first block.
 pub file-room : (s : Bytes) (f : File) → file s ≡ accepted f → (n e m : ℕ) → f .tree ≡ treeAt n e m → FileRoom s f n m
 unfolding firstBlock
 file-room s f read n e m q =
@@ -68,34 +69,34 @@ file-room s f read n e m q =
     let full = rw first at (start-free (f .commentsEnd) s (f .tree) (parts .tree-read) (parts .goes-on)) in
     record { begin = begin; first = first; full = full; order = omega arith; inside = omega arith }
 
--- behind p the tree t, k spaces, and y
+-- The bytes `p`, then the tree `t`, `k` spaces and `y`.
 abbrev pub treed : Bytes → Bytes → ℕ → Bytes → Bytes
 treed p t k y = p ++ (t ++ (replicate k 32 ++ y))
 
--- a file with the header and the comments of f, and another tree, blocks and verdict
+-- A file with the header and the comments of `f`, and with another tree, other blocks and another verdict.
 abbrev pub withTree : File → Tree → List Block → Verdict → File
 withTree f t bs v = record { header = f .header; commentsEnd = f .commentsEnd; tree = t; blocks = bs; verdict = v }
 
 module _ (n : ℕ) (p t : Bytes) (k : ℕ) (y : Bytes) (size : length p ≡ n) where
-  -- behind the tree stand the spaces and y
+  -- The spaces and `y` follow the tree.
   pub treed-after : drop (n + length t) (treed p t k y) ≡ replicate k 32 ++ y
   treed-after = sym (drop-drop (length t) n _) ∙ ap (drop (length t)) (drop-at p _ n size) ∙ drop-append-seam t _
 
-  -- and behind the spaces y
+  -- The bytes `y` follow the spaces.
   pub treed-rest : drop (n + length t + k) (treed p t k y) ≡ y
   treed-rest = sym (drop-drop k (n + length t) _) ∙ ap (drop k) treed-after ∙ drop-at (replicate k 32) y k (length-replicate k 32)
 
-  -- before the tree stands p
+  -- The bytes `p` come before the tree.
   pub treed-front : take n (treed p t k y) ≡ p
   treed-front = take-at p _ n size
 
-  -- the tree is the text
+  -- The bytes of the tree are the text.
   pub treed-text : slice n (n + length t) (treed p t k y) ≡ t
   treed-text =
       let before : length (p ++ t) ≡ n + length t = simp length-append (omega arith) in
       ap (drop n) (rw append-assoc at (take-at (p ++ t) (replicate k 32 ++ y) (n + length t) before)) ∙ drop-at p t n size
 
-  -- behind it stand the spaces
+  -- The bytes between the tree and `y` are spaces.
   pub treed-spaces : slice (n + length t) (n + length t + k) (treed p t k y) ≡ replicate k 32
   treed-spaces =
       let before : length (p ++ t) ≡ n + length t = simp length-append (omega arith) in
@@ -103,7 +104,7 @@ module _ (n : ℕ) (p t : Bytes) (k : ℕ) (y : Bytes) (size : length p ≡ n) w
       ap (drop (n + length t)) (simp append-assoc at (take-at (p ++ t ++ replicate k 32) y (n + length t + k) whole))
       ∙ rw append-assoc at (drop-at (p ++ t) (replicate k 32) (n + length t) before)
 
-  -- the tree is read, and its room ends behind the spaces if y is not free
+  -- If `t` is one tree and `y` does not begin with free space, the tree is read and its room ends after the spaces.
   pub treed-tree : isOneTree t ≡ true → freeSpace y ≡ 0 → tree n (treed p t k y) ≡ accepted (treeAt n (n + length t) (n + length t + k))
   unfolding tree withRoom
   treed-tree one full =
@@ -116,7 +117,8 @@ module _ (n : ℕ) (p t : Bytes) (k : ℕ) (y : Bytes) (size : length p ≡ n) w
         add-zero,
       )
 
--- the parts of a file with another tree behind its comments, which end with p, and other blocks behind the spaces
+-- Let the comments of a file end where `p` ends. Then `p`, the tree `t`, `k` spaces and `y` are the parts of a file
+-- with the same header and comments, the tree `t` and the blocks in `y`.
 pub treed-parts : (n : ℕ) (p z : Bytes) (f : File) → Parts (p ++ z) f → f .commentsEnd ≡ n → length p ≡ n
     → (t : Bytes) → isOneTree t ≡ true
     → (k : ℕ) (y : Bytes) → freeSpace y ≡ 0 → length (treed p t k y) ≤ mostBytes

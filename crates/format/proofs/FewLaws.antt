@@ -1,4 +1,5 @@
--- A block takes `leastBlock` bytes or more of its file beside its content, so a file has at most one record for so many bytes.
+-- A block takes at least `leastBlock` bytes of its file besides its content. So a file has at most one record for every
+-- `leastBlock` bytes.
 use Prim.Native.Nat.{ℕ, zero, suc, _+_, _*_, _≤_}
 use native.Mathlib.Omega.{arith}
 use mathlib.Core.List.{List, [], _∷_}
@@ -15,12 +16,12 @@ use Rattle.format.specs.Outline.{rowOf, rows}
 use Rattle.format.proofs.FileBlockLaws.{taken, file-lies}
 use Rattle.format.proofs.OutcomeLaws.{Accepts, accepted-holds, accepts-bind, choice}
 
--- for each record there are so many bytes
+-- For each record there are `leastBlock` bytes in `s`.
 abbrev pub Few : Bytes → List Record → Type 0
 Few s rs = leastBlock * length rs ≤ length s
 
 module _ (reads : ℕ → Bytes → Inside) (inner : (m : ℕ) (t : Bytes) → Few t (reads m t .records)) (depth start : ℕ) (s : Bytes) where
-  -- the records inside a block have theirs in its content
+  -- The records inside a block have their bytes in its content.
   inside-few : (b : Block) → leastBlock * length (inside reads start s b .records) ≤ b .used
   unfolding inside
   inside-few b =
@@ -28,7 +29,8 @@ module _ (reads : ℕ → Bytes → Inside) (inner : (m : ℕ) (t : Bytes) → F
       (omega (arith, inner (start + contentAt b) (contentOf b s), length-take (b .used) (drop (contentAt b) s)))
       (omega arith)
 
-  -- the block's own are those of its header
+  -- The records of these blocks have their bytes in what the blocks take. For a block's own record, these are the bytes
+  -- of its header.
   walk-few : (bs : List Block) → leastBlock * length (walk reads depth start s bs) ≤ taken bs
   unfolding walk walked
   walk-few [] = omega arith
@@ -40,19 +42,20 @@ module _ (reads : ℕ → Bytes → Inside) (inner : (m : ℕ) (t : Bytes) → F
       accepts-bind (Few s) (file s) _ λ f e.
       omega (arith, file-lies s f e, walk-few (f .blocks))
 
--- what is inside an opened block
+-- If the bound holds for the records of an accepted inner file, it holds for what is inside the block when it is
+-- opened.
 opened-few : (t : Bytes) (o : Outcome (List Record)) → Accepts (Few t) o → Few t (opened o .records)
 unfolding opened
 opened-few t (accepted rs) h = h
 opened-few t (refused r) h = omega arith
 
--- a file at any depth
+-- The bound holds for an accepted file at any depth.
 pub records-few : (levels depth start : ℕ) (s : Bytes) → Accepts (Few s) (recordsFrom levels depth start s)
 unfolding recordsFrom
 records-few zero depth start s = file-few _ (λ n t. omega arith) depth start s
 records-few (suc levels) depth start s = file-few _ (λ n t. opened-few t _ (records-few levels (depth + 1) n t)) depth start s
 
--- a file has at most one row for so many bytes
+-- A file has at most one row for every `leastBlock` bytes.
 pub rows-few : (s : Bytes) → Accepts (λ (rs : List Row). leastBlock * length rs ≤ length s) (rows s)
 unfolding rows records
 rows-few s =

@@ -1,4 +1,4 @@
--- A file is accepted exactly if its parts are read one after another, and they stand in the file in this order.
+-- A file is accepted exactly if its parts are read one after another, and they are in the file in this order.
 use Prim.Native.Nat.{ℕ, _≤_}
 use mathlib.Core.Path.{_≡_, refl}
 use mathlib.Core.Bool.{true}
@@ -19,11 +19,11 @@ use Rattle.format.proofs.OutcomeLaws.{accepted-holds, accepts-bind, acc
 use Rattle.format.proofs.ReadLaws.{header-bounds, comments-bounds, first-block-bounds}
 use Rattle.format.proofs.ChainLaws.{blocks-bounds, tail-after}
 
--- where the first block of a file begins, or its tail
+-- Where the first block of a file begins, or its tail if there is no block.
 abbrev pub blocksStart : File → ℕ
 blocksStart f = firstBlock (f .commentsEnd) (f .tree)
 
--- the parts that are read, of the file s that is accepted as f
+-- The parts that are read from the file `s`, which is accepted as `f`.
 pub record Parts (s : Bytes) (f : File) : Type 0 where
   pub short : leb (length s) mostBytes ≡ true
   pub header-read : header s ≡ accepted (f .header)
@@ -34,7 +34,7 @@ pub record Parts (s : Bytes) (f : File) : Type 0 where
   pub chain-read : chain mostBlocks 0 (blocksStart f) (drop (blocksStart f) s) ≡ accepted (record { blocks = f .blocks; tail = tail })
   pub judged : verdict (offsets (f .blocks)) tail ≡ f .verdict
 
--- the parts of an accepted file are read
+-- If a file is accepted, its parts are read.
 pub file-parts : (s : Bytes) (f : File) → file s ≡ accepted f → Parts s f
 unfolding file body
 file-parts s f =
@@ -56,12 +56,12 @@ file-parts s f =
       judged = refl;
     })
 
--- a file whose parts are read is accepted
+-- If the parts of a file are read, it is accepted.
 pub parts-file : (s : Bytes) (f : File) → Parts s f → file s ≡ accepted f
 unfolding file body
 parts-file s f h = rw (h .short, h .header-read, h .comments-read, h .tree-read, h .goes-on, h .chain-read, h .judged)
 
--- the parts of a file end one behind another, and inside it
+-- The parts of a file end one after another, and within the file.
 pub record InOrder (s : Bytes) (f : File) : Type 0 where
   pub header-end : f .header .end .0 ≤ f .commentsEnd
   pub comments-end : f .commentsEnd ≤ blocksStart f
@@ -69,7 +69,7 @@ pub record InOrder (s : Bytes) (f : File) : Type 0 where
   pub tail-start : tailStart f ≤ length s
 
 module _ (s : Bytes) (f : File) (h : Parts s f) where
-  -- the parts of an accepted file do
+  -- The parts of an accepted file are in order.
   pub in-order : InOrder s f
   in-order =
       let one = header-bounds s (f .header) (h .header-read) in
@@ -78,6 +78,6 @@ module _ (s : Bytes) (f : File) (h : Parts s f) where
       let four = simp length-drop at (blocks-bounds mostBlocks 0 (blocksStart f) _ (drop (blocksStart f) s) (h .chain-read)) in
       omega arith
 
-  -- the tail is what stands behind the last block
+  -- The tail is what follows the last block.
   pub file-tail : h .tail ≡ drop (tailStart f) s
   file-tail = tail-after mostBlocks 0 (blocksStart f) _ s (h .chain-read)

@@ -1,5 +1,5 @@
--- No refusal has the number 0, and its place is inside the bytes that are read or where they end. Step by step: of one file by
--- itself, then of all that is asked of a file or of a stored outline.
+-- No refusal has the number 0, and its place is within the bytes that are read or at their end. This is shown step by
+-- step: first for one file by itself, then for all that is asked about a file or a stored outline.
 use Prim.Native.Nat.{ℕ, zero, suc, _+_, _*_, _/_, _≤_}
 use mathlib.Core.Path.{_≡_, refl, ap}
 use mathlib.Core.Bool.{Bool, true, false}
@@ -39,49 +39,50 @@ use Rattle.format.proofs.ReadLaws.{header-bounds, comments-bounds, firs
 use Rattle.format.proofs.BlockLaws.{accepted-block}
 use Rattle.format.proofs.InductionLaws.{chain-induction}
 
--- the refusal's number is not 0, and its place is at most so far
+-- The number of the refusal is not 0, and its place is at most `most`.
 pub record Proper (most : ℕ) (r : Refusal) : Type 0 where
   pub number : 1 ≤ r .number
   pub place : r .place .0 ≤ most
 
--- an outcome that is accepted, or refused so
+-- The outcome is accepted, or its refusal is proper.
 abbrev pub Numbered : {A : Type 0} → ℕ → Outcome A → Type 0
 Numbered most (accepted a) = Unit {0}
 Numbered most (refused r) = Proper most r
 
--- a place that is at most so far is also at most farther
+-- If a place is at most `near`, it is at most every larger number.
 pub numbered-more : {A : Type 0} (near most : ℕ) (o : Outcome A) → near ≤ most → Numbered near o → Numbered most o
 numbered-more near most (accepted a) l h = tt
 numbered-more near most (refused r) l h = omega arith
 
 module _ (most : ℕ) where
-  -- the first place is never too far
+  -- The place 0 is always within the bound.
   at-first : 0 ≤ most
   at-first = omega arith
 
-  -- a step, and what follows it
+  -- If a step is numbered, and so is what follows when it is accepted, then both together are numbered.
   numbered-bind : {A B : Type 0} (o : Outcome A) (f : A → Outcome B) → Numbered most o → ((a : A) → o ≡ accepted a → Numbered most (f a))
       → Numbered most (_>>=_ o f)
   numbered-bind (accepted a) f h k = k a refl
   numbered-bind (refused r) f h k = h
 
-  -- a test, and what follows it
+  -- If the refusal of a test is proper, and what follows is numbered when the test holds, then both together are
+  -- numbered.
   numbered-need : {A : Type 0} (t : Bool) (n p : ℕ) (o : Outcome A) → leb 1 n ≡ true → p ≤ most → (t ≡ true → Numbered most o)
       → Numbered most (_>>_ (need t n p) o)
   numbered-need true n p o h l k = k refl
   numbered-need false n p o h l k = omega (arith, leb-true 1 n h)
 
-  -- a step, and a value for it
+  -- A numbered step remains numbered with the value `b` as its result.
   pub numbered-done : {A B : Type 0} (o : Outcome A) (b : B) → Numbered most o → Numbered most (_>>_ o (accepted b))
   numbered-done (accepted a) b h = tt
   numbered-done (refused r) b h = h
 
-  -- a step, and a value from it
+  -- A numbered step remains numbered with a value computed from its result.
   numbered-value : {A B : Type 0} (o : Outcome A) (f : A → B) → Numbered most o → Numbered most (_>>=_ o (λ a. accepted (f a)))
   numbered-value (accepted a) f h = tt
   numbered-value (refused r) f h = h
 
-  -- what is written to a buffer that may be too short
+  -- Writing a numbered result to a buffer is numbered, even if the buffer is too short.
   pub numbered-writes : (result : Outcome Bytes) (out : Bytes) → Numbered most result → Numbered most (writes result out)
   unfolding writes
   numbered-writes result out h = search (numbered-bind, numbered-need, at-first)
@@ -96,7 +97,7 @@ module _ (most : ℕ) where
   numbered-version (unended t) h = omega arith
   numbered-version (line t e l) h = numbered-header-of _ _ _ h
 
-  -- where a line and the lines after it end by then, so do the lines after it
+  -- If a line and the lines after it end at `most` or before, so do the lines after it.
   line-inside : (n : ℕ) (t : Bytes) (e : LineEnd) (l : Lines) → n + length (joinLines (line t e l)) ≤ most
       → afterLine n t e + length (joinLines l) ≤ most
   unfolding joinLines
@@ -159,7 +160,7 @@ module _ (most : ℕ) where
       let others = numbered-stored-from k (n + rowBytes) (decodeRow (take rowBytes b) .depth + 1) (drop rowBytes b) (omega arith) in
       search (numbered-need, numbered-value)
 
--- the lines of what stands in s from offset n on end where s ends
+-- The lines of `s` from offset `n` on end where `s` ends.
 lines-inside : (n : ℕ) (s : Bytes) → n ≤ length s → n + length (joinLines (lines (drop n s))) ≤ length s
 lines-inside n s h = rw (join-lines (drop n s), length-drop n s) (omega arith)
 
@@ -194,12 +195,12 @@ numbered-file s =
     search (numbered-value, blocks)
 
 module _ (s : Bytes) where
-  -- where a layout is asked
+  -- The layout of a file is accepted, or its refusal is proper.
   pub numbered-layout : Numbered (length s) (layoutBytes s)
   unfolding layoutBytes layout
   numbered-layout = search (numbered-value, numbered-file)
 
-  -- or a block, as these numbers
+  -- The same for a block of the file, as these numbers.
   pub numbered-block-at : (fields : Block → List ℕ) (i : ℕ) → Numbered (length s) (foundBytes fields (blockAt s i))
   unfolding foundBytes blockAt
   numbered-block-at fields i = search (numbered-value, numbered-file)
@@ -208,27 +209,27 @@ module _ (s : Bytes) where
   unfolding records recordsFrom walkFile
   numbered-records = search (numbered-value, numbered-file)
 
-  -- or how many records there are
+  -- The same for the number of records.
   pub numbered-count : Numbered (length s) (recordCount s)
   unfolding recordCount
   numbered-count = search (numbered-value, numbered-records)
 
-  -- or a record, as these numbers
+  -- The same for a record, as these numbers.
   pub numbered-record-at : (fields : Record → List ℕ) (k : ℕ) → Numbered (length s) (foundBytes fields (recordAt s k))
   unfolding foundBytes recordAt
   numbered-record-at fields k = search (numbered-value, numbered-records)
 
-  -- or all records
+  -- The same for all records.
   pub numbered-table : Numbered (length s) (recordTable s)
   unfolding recordTable
   numbered-table = search (numbered-value, numbered-records)
 
-  -- or the outline
+  -- The same for the outline.
   pub numbered-outline : Numbered (length s) (outline s)
   unfolding outline rows
   numbered-outline = search (numbered-value, numbered-records)
 
-  -- or an index
+  -- The same for the index that is written.
   pub numbered-index : Numbered (length s) (indexFor s)
   unfolding indexFor
   numbered-index = search (numbered-bind, numbered-need, numbered-file, at-first)
@@ -238,7 +239,7 @@ module _ (s : Bytes) where
   numbered-edit-tree t NoTree = omega arith
   numbered-edit-tree t (Found n e m) = search (numbered-need, at-first)
 
-  -- or an edit
+  -- The same for an edit.
   pub numbered-edit : (t : Bytes) → Numbered (length s) (edit s t)
   unfolding edit
   numbered-edit t = search (numbered-bind, numbered-file, numbered-edit-tree)
@@ -250,22 +251,22 @@ module _ (b : Bytes) where
       let inside : 0 + length b / rowBytes * rowBytes ≤ length b = omega arith in
       search (numbered-need, numbered-stored-from, at-first)
 
-  -- where it is asked how many rows are stored
+  -- The number of stored rows is accepted, or its refusal is proper.
   pub numbered-stored-count : Numbered (length b) (storedCount b)
   unfolding storedCount
   numbered-stored-count = search (numbered-value, numbered-stored)
 
-  -- or a row, as these numbers
+  -- The same for a stored row, as these numbers.
   pub numbered-stored-at : (fields : Row → List ℕ) (k : ℕ) → Numbered (length b) (foundBytes fields (storedAt b k))
   unfolding foundBytes storedAt
   numbered-stored-at fields k = search (numbered-value, numbered-stored)
 
-  -- or all rows again
+  -- The same for all rows written again.
   pub numbered-rewritten : Numbered (length b) (rewritten b)
   unfolding rewritten
   numbered-rewritten = search (numbered-value, numbered-stored)
 
-  -- or all rows as numbers
+  -- The same for all rows as numbers.
   pub numbered-stored-rows : Numbered (length b) (storedRows b)
   unfolding storedRows
   numbered-stored-rows = search (numbered-value, numbered-stored)

@@ -1,4 +1,4 @@
--- The records of a file give rows that fit and keep the rules of stored rows.
+-- The records of a file give rows that fit and that keep the rules of stored rows.
 use Prim.Native.Nat.{ℕ, zero, suc, _+_, _≤_, _<_}
 use mathlib.Core.Path.{_≡_}
 use mathlib.Core.Bool.{true}
@@ -24,22 +24,24 @@ use Rattle.format.proofs.PackLaws.{is-bytes-take, is-bytes-drop}
 use Rattle.format.proofs.RowLaws.{RowFits}
 use Rattle.format.proofs.FileBlockLaws.{FileBlock, AllBlocks, file-bounds}
 
--- a row that fits its bytes and keeps the rules of a stored row, at most so deep
+-- A row that fits its bytes and keeps the rules of a stored row, at a depth of at most `most`.
 pub record RowKept (most : ℕ) (r : Row) : Type 0 where
   pub fits : RowFits r
   pub rule : isRow most r ≡ true
 
--- rows that do, the first at most so deep, and none more than one deeper than the one before it
+-- `RowKept` holds for every row. The first has a depth of at most `most`, and no row is more than one deeper than the
+-- row before it.
 abbrev pub Kept : ℕ → List Row → Type 0
 Kept most [] = Unit {0}
 Kept most (r ∷ rs) = RowKept most r × Kept (r .depth + 1) rs
 
--- records that may stand in front of all rows that are kept from this depth on
+-- The records `rs` lead: if the rows of further records are kept with every bound from `depth` on, so are the rows of
+-- `rs` and those records together.
 abbrev pub Leads : ℕ → List Record → Type 0
 Leads depth rs =
     (zs : List Record) → ((m : ℕ) → depth ≤ m → Kept m (map rowOf zs)) → (m : ℕ) → depth ≤ m → Kept m (map rowOf (rs ++ zs))
 
--- an inner state is one of four
+-- The number of an inner state is one of four.
 inner-lt : (i : Inner) → innerNumber i < 4
 unfolding innerNumber
 inner-lt Plain = omega arith
@@ -47,11 +49,11 @@ inner-lt Opened = omega arith
 inner-lt (Refused r) = omega arith
 inner-lt TooDeep = omega arith
 
--- no records at all lead
+-- The empty list of records leads.
 none-lead : (depth : ℕ) → Leads depth []
 none-lead depth zs h = h
 
--- a row that keeps the rules passes the test
+-- A row that keeps the rules passes the test.
 is-row : (most : ℕ) (r : Row) → r .ordinal < mostBlocks → leastHeader ≤ r .«header_size» → r .used ≤ r .allocated → r .depth ≤ most
     → isRow most r ≡ true
 unfolding isRow
@@ -59,13 +61,13 @@ is-row most r o h u d = simp le-leb
 
 module _ (reads : ℕ → Bytes → Inside) (depth start : ℕ) (s : Bytes) (bytes : IsBytes s) (room : start + length s ≤ mostBytes) (deep : depth ≤ deepest)
     (inner : (n : ℕ) (t : Bytes) → IsBytes t → n + length t ≤ mostBytes → Leads (depth + 1) (reads n t .records)) where
-  -- the row of a block of the file is kept
+  -- The row of a block of the file is kept.
   row-kept : (b : Block) (i : Inner) (m : ℕ) → FileBlock (length s) b → depth ≤ m
       → RowKept m (rowOf (record { depth = depth; at = record { 0 = start + b .at .0 }; block = b; inner = i }))
   unfolding rowOf
   row-kept b i m h le = record { fits = omega (arith, inner-lt i); rule = is-row m _ (h .ordinal) (h .header-least) (h .used) le }
 
-  -- what is found inside such a block leads
+  -- The records inside a block of the file lead.
   inside-leads : (b : Block) → FileBlock (length s) b → Leads (depth + 1) (inside reads start s b .records)
   unfolding inside
   inside-leads b h =
@@ -74,7 +76,7 @@ module _ (reads : ℕ → Bytes → Inside) (depth start : ℕ) (s : Bytes) (byt
       (simp (length-take, length-drop) (omega arith)))
       (none-lead (depth + 1))
 
-  -- the records of such blocks lead: a block's row, what is inside it, and the blocks behind it
+  -- The records of such blocks lead: the row of a block, then what is inside it, then the blocks after it.
   walk-leads : (bs : List Block) → AllBlocks (FileBlock (length s)) bs → Leads depth (walk reads depth start s bs)
   unfolding walk walked rowOf
   walk-leads [] hs zs h m le = h m le
@@ -84,20 +86,20 @@ module _ (reads : ℕ → Bytes → Inside) (depth start : ℕ) (s : Bytes) (byt
         (inside-leads b (hs .0) (walk reads depth start s bs ++ zs) (λ m le. walk-leads bs (hs .1) zs h m (omega arith)) (depth + 1) (le-refl (depth + 1))),
   )
 
-  -- the records of an accepted file lead
+  -- The records of an accepted file lead.
   walk-file-leads : Accepts (Leads depth) (walkFile reads depth start s)
   unfolding walkFile
   walk-file-leads =
       accepts-bind (Leads depth) (file s) _
       λ f e. walk-leads (f .blocks) (file-bounds s f bytes e)
 
--- what is found in an opened block leads
+-- If the records of an accepted inner file lead, so does what is found in the block when it is opened.
 opened-leads : (depth : ℕ) (o : Outcome (List Record)) → Accepts (Leads depth) o → Leads depth (opened o .records)
 unfolding opened
 opened-leads depth (accepted rs) h = h
 opened-leads depth (refused r) h = none-lead depth
 
--- the records of a file at any depth lead
+-- The records of an accepted file at any depth lead.
 pub records-lead : (levels depth start : ℕ) (s : Bytes) → IsBytes s → start + length s ≤ mostBytes → depth + levels ≤ deepest
     → Accepts (Leads depth) (recordsFrom levels depth start s)
 unfolding recordsFrom

@@ -1,4 +1,5 @@
--- The index that is written for a file, put behind its last block, is good; and an index is good exactly if it lists the blocks' offsets.
+-- The index that is written for a file is good when it is put after the file's last block. An index is good exactly if
+-- it lists the blocks' offsets.
 use Prim.Native.Nat.{ℕ, zero, suc, _+_, _^_, _≤_, _<_}
 use mathlib.Core.Path.{_≡_, refl, sym, ap, _∙_}
 use mathlib.Core.Bool.{true, true≢false}
@@ -27,7 +28,7 @@ use Rattle.format.proofs.LocalLaws.{header-again, comments-kept, tree-k
 use Rattle.format.proofs.ChainLaws.{blocks-begin, blocks-few, chain-again}
 use Rattle.format.proofs.FileLaws.{blocksStart, Parts, file-parts, parts-file, in-order, file-tail}
 
--- a file may go on where a block begins
+-- If a block begins where the first block has to begin, the file may go on after its comments.
 goes-on-marked : (n : ℕ) (p y : Bytes) (t : Tree) → n ≤ length p → begins mark (drop (firstBlock n t) p ++ y) ≡ true → goesOn t (drop n (p ++ y)) ≡ true
 unfolding goesOn firstBlock
 goes-on-marked n p y (Found a e m) inside h = refl
@@ -37,7 +38,8 @@ goes-on-marked n p y NoTree inside h = rw drop-append-le (marked (drop n p ++ y)
     marked [] q = refl
     marked (b ∷ u) q = q
 
--- the parts of a file, p up to the end of its last block, are the same with another tail behind, but for the verdict
+-- `p` ends where the last block of a file ends. With another tail after `p`, the parts of the file are the same except
+-- for the verdict.
 parts-again : (p z y : Bytes) (f : File) → Parts (p ++ z) f → tailStart f ≡ length p → mayHaveIndex (f .blocks) ≡ true → isTail y ≡ true
     → length (p ++ y) ≤ mostBytes → Parts (p ++ y) (judgedAs (verdict (offsets (f .blocks)) y) f)
 parts-again p z y f h size m t short =
@@ -65,7 +67,8 @@ parts-again p z y f h size m t short =
       judged = refl;
     }
 
--- an accepted file is the same with another tail behind its last block, if that is not streamed, but for the verdict
+-- If the last block of an accepted file is not streamed, the file is the same with another tail after that block,
+-- except for the verdict.
 pub file-again : (s : Bytes) (f : File) → file s ≡ accepted f → mayHaveIndex (f .blocks) ≡ true → (y : Bytes) → isTail y ≡ true
     → length (take (tailStart f) s ++ y) ≤ mostBytes → file (take (tailStart f) s ++ y) ≡ accepted (judgedAs (verdict (offsets (f .blocks)) y) f)
 file-again s f e m y t short =
@@ -74,13 +77,13 @@ file-again s f e m y t short =
     let size : tailStart f ≡ length p = sym (length-take-le (tailStart f) s (in-order s f parts .tail-start)) in
     parts-file (p ++ y) _ (parts-again p (drop (tailStart f) s) y f (rw take-append-drop parts) size m t short)
 
--- offsets of blocks that lie inside a file are not behind its end
+-- If blocks end within a file, no offset of theirs is after the end of the file.
 offsets-below : (size : ℕ) (bs : List Block) → AllBlocks (FileBlock size) bs → (i : ℕ) → getD (offsets bs) i 0 ≤ size
 offsets-below size [] h i = omega arith
 offsets-below size (b ∷ bs) h zero = omega (arith, h .0 .end)
 offsets-below size (b ∷ bs) h (suc i) = offsets-below size bs (h .1) i
 
--- the offsets of an accepted file's blocks are numbers of 32 bits
+-- The offsets of an accepted file's blocks fit into 32 bits.
 offsets-small : (s : Bytes) (f : File) → IsBytes s → file s ≡ accepted f → (i : ℕ) → getD (offsets (f .blocks)) i 0 < 2 ^ 32
 offsets-small s f bytes e i =
     omega (
@@ -89,11 +92,11 @@ offsets-small s f bytes e i =
       offsets-below (length s) (f .blocks) (file-bounds s f bytes e) i,
     )
 
--- they have at most ten digits
+-- The offsets of an accepted file's blocks have at most ten digits.
 offsets-digits : (s : Bytes) (f : File) → IsBytes s → file s ≡ accepted f → (i : ℕ) → getD (offsets (f .blocks)) i 0 < 10 ^ 10
 offsets-digits s f bytes e i = omega (arith, offsets-small s f bytes e i)
 
--- there are few of them
+-- An accepted file has at most `mostBlocks` offsets.
 offsets-few : (s : Bytes) (f : File) → file s ≡ accepted f → length (offsets (f .blocks)) ≤ mostBlocks
 offsets-few s f e =
     omega (
@@ -102,22 +105,23 @@ offsets-few s f e =
       blocks-few mostBlocks 0 (blocksStart f) _ (drop (blocksStart f) s) (file-parts s f e .chain-read),
     )
 
--- there is an offset where there is a block
+-- If a file may have an index, it has an offset.
 some-offset : (bs : List Block) → mayHaveIndex bs ≡ true → 1 ≤ length (offsets bs)
 unfolding mayHaveIndex
 some-offset [] h = absurd (true≢false (sym h))
 some-offset (b ∷ bs) h = omega arith
 
--- the index that is written is a tail
+-- The index that is written is a tail.
 text-is-tail : (e : LineEnd) (ns : List ℕ) → isTail (indexText e ns) ≡ true
 unfolding indexText rendering
 text-is-tail e ns = refl
 
--- the index of what is found in a file
+-- The index that is written for what is found in a file.
 abbrev textOf : File → Bytes
 textOf f = indexText (f .header .«line_end») (offsets (f .blocks))
 
--- the file cut after its last block and followed by the index that is written for it is accepted with the same parts, and its index is good
+-- The file, cut after its last block and followed by the index that is written for it, is accepted with the same parts,
+-- and its index is good.
 pub indexed-again : (s : Bytes) (f : File) → IsBytes s → file s ≡ accepted f → mayHaveIndex (f .blocks) ≡ true
     → length (take (tailStart f) s ++ textOf f) ≤ mostBytes → file (take (tailStart f) s ++ textOf f) ≡ accepted (judgedAs Good f)
 indexed-again s f bytes e m short =
@@ -126,7 +130,7 @@ indexed-again s f bytes e m short =
     file-again s f e m (indexText k ns) (text-is-tail k ns) short
     ∙ ap (λ (v : Verdict). accepted (judgedAs v f)) (index-is-good ns (indexText k ns) (offsets-digits s f bytes e) (text-is-index k ns (some-offset (f .blocks) m)))
 
--- what holds of the index of the offsets of each file that may have one holds of what the writer gives
+-- If `P` holds for the index of every accepted file that may have one, it holds for what the writer gives.
 written-holds : (s : Bytes) (P : Bytes → Type 0)
     → ((f : File) → file s ≡ accepted f → mayHaveIndex (f .blocks) ≡ true → P (textOf f))
     → (t : Bytes) → indexFor s ≡ accepted t → P t
@@ -135,22 +139,22 @@ written-holds s P h t =
     accepted-holds P (indexFor s) t (accepts-bind P (file s) _ λ f e. accepts-need P (mayHaveIndex (f .blocks)) 22 0 _ λ m. h f e m)
 
 module _ (s : Bytes) (bytes : IsBytes s) where
-  -- it is a good index
+  -- The index that is written is a good index of the file.
   pub index-good : (t : Bytes) → indexFor s ≡ accepted t → GoodAfter s t
   index-good = written-holds s (GoodAfter s) λ f e m. record { found = f; is = e; good = indexed-again s f bytes e m }
 
-  -- it is short
+  -- The index that is written has at most `mostIndex` bytes.
   pub index-short : (t : Bytes) → indexFor s ≡ accepted t → length t ≤ mostIndex
   index-short =
       written-holds s (λ t. length t ≤ mostIndex) λ f e m.
       text-at-most (f .header .«line_end») (offsets (f .blocks)) (some-offset (f .blocks) m) (offsets-few s f e) (offsets-small s f bytes e)
 
--- the verdict on a file's index is good exactly if what stands behind the last block is an index of the blocks' offsets
+-- The verdict on a file's index is good exactly if what follows the last block is an index of the blocks' offsets.
 pub record GoodExactly (s : Bytes) (f : File) : Type 0 where
   pub lists : f .verdict ≡ Good → IsIndex (offsets (f .blocks)) (drop (tailStart f) s)
   pub good : IsIndex (offsets (f .blocks)) (drop (tailStart f) s) → f .verdict ≡ Good
 
--- and so it is for every accepted file
+-- `GoodExactly` holds for every accepted file.
 pub good-exactly : (s : Bytes) (f : File) → IsBytes s → file s ≡ accepted f → GoodExactly s f
 good-exactly s f bytes e =
     let parts = file-parts s f e in
