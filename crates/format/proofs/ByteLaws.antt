@@ -50,7 +50,7 @@ pub begins-append : (p s : Bytes) → begins p (p ++ s) ≡ true
 begins-append [] s = refl
 begins-append (a ∷ p) s = and-both (eqb a a) (begins p (p ++ s)) (eq-eqb a a refl) (begins-append p s)
 
--- If `u` is left of `s` after `p`, then `s` is `p` followed by `u`.
+-- If `without p s` gives `u`, then `s` is `p` followed by `u`.
 pub without-some : (p s u : Bytes) → without p s ≡ some u → s ≡ p ++ u
 unfolding without
 without-some [] s u h = cc

@@ -55,7 +55,8 @@ block-again i n p y z b size plain read =
     sound-accepted i n (p ++ y) sound ∙ ap accepted (same-block ∙ sym (known .is))
 
 -- The blocks of `c`, at most `k`, are a front part of `t` together with the space between them, and the tail of `c` is
--- the rest. If the last of a block `b` and these blocks is not streamed, they are the same with another tail.
+-- the rest. If there is a block `b` such that the last of `b` and these blocks is not streamed, they are the same with
+-- another tail.
 record ChainFront (k i n : ℕ) (t : Bytes) (c : Chain) : Type 0 where
   front : Bytes
   whole : t ≡ front ++ c .tail
@@ -71,12 +72,12 @@ unfolding chain
 chain-none zero i n t h = rw (h, chain)
 chain-none (suc k) i n t h = rw (h, chain)
 
--- If a block follows and none is allowed, the chain is refused at its mark.
+-- If a block follows and no further block is allowed, the chain is refused at its mark.
 pub chain-many : (i n g : ℕ) (t : Bytes) → nextBlock t ≡ some g → chain zero i n t ≡ refused (refusal 16 (n + g))
 unfolding chain
 chain-many i n g t h = rw (h, chain)
 
--- If a block follows, the chain continues at its mark.
+-- If a block follows and is allowed, the chain continues at its mark.
 pub chain-next : (k i n g : ℕ) (t : Bytes) → nextBlock t ≡ some g → chain (suc k) i n t ≡ linkedAt i (n + g) (drop g t) (chain k (i + 1))
 unfolding chain
 chain-next k i n g t h = rw (h, chain)

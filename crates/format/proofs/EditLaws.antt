@@ -74,7 +74,7 @@ module _ (s t : Bytes) (h : Editable s t) where
   abbrev refound : File
   refound = withTree (h .before) (treeAt (h .start) (h .start + length t) (h .room-end)) (h .before .blocks) (h .before .verdict)
 
-  -- The filled file is accepted, with what is reported about it.
+  -- The filled file is accepted as `refound`.
   refilled-file : file refilled ≡ accepted refound
   refilled-file =
       let f = h .before in

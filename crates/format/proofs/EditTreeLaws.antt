@@ -117,8 +117,8 @@ module _ (n : ℕ) (p t : Bytes) (k : ℕ) (y : Bytes) (size : length p ≡ n) w
         add-zero,
       )
 
--- Let the comments of a file end where `p` ends. Then `p`, the tree `t`, `k` spaces and `y` are the parts of a file
--- with the same header and comments, the tree `t` and the blocks in `y`.
+-- Let the comments of a file end where `p` ends. Then `Parts` holds for `p`, one tree `t`, `k` spaces and `y` together:
+-- the header and the comments are the same, the tree is `t`, and the blocks are those in `y`.
 pub treed-parts : (n : ℕ) (p z : Bytes) (f : File) → Parts (p ++ z) f → f .commentsEnd ≡ n → length p ≡ n
     → (t : Bytes) → isOneTree t ≡ true
     → (k : ℕ) (y : Bytes) → freeSpace y ≡ 0 → length (treed p t k y) ≤ mostBytes

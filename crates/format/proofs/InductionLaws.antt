@@ -18,7 +18,7 @@ use Rattle.format.proofs.NextLaws.{Next, next-is}
 pub record ChainCases (P : ℕ → ℕ → ℕ → Bytes → Outcome Chain → Type 0) : Type 0 where
   -- Case: no block follows.
   pub no-block : (k i n : ℕ) (t : Bytes) → nextBlock t ≡ none → P k i n t (tail n t)
-  -- Case: a block follows, but none is allowed.
+  -- Case: a block follows, but no further block is allowed.
   pub too-many : (i n g : ℕ) (t : Bytes) → Next t g → P zero i n t (refused (refusal 16 (n + g)))
   -- Case: a block follows, and it is refused.
   pub refused-block : (k i n g : ℕ) (t : Bytes) (r : Refusal) → Next t g → block i (n + g) (drop g t) ≡ refused r → P (suc k) i n t (refused r)
@@ -39,14 +39,14 @@ module _ {P : ℕ → ℕ → ℕ → Bytes → Outcome Chain → Type 0} (cases
       found-choice (P (suc k) i n t) (nextBlock t) _ _ (cases .no-block (suc k) i n t)
       λ g e. at-block g (next-is t g e) (block i (n + g) (drop g t)) refl (chain-induction k (i + 1))
     where
-      -- Decides by whether the block is streamed.
+      -- Splits into cases by whether the block is streamed.
       after-block : (g : ℕ) → Next t g → (b : Block) → block i (n + g) (drop g t) ≡ accepted b → (streamed : Bool) → isStreamed (b .flags) ≡ streamed
           → (o : Outcome Chain) → P k (i + 1) (n + g + extent b) (drop (extent b) (drop g t)) o
           → P (suc k) i n t (_>>=_ (elim streamed [ true ↦ accepted (ended []) | false ↦ o ]) (λ c. accepted (linked b c)))
       after-block g next b read true e o h = cases .streamed-block k i n g t b next read e
       after-block g next b read false e o h = cases .plain-block k i n g t b o next read e h
 
-      -- Decides by whether the block is accepted.
+      -- Splits into cases by whether the block is accepted.
       at-block : (g : ℕ) → Next t g → (o : Outcome Block) → block i (n + g) (drop g t) ≡ o → ((m : ℕ) (u : Bytes) → P k (i + 1) m u (chain k (i + 1) m u))
           → P (suc k) i n t (_>>=_ o (λ b. _>>=_ (elim (isStreamed (b .flags)) [
             | true ↦ accepted (ended [])

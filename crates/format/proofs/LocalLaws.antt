@@ -32,14 +32,14 @@ module _ {Next : Bytes → Type 0} {reads : Reading} {n m : ℕ} (l : ℕ) (p z 
   front-part =
       sym (take-at (f .front) (f .rest) l (omega (arith, f .end))) ∙ ap (take l) (sym (f .whole)) ∙ take-append-le l p z inside
 
-  -- It reads the same from any offset `k` with any `y` after `p`, if what follows the first `l` bytes may come next.
+  -- It reads the same from any offset `k` with any `y` after `p`, provided that the rest of `p` and `y` may come next.
   front-again : (k : ℕ) (y : Bytes) → Next (drop l p ++ y) → reads k (p ++ y) (k + l)
   front-again k y h =
       let again : reads k (take l p ++ (drop l p ++ y)) (k + length (take l p)) = rw front-part at (f .local k (drop l p ++ y) h) in
       rw (← append-assoc, take-append-drop, length-take-le l p inside) at again
 
--- What is read of `p` followed by `z` and ends within `p` reads the same with any `y` after `p`, if what follows may
--- come next.
+-- If what is read of `p` followed by `z` ends within `p`, it reads the same with `y` after `p`, provided that the rest
+-- of `p` and `y` may come next.
 front-within : {Next : Bytes → Type 0} {reads : Reading} {n m : ℕ} (p z : Bytes) → Front Next reads n (p ++ z) m → m ≤ n + length p
     → (y : Bytes) → Next (drop (m - n) p ++ y) → reads n (p ++ y) m
 front-within {reads} {n} {m} p z f inside y next =

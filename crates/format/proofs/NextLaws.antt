@@ -19,12 +19,12 @@ mark-unindexed : (t : Bytes) → begins mark t ≡ true → begins indexLine t �
 mark-unindexed t h = ap (begins indexLine) (begins-true mark t h)
 
 module _ (t : Bytes) where
-  -- If an index begins, no block follows.
+  -- If `t` begins with an index, no block follows.
   pub next-index : begins indexLine t ≡ true → nextBlock t ≡ none
   unfolding nextBlock
   next-index h = rw (h, nextBlock)
 
-  -- If there is no mark, no block follows.
+  -- If there is no mark in `t`, no block follows.
   pub next-none : length t ≤ freeSpace t → nextBlock t ≡ none
   unfolding nextBlock markAhead
   next-none h = go (begins indexLine t) refl
@@ -43,7 +43,7 @@ module _ (t : Bytes) where
           let zeros : allZero t ≡ true = sym (or-false (allZero t)) ∙ rw e at h in
           next-none (omega (arith, free-space-all t (rw (all-zero-true t zeros) (lacks-replicate 0xD3 0 (length t) refl))))
 
-  -- If no index begins and there is a mark, the next block is at the first mark.
+  -- If `t` does not begin with an index and there is a mark in it, the next block is at the first mark.
   pub next-mark : begins indexLine t ≡ false → freeSpace t < length t → nextBlock t ≡ some (freeSpace t)
   unfolding nextBlock markAhead
   next-mark e h = rw (e, nextBlock, lt-ltb (freeSpace t) (length t) h, markAhead)
@@ -62,7 +62,7 @@ pub record Next (t : Bytes) (g : ℕ) : Type 0 where
   pub inside : g < length t
   pub marked : begins mark (drop g t) ≡ true
 
--- If a block follows after `g` bytes, the first mark is there, and no index begins.
+-- If a block follows after `g` bytes, the first mark is there, and `t` does not begin with an index.
 pub next-is : (t : Bytes) (g : ℕ) → nextBlock t ≡ some g → Next t g
 unfolding nextBlock markAhead
 next-is t g h = go (begins indexLine t) refl (ltb (freeSpace t) (length t)) refl

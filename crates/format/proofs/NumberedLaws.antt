@@ -39,17 +39,17 @@ use Rattle.format.proofs.ReadLaws.{header-bounds, comments-bounds, firs
 use Rattle.format.proofs.BlockLaws.{accepted-block}
 use Rattle.format.proofs.InductionLaws.{chain-induction}
 
--- The number of the refusal is not 0, and its place is at most `most`.
+-- A proper refusal: its number is not 0, and its place is at most `most`.
 pub record Proper (most : ℕ) (r : Refusal) : Type 0 where
   pub number : 1 ≤ r .number
   pub place : r .place .0 ≤ most
 
--- The outcome is accepted, or its refusal is proper.
+-- A numbered outcome: it is accepted, or its refusal is proper.
 abbrev pub Numbered : {A : Type 0} → ℕ → Outcome A → Type 0
 Numbered most (accepted a) = Unit {0}
 Numbered most (refused r) = Proper most r
 
--- If a place is at most `near`, it is at most every larger number.
+-- An outcome that is numbered up to `near` is numbered up to any larger bound.
 pub numbered-more : {A : Type 0} (near most : ℕ) (o : Outcome A) → near ≤ most → Numbered near o → Numbered most o
 numbered-more near most (accepted a) l h = tt
 numbered-more near most (refused r) l h = omega arith

@@ -10,7 +10,7 @@ abbrev pub Accepts : {A : Type 0} → (A → Type 0) → Outcome A → Type 0
 Accepts P (accepted a) = P a
 Accepts P (refused r) = Unit {0}
 
--- If `P` holds for what an outcome accepts, and it accepts `a`, then `P` holds for `a`.
+-- If `Accepts P` holds for an outcome, and the outcome accepts `a`, then `P` holds for `a`.
 pub accepted-holds : {A : Type 0} (P : A → Type 0) (o : Outcome A) (a : A) → Accepts P o → o ≡ accepted a → P a
 accepted-holds P o a h e = rw e at h
 
@@ -32,7 +32,7 @@ pub accepts-choice : {A : Type 0} (P : A → Type 0) (t : Bool) (x y : Outcome A
 accepts-choice P true x y h k = h refl
 accepts-choice P false x y h k = k refl
 
--- If `P` holds for each value that the outcome is shown to accept, it holds for what the outcome accepts.
+-- If `P` holds for every value that an outcome accepts, then `Accepts P` holds for the outcome.
 pub accepts-each : {A : Type 0} (P : A → Type 0) (o : Outcome A) → ((a : A) → o ≡ accepted a → P a) → Accepts P o
 accepts-each P (accepted a) h = h a refl
 accepts-each P (refused r) h = tt
@@ -42,7 +42,8 @@ pub choice : {A : Type 0} (P : A → Type 0) (t : Bool) (x y : A) → P x → P 
 choice P true x y h k = h
 choice P false x y h k = k
 
--- If `P` holds when nothing is found, and for whatever is found, it holds in both cases.
+-- If `P` holds for the branch where nothing is found, and for the branch where something is found, it holds for the
+-- choice.
 pub found-choice : {A B : Type 0} (P : B → Type 0) (o : Option A) (x : B) (f : A → B) → (o ≡ none → P x) → ((a : A) → o ≡ some a → P (f a))
     → P (elim o [ none ↦ x | some a ↦ f a ])
 found-choice P none x f h k = h refl

@@ -35,7 +35,7 @@ single-byte : (x : ℕ) → x < 256 → IsBytes (x ∷ [])
 single-byte x h zero = h
 single-byte x h (suc i) = omega arith
 
--- The number of one byte string followed by another is the number of the first, moved up by the length of the second,
+-- The number of one byte string followed by another is the number of the first, shifted by the bytes of the second,
 -- plus the number of the second.
 pub big-endian-append : (s t : Bytes) → bigEndian (s ++ t) ≡ bigEndian s * 256 ^ length t + bigEndian t
 big-endian-append [] t = omega arith

@@ -48,11 +48,13 @@ pub front-bounds : {Next : Bytes → Type 0} {reads : Reading} {n : ℕ} {s : By
 front-bounds f = omega (arith, f .end, simp length-append at (ap length (f .whole)))
 
 module _ (Next : Bytes → Type 0) (reads : Reading) (n : ℕ) where
-  -- Case: nothing is read.
+  -- If `reads` may stop immediately wherever `Next` holds, and `Next` holds for `s`, the empty front part of `s` is
+  -- read.
   front-none : (s : Bytes) → Next s → ((k : ℕ) (z : Bytes) → Next z → reads k z k) → Front Next reads n s n
   front-none s h here = record { front = []; rest = s; whole = refl; end = omega arith; next = h; local = λ k z q. rw add-zero (here k z q) }
 
-  -- Case: `p` is read, and then a front part of `s` after it.
+  -- If `reads` continues as `then` after `p`, and `then` reads a front part of `s`, then `reads` reads `p` followed by
+  -- that part.
   front-after : (then : Reading) (p s : Bytes) (m : ℕ) → ((k : ℕ) (z : Bytes) (j : ℕ) → then (k + length p) z j → reads k (p ++ z) j)
       → Front Next then (n + length p) s m → Front Next reads n (p ++ s) m
   front-after then p s m step f = record {
@@ -64,7 +66,7 @@ module _ (Next : Bytes → Type 0) (reads : Reading) (n : ℕ) where
     local = λ k z q. rw (append-assoc, length-append, ← add-assoc) (step k (f .front ++ z) _ (f .local (k + length p) z q));
   }
 
--- Case: a line is read, and then a front part of `s` after it.
+-- The same with the text of a line and its line end in place of `p`.
 front-line : (Next : Bytes → Type 0) (reads then : Reading) (n : ℕ) (t : Bytes) (e : LineEnd) (s : Bytes) (m : ℕ)
     → ((k : ℕ) (z : Bytes) (j : ℕ) → then (afterLine k t e) z j → reads k (t ++ (lineEnd e ++ z)) j)
     → Front Next then (afterLine n t e) s m → Front Next reads n (t ++ (lineEnd e ++ s)) m
