@@ -1,4 +1,4 @@
--- Whether a line is a word: one law for each way out, and what the answer says of the bytes.
+-- Laws about the test whether a line is a word: one for each return, and what the answer states about the bytes.
 use Prim.Native.Nat.{ℕ, _+_, _-_, _≤_}
 use native.Mathlib.Omega.{arith}
 use mathlib.Core.Path.{_≡_, refl, sym, ap, _∙_}
@@ -21,13 +21,13 @@ use Rattle.scan.proofs.TextLaws.{begins-inside}
 use Rattle.scan.proofs.LineLaws.{FirstLine, lines-first, unended-lines, ended-first, ended-inside}
 
 module _ (s : Bytes) (at : ℕ) (r : Line) (read : LineRead s at r) (word : Bytes) where
-  -- bytes without a line end are no line
+  -- If the bytes have no line end, they are no line, so the answer is `Other`.
   pub exact-unended : r ≡ Unended → ExactRead s word at Other
   unfolding exactLine
   exact-unended e = record { is = rw (unended-lines s at r read e); inside = tt }
 
   module _ (m next : ℕ) (k : LineEnd) (e : r ≡ Ended m next k) (x : Bool) (h : x ≡ same (take (m - at) (drop at s)) word) where
-    -- the line's text is the word
+    -- If the text of the line is the word, the answer is `After`.
     pub exact-after : x ≡ true → ExactRead s word at (After next k)
     unfolding exactLine
     exact-after p =
@@ -37,13 +37,13 @@ module _ (s : Bytes) (at : ℕ) (r : Line) (read : LineRead s at r) (word : Byte
           inside = omega (arith, ended-inside s at r read m next k e);
         }
 
-    -- it is another
+    -- If the text of the line is not the word, the answer is `Other`.
     pub exact-other : x ≡ false → ExactRead s word at Other
     unfolding exactLine
     exact-other p = record { is = rw (ended-first s at r read m next k e .cut, exactLine, sym h ∙ p); inside = tt }
 
 module _ (s word : Bytes) (at : ℕ) (r : Exact) (read : ExactRead s word at r) where
-  -- where the answer is no, no first line has the word for its text
+  -- If the answer is `Other`, the text of the first line is not the word.
   pub other-text : (t : Bytes) (e : LineEnd) (l : Lines) → r ≡ Other → lines (drop at s) ≡ line t e l → same t word ≡ false
   unfolding exactLine
   other-text t e l p h = go (same t word) refl
@@ -52,7 +52,7 @@ module _ (s word : Bytes) (at : ℕ) (r : Exact) (read : ExactRead s word at r) 
       go true k = cc (sym p ∙ rw (h, exactLine, k) at (read .is))
       go false k = k
 
-  -- where it is yes, the word is the first line
+  -- If the answer is `After`, the word is the text of the first line.
   pub after-first : (next : ℕ) (d : LineEnd) → r ≡ After next d → FirstLine s at word next d
   unfolding exactLine
   after-first next d p = go (lines (drop at s)) refl
@@ -68,7 +68,8 @@ module _ (s word : Bytes) (at : ℕ) (r : Exact) (read : ExactRead s word at r) 
       go (unended t) h = let z : _≡_ {A = ℕ} 0 1 = cc (read .is, h, p) in absurd (omega arith)
       go (line t e l) h = judge t e l (same t word) h refl
 
--- bytes that begin with a word and a line end have the word for their first line
+-- If the bytes begin with a word and a line end, and the word is the text of a line that ends so, then it is the text
+-- of their first line.
 word-read : (s word : Bytes) (at : ℕ) (e : LineEnd) (next : ℕ) → IsLine word e → begins (word ++ lineEnd e) (drop at s) ≡ true
     → next ≡ afterLine at word e → ExactRead s word at (After next e)
 unfolding exactLine
@@ -82,7 +83,7 @@ word-read s word at e next l h n =
       inside = omega (arith, begins-inside (word ++ lineEnd e) at s h (omega arith));
     }
 
--- bytes that begin with the word and a line end in no way have another first line
+-- If the bytes do not begin with the word and one of the two line ends, their first line is not the word.
 other-read : (s word : Bytes) (at : ℕ) → ((e : LineEnd) → begins (word ++ lineEnd e) (drop at s) ≡ false) → ExactRead s word at Other
 unfolding exactLine
 other-read s word at never = record { is = sym (go (lines (drop at s)) refl); inside = tt }
@@ -99,21 +100,21 @@ other-read s word at never = record { is = sym (go (lines (drop at s)) refl); in
     go (unended t) h = refl
     go (line t e l) h = judge t e l (same t word) h refl
 
--- the first line of a tree has no 0A, and no 0D at its end
+-- The first line of a tree has no 0A, and no 0D at its end. So it is the text of a line with either line end.
 yaml-plain : (e : LineEnd) → IsLine yamlLine e
 yaml-plain e = plain-line yamlLine e refl refl
 
 module _ (s : Bytes) (at : ℕ) (x : Bool) (h : x ≡ begins (yamlLine ++ lineEnd Lf) (drop at s)) where
-  -- it stands there with 0A
+  -- If the bytes begin with the first line of a tree and 0A, the next line begins 10 bytes later.
   pub yaml-lf : x ≡ true → ExactRead s yamlLine at (After (at + 10) Lf)
   yaml-lf p = word-read s yamlLine at Lf (at + 10) (yaml-plain Lf) (sym h ∙ p) (omega arith)
 
   module _ (y : Bool) (k : y ≡ begins (yamlLine ++ lineEnd Crlf) (drop at s)) where
-    -- it stands there with 0D 0A
+    -- If the bytes begin with the first line of a tree and 0D 0A, the next line begins 11 bytes later.
     pub yaml-crlf : y ≡ true → ExactRead s yamlLine at (After (at + 11) Crlf)
     yaml-crlf p = word-read s yamlLine at Crlf (at + 11) (yaml-plain Crlf) (sym k ∙ p) (omega arith)
 
-    -- it stands there with neither
+    -- If the bytes begin with neither of these, the answer is `Other`.
     pub yaml-other : x ≡ false → y ≡ false → ExactRead s yamlLine at Other
     yaml-other p q = other-read s yamlLine at never
       where

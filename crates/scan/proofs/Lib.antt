@@ -1,4 +1,4 @@
--- Laws that the proofs of the leaves and of their callers cite.
+-- Laws that the proofs of the leaf functions and of their callers cite.
 pub mod FindLaws
 pub mod TextLaws
 pub mod NumberLaws

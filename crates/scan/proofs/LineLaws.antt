@@ -1,4 +1,5 @@
--- Lines: one law for each way out of the reading of a line, and what a line that was read says of the bytes.
+-- Laws about lines: one for each return of the functions that read a line, and what a line that was read states about
+-- the bytes.
 use Prim.Native.Nat.{ℕ, zero, suc, _+_, _-_, _≤_, _<_}
 use native.Mathlib.Numerals.{add-one}
 use native.Mathlib.Omega.{arith}
@@ -21,7 +22,7 @@ use Rattle.scan.specs.declared.line.Line.{Line}
 use Rattle.scan.specs.declared.line.Line.the-variants.{Ended, Unended}
 use Rattle.scan.specs.Line.{lineAt, EndsInside, LineRead}
 
--- the bytes before the first b have no b
+-- No byte before the first `b` is `b`.
 index-lacks : (b : ℕ) (u : Bytes) (n : ℕ) → n ≤ indexOf b u → lacks b (take n u) ≡ true
 unfolding indexOf
 index-lacks b u zero h = refl
@@ -33,7 +34,7 @@ index-lacks b (a ∷ u) (suc n) h = go (eqb a b) refl h (index-lacks b u n)
     go true e h i = absurd (omega arith)
     go false e h i = lacks-cons b a (take n u) e (i (omega arith))
 
--- where the first b is found, a b stands
+-- If the search for `b` ends before the end of the bytes, the byte there is `b`.
 index-found : (b : ℕ) (u : Bytes) → indexOf b u < length u → getD u (indexOf b u) 0 ≡ b
 unfolding indexOf
 index-found b [] h = absurd (omega arith)
@@ -44,15 +45,15 @@ index-found b (a ∷ u) h = go (eqb a b) refl h (index-found b u)
     go true e h i = eqb-true a b e
     go false e h i = i (omega arith)
 
--- no bytes end in nothing
+-- If there is no byte from `at` to `end`, the answer is false.
 pub ends-none : (at end : ℕ) (x : Bool) → end ≤ at → false ≡ (ltb at end && x)
 ends-none at end x h = rw (le-ltb at end h)
 
--- some bytes end in the last of them
+-- If there is a byte from `at` to `end`, the test of the last one is the answer.
 pub ends-last : (at end : ℕ) (x : Bool) → at < end → x ≡ (ltb at end && x)
 ends-last at end x h = rw (lt-ltb at end h)
 
--- the bytes from an offset to another end in b, if the last of them is b
+-- The bytes from `at` to `end` end in `b` exactly if there is one and the last is `b`.
 ends-at : (b : ℕ) (s : Bytes) (at end : ℕ) → end ≤ length s
     → endsIn b (take (end - at) (drop at s)) ≡ (ltb at end && eqb (getD s (end - 1) 0) b)
 ends-at b s at end h = go (ltb at end) refl
@@ -68,7 +69,8 @@ ends-at b s at end h = go (ltb at end) refl
         let none : end - at ≡ 0 = omega arith in
         rw (e, none)
 
--- the text of a line from an offset to another, with its line end behind it, is the line that is read
+-- If the text of a line is from `at` to `m`, and its line end follows and ends at `next`, then this line is read at
+-- `at`.
 text-read : (s : Bytes) (at m next : ℕ) (e : LineEnd) → IsLine (take (m - at) (drop at s)) e → drop m s ≡ lineEnd e ++ drop next s
     → next ≡ m + length (lineEnd e) → EndsInside (length s) at m next → LineRead s at (Ended m next e)
 unfolding lineAt
@@ -79,12 +81,12 @@ text-read s at m next e l d n i =
     let split = rw (drop-drop, to, d) at (sym (take-append-drop (m - at) (drop at s))) in
     record { is = rw (ap lines split ∙ lines-line t e (drop next s) l, size, n); inside = i }
 
--- no line begins at the end or behind it
+-- No line begins at the end of the bytes or after it.
 pub line-none : (s : Bytes) (at : ℕ) → length s ≤ at → LineRead s at Unended
 unfolding lineAt lines
 line-none s at h = record { is = rw (drop-of-length-le s h); inside = tt }
 
--- a 0A at the offset ends an empty line
+-- A 0A at the offset ends an empty line.
 pub line-empty : (s : Bytes) (at : ℕ) (x : Bool) → x ≡ begins (10 ∷ []) (drop at s) → x ≡ true → LineRead s at (Ended at (at + 1) Lf)
 line-empty s at x h e =
     let b = sym h ∙ e in
@@ -93,24 +95,24 @@ line-empty s at x h e =
     let inside : EndsInside (length s) at at (at + 1) = omega (arith, begins-inside (10 ∷ []) at s b (omega arith)) in
     text-read s at at (at + 1) Lf (rw none (plain-line [] Lf refl refl)) rest refl inside
 
--- end is where the first 0A stands, or the end
+-- `end` is where the first 0A at or after `at` is, or the end of the bytes.
 module _ (s : Bytes) (at end : ℕ) (f : end ≡ at + indexOf 10 (slice at (length s) s)) where
-  -- every byte from the offset on was looked at
+  -- The search covers every byte from `at` on.
   found : end ≡ at + indexOf 10 (drop at s)
   unfolding slice
   found = rw (take-length s) at f
 
-  -- no 0A stands before it
+  -- No byte from `at` up to `end` is 0A.
   before : (m : ℕ) → m ≤ end → lacks 10 (take (m - at) (drop at s)) ≡ true
   before m h = index-lacks 10 (drop at s) (m - at) (omega (arith, found))
 
-  -- a 0A stands there
+  -- If `end` is before the end of the bytes, the byte there is 0A.
   feed : end < length s → drop end s ≡ 10 ∷ drop (end + 1) s
   feed h =
       let there = rw (getD-drop, ← found) at (index-found 10 (drop at s) (simp length-drop (omega (arith, found)))) in
       rw (add-one end) (rw there at (drop-cons s end 0 h))
 
-  -- none stands in the file
+  -- If there is no 0A, the line is unended.
   pub line-unended : end ≡ length s → LineRead s at Unended
   unfolding lineAt
   line-unended h =
@@ -118,18 +120,18 @@ module _ (s : Bytes) (at end : ℕ) (f : end ≡ at + indexOf 10 (slice at (leng
       record { is = rw (lines-unended (drop at s) (rw all at (before end (omega arith)))); inside = tt }
 
   module _ (x : Bool) (h : x ≡ (ltb at end && eqb (getD s (end - 1) 0) 13)) where
-    -- a 0D stands before it
+    -- If the test for 0D is true, `end` comes after `at` and the byte before `end` is 0D.
     return : x ≡ true → (at < end) × (getD s (end - 1) 0 ≡ 13)
     return e =
         let both = sym h ∙ e in
         (ltb-true at end (and-left _ _ both), eqb-true (getD s (end - 1) 0) 13 (and-right (ltb at end) _ both))
 
-    -- so it is not the first byte
+    -- Hence `end` is not 0, so that 1 can be subtracted from it.
     pub line-some : x ≡ true → 1 ≤ end
     line-some e = omega (arith, return e)
 
     module _ (q : end ≤ length s) (n : end ≡ length s → ⊥) where
-      -- a 0D belongs to the line end
+      -- If a 0D is directly before the 0A, it belongs to the line end.
       pub line-crlf : x ≡ true → LineRead s at (Ended (end - 1) (end + 1) Crlf)
       line-crlf e =
           let r = return e in
@@ -138,18 +140,18 @@ module _ (s : Bytes) (at end : ℕ) (f : end ≡ at + indexOf 10 (slice at (leng
           let text : IsLine (take (end - 1 - at) (drop at s)) Crlf = record { no-feed = before (end - 1) (omega arith); no-return = λ z. cc } in
           text-read s at (end - 1) (end + 1) Crlf text rest (omega arith) (omega arith)
 
-      -- no 0D does
+      -- If no 0D is directly before the 0A, the line end is the 0A alone.
       pub line-lf : x ≡ false → LineRead s at (Ended end (end + 1) Lf)
       line-lf e =
           let text = plain-line _ Lf (before end (omega arith)) (ends-at 13 s at end q ∙ sym h ∙ e) in
           text-read s at end (end + 1) Lf text (feed (omega arith)) refl (omega (arith, found))
 
--- the first line from an offset on has the text t and the line end e, and the next line begins at next
+-- The first line from offset `at` on has the text `t` and the line end `e`, and the next line begins at `next`.
 pub record FirstLine (s : Bytes) (at : ℕ) (t : Bytes) (next : ℕ) (e : LineEnd) : Type 0 where
   pub cut : lines (drop at s) ≡ line t e (lines (drop next s))
   pub next-is : next ≡ afterLine at t e
 
--- the other lines are those from behind the first on
+-- If the first line has the text `t` and the line end `e`, the other lines are the lines of the bytes after it.
 pub lines-first : (s : Bytes) (at : ℕ) (t : Bytes) (e : LineEnd) (l : Lines) → lines (drop at s) ≡ line t e l
     → FirstLine s at t (afterLine at t e) e
 lines-first s at t e l h =
@@ -157,7 +159,7 @@ lines-first s at t e l h =
     let rest = rw (drop-drop, over) at (lines-after (drop at s) t e l h) in
     record { cut = h ∙ ap (line t e) rest; next-is = refl }
 
--- the first line's text begins with a byte that is no part of a line end where the bytes do
+-- If `c` is neither 0A nor 0D, the text of the first line begins with `c` exactly if the bytes do.
 pub first-byte : (c : ℕ) (s : Bytes) (at : ℕ) (t : Bytes) (next : ℕ) (e : LineEnd) → FirstLine s at t next e → eqb c 10 ≡ false → eqb c 13 ≡ false
     → begins (c ∷ []) t ≡ begins (c ∷ []) (drop at s)
 first-byte c s at t next e f p q = sym (ap (begins (c ∷ [])) (line-split (drop at s) t e _ (f .cut)) ∙ go t e _)
@@ -168,7 +170,7 @@ first-byte c s at t next e f p q = sym (ap (begins (c ∷ [])) (line-split (drop
     go (a ∷ t) e z = refl
 
 module _ (s : Bytes) (at : ℕ) (r : Line) (read : LineRead s at r) where
-  -- where no line ends, there is none
+  -- If the line that was read is unended, no line ends in the bytes from `at` on.
   pub unended-lines : r ≡ Unended → lines (drop at s) ≡ unended (drop at s)
   unfolding lineAt joinLines
   unended-lines e = go (lines (drop at s)) refl
@@ -178,7 +180,7 @@ module _ (s : Bytes) (at : ℕ) (r : Line) (read : LineRead s at r) where
       go (line t k l) h = cc (read .is, e, h)
 
   module _ (m next : ℕ) (k : LineEnd) (e : r ≡ Ended m next k) where
-    -- where a line ends, the bytes up to its end are its text
+    -- If the line that was read ends, the bytes from `at` up to `m` are its text.
     pub ended-first : FirstLine s at (take (m - at) (drop at s)) next k
     unfolding lineAt
     ended-first = go (lines (drop at s)) refl
@@ -192,26 +194,26 @@ module _ (s : Bytes) (at : ℕ) (r : Line) (read : LineRead s at r) where
             let text = ap (take (m - at)) (line-split (drop at s) t d l h) ∙ take-at t _ (m - at) (omega arith) in
             rw (text, over, ending) (lines-first s at t d l h)
 
-    -- its ends lie in order, and inside
+    -- The offsets of the line are in order and inside.
     pub ended-inside : EndsInside (length s) at m next
     ended-inside = rw e at (read .inside)
 
-    -- it ends where it begins, or behind
+    -- The text of the line ends at or after the offset where it begins.
     pub ended-begin : at ≤ m
     ended-begin = ended-inside .begin
 
-    -- its text ends inside
+    -- The text of the line ends inside.
     pub ended-end : m ≤ length s
     ended-end = omega (arith, ended-inside)
 
-    -- the next line begins inside
+    -- The next line begins inside, or at the end of the bytes.
     pub ended-next : next ≤ length s
     ended-next = ended-inside .inside
 
-    -- a line takes at least one byte
+    -- A line takes at least one byte. So if `k` is at most `at`, then `k + 1` is at most `next`.
     pub ended-count : (k : ℕ) → k ≤ at → k + 1 ≤ next
     ended-count k h = omega (arith, ended-inside)
 
-    -- less is left behind it
+    -- Fewer bytes are left after the line than from its start on.
     pub ended-less : length s - next < length s - at
     ended-less = omega (arith, ended-inside)

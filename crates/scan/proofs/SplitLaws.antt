@@ -1,4 +1,4 @@
--- Splitting bytes at the first b that a search finds.
+-- Laws about splitting bytes at the first `b` that a search finds.
 use Prim.Native.Nat.{ℕ, _+_, _-_, _<_}
 use native.Mathlib.Numerals.{add-one}
 use native.Mathlib.Omega.{arith}
@@ -12,12 +12,13 @@ use Rattle.bytes.specs.Bytes.{indexOf, indexAfter, slice}
 use Rattle.format.specs.Bytes.{Bytes}
 use Rattle.format.specs.Numeral.{split, leadFirst}
 
--- the parts behind the first, of which z is what is left from the b behind it on
+-- The parts after the first. The argument holds the bytes after the first part: it is empty, or begins with the `b`
+-- that ends this part.
 abbrev pub others : ℕ → Bytes → List Bytes
 others b [] = []
 others b (a ∷ z) = split b z
 
--- what stands before the first b is the first part
+-- The bytes before the first `b` are the first part.
 split-index : (b : ℕ) (u : Bytes) → split b u ≡ take (indexOf b u) u ∷ others b (drop (indexOf b u) u)
 unfolding split leadFirst indexOf
 split-index b [] = refl
@@ -28,7 +29,7 @@ split-index b (a ∷ u) = go (eqb a b) refl (split-index b u)
     go true e i = rw (e, split)
     go false e i = rw (e, split, i)
 
--- and so it is, where the search begins at an offset
+-- The same holds for a search that begins at offset `at`.
 pub split-found : (b : ℕ) (s : Bytes) (at end : ℕ) → end ≡ at + indexOf b (slice at (length s) s)
     → split b (drop at s) ≡ take (end - at) (drop at s) ∷ others b (drop end s)
 unfolding slice
@@ -38,10 +39,10 @@ split-found b s at end f =
     let over : at + (end - at) ≡ end = omega arith in
     rw (drop-drop, size, over) at (split-index b (drop at s))
 
--- where none is found there are no others
+-- If no `b` is found, there are no other parts.
 pub others-none : (b : ℕ) (s : Bytes) (end : ℕ) → end ≡ length s → others b (drop end s) ≡ []
 others-none b s end e = rw (e, drop-length)
 
--- where one is found the others are the parts behind it
+-- If a `b` is found, the other parts are the parts of the bytes after it.
 pub others-some : (b : ℕ) (s : Bytes) (end : ℕ) → end < length s → others b (drop end s) ≡ split b (drop (end + 1) s)
 others-some b s end h = rw (add-one end, drop-cons s end 0 h)

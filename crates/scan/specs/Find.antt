@@ -8,17 +8,17 @@ use lib.Dec.{eqb}
 use Rattle.bytes.specs.Bytes.{indexOf, slice}
 use Rattle.format.specs.Bytes.{Bytes}
 
--- whether a byte of s is b or, where `is` is false, is not b
+-- Whether a byte of `s` is `b` or, if `is` is false, is not `b`.
 abbrev pub has : Bool → ℕ → Bytes → Bool
 has is b [] = false
 has is b (a ∷ s) = Bool·beq (eqb a b) is || has is b s
 
--- from an offset up to r there is no such byte
+-- From offset `at` up to `r`, no byte of `s` is `b` or, if `is` is false, no byte is other than `b`.
 pub record PassedOver (is : Bool) (b : ℕ) (s : Bytes) (at r : ℕ) : Type 0 where
   pub onward : at ≤ r
   pub inside : r ≤ length s
   pub none : has is b (slice at r s) ≡ false
 
--- where the first b at or after an offset stands, or the end
+-- Where the first `b` at or after offset `at` is, or the end if there is none.
 abbrev pub firstFrom : ℕ → Bytes → ℕ → ℕ
 firstFrom b s at = at + indexOf b (slice at (length s) s)

@@ -1,4 +1,4 @@
--- What the contracts of the leaves cite: the meaning, and bounds beside it.
+-- What the promises of the leaf functions cite: the meaning of each result, and its bounds.
 pub mod Find
 pub mod Line
 pub mod Number

@@ -1,12 +1,13 @@
-// The search for a byte, and blocks that are passed over. A block is tested without an early exit, so that the compiler
-// tests many bytes at once.
+// The search for a byte, and blocks of bytes that are passed over (not blocks of a file). A block is tested without an
+// early exit, so that the compiled code tests many bytes at a time.
 ghost use Prim.Native.Nat.{_≤_};
 ghost use mathlib.Core.Path.{_≡_};
 ghost use lib.ListN.{length};
 ghost use Rattle.bytes.specs.Bytes.{slice};
 ghost use Rattle.scan.specs.Find.{has, PassedOver, firstFrom};
 
-// The first b at or after an offset, or the end. The next eight bytes are tested one by one, since a b is often near.
+// Returns where the first `b` at or after an offset is, or the end if there is none. The next eight bytes are tested
+// one by one, since a `b` is often near.
 pub(crate) fn find_byte(s: &[u8], at: usize, b: u8) -> usize
     requires { ⌜ at ≤ length (now s) ⌝ }
     ensures { λ r. ⌜ r ≡ firstFrom b (now (s .entry)) at ⌝ }
@@ -23,7 +24,7 @@ pub(crate) fn find_byte(s: &[u8], at: usize, b: u8) -> usize
     find_far(s, far, b)
 }
 
-// The same for a b that may be far.
+// Returns the same for a `b` that may be far away.
 fn find_far(s: &[u8], at: usize, b: u8) -> usize
     requires { ⌜ at ≤ length (now s) ⌝ }
     ensures { λ r. ⌜ r ≡ firstFrom b (now (s .entry)) at ⌝ }
@@ -34,7 +35,8 @@ fn find_far(s: &[u8], at: usize, b: u8) -> usize
     bytes::scan::find(s, small, s.len(), b)
 }
 
-// Goes over the blocks of `size` bytes that have no byte that is b or, where `is` is false, none that is not b.
+// Passes over blocks of `size` bytes while they have no byte that is `b` or, if `is` is false, no byte other than `b`.
+// Returns the offset after them.
 pub(crate) fn skip_blocks(s: &[u8], at: usize, size: usize, b: u8, is: bool) -> usize
     requires { ⌜ at ≤ length (now s) ⌝ }
     requires { ⌜ 1 ≤ size ⌝ }
@@ -50,7 +52,8 @@ pub(crate) fn skip_blocks(s: &[u8], at: usize, size: usize, b: u8, is: bool) -> 
     i
 }
 
-// Whether a byte of s from one offset up to another is b or, where `is` is false, is not b. Looks at every byte there.
+// Whether a byte of `s` from offset `from` up to `to` is `b` or, if `is` is false, is not `b`. Looks at every byte
+// there.
 fn has_byte(s: &[u8], from: usize, to: usize, b: u8, is: bool) -> bool
     requires { ⌜ from ≤ to ⌝ }
     requires { ⌜ to ≤ length (now s) ⌝ }

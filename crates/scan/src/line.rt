@@ -1,4 +1,4 @@
-// Lines: a line ends at the first 0A, and one 0D directly before it belongs to the line end.
+// Lines. A line ends at the first 0A, and one 0D directly before it belongs to the line end.
 ghost use Prim.Native.Nat.{_-_, _≤_};
 ghost use mathlib.Core.Path.{_≡_};
 ghost use mathlib.Core.Bool.{_&&_};
@@ -10,9 +10,9 @@ use crate::find;
 use crate::text;
 use format::line::LineEnd;
 
-// What the line at an offset is.
+// The line at an offset.
 pub enum Line {
-    // Its bytes run to text_end, where its line end stands, and the next line begins at next.
+    // Its text ends at `text_end`, where its line end begins. The next line begins at `next`.
     Ended {
         text_end: usize,
         next: usize,
@@ -22,7 +22,7 @@ pub enum Line {
     Unended,
 }
 
-// The line that begins at an offset. An empty one is told by its first byte.
+// Reads the line that begins at an offset. If its first byte is 0A, the line is empty and no search is needed.
 pub fn line_at(s: &[u8], at: usize) -> Line
     ensures { λ r. ⌜ LineRead (now (s .entry)) at r ⌝ }
 {
@@ -36,8 +36,8 @@ pub fn line_at(s: &[u8], at: usize) -> Line
     long_line(s, at)
 }
 
-// The same, with no short way for an empty line. Two functions call it, so the compiler leaves it a function of its own,
-// and line_at small enough to stand in its callers' loops.
+// Reads the same line, without the shortcut for an empty one. Two functions call it, so the compiler keeps it a
+// separate function. This leaves `line_at` small enough to be inlined in its callers' loops.
 fn long_line(s: &[u8], at: usize) -> Line
     ensures { λ r. ⌜ LineRead (now (s .entry)) at r ⌝ }
 {
@@ -62,7 +62,7 @@ fn long_line(s: &[u8], at: usize) -> Line
     }
 }
 
-// Whether the bytes from at to end, which lie in s, end in 0D.
+// Whether the bytes of `s` from `at` to `end` end in 0D.
 fn ends_in_0d(s: &[u8], at: usize, end: usize) -> bool
     requires { ⌜ end ≤ length (now s) ⌝ }
     ensures { λ r. ⌜ r ≡ ltb at end && eqb (getD (now (s .entry)) (end - 1) 0) 13 ⌝ }
@@ -73,14 +73,14 @@ fn ends_in_0d(s: &[u8], at: usize, end: usize) -> bool
     s[end - 1] == b'\r'
 }
 
-// Whether a line is the one that was asked for.
+// Whether a line is the expected one.
 pub enum Exact {
-    // It is: where the next line begins, and how this one ends.
+    // The line is the expected one: where the next line begins, and how this line ends.
     After(usize, LineEnd),
     Other,
 }
 
-// Whether the line at an offset is word.
+// Whether the line at an offset is `word`.
 pub fn exact_line(s: &[u8], at: usize, word: &[u8]) -> Exact
     ensures { λ r. ⌜ ExactRead (now (s .entry)) (now (word .entry)) at r ⌝ }
 {
@@ -98,7 +98,7 @@ pub fn exact_line(s: &[u8], at: usize, word: &[u8]) -> Exact
     Exact::Other
 }
 
-// Whether the line at an offset is the first line of a tree. Looks at no byte behind that line.
+// Whether the line at an offset is the first line of a tree. Looks at no byte after that line.
 pub fn yaml_line(s: &[u8], at: usize) -> Exact
     ensures { λ r. ⌜ ExactRead (now (s .entry)) yamlLine at r ⌝ }
 {

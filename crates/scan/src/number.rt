@@ -1,4 +1,4 @@
-// Numbers, in bytes and in decimal digits.
+// Numbers in bytes and in decimal digits.
 ghost use Prim.Native.Nat.{_+_, _≤_, _<_};
 ghost use mathlib.Core.Path.{_≡_};
 ghost use lib.ListN.{length};
@@ -6,8 +6,8 @@ ghost use Rattle.format.specs.Numeral.{isDigit as Numeral·isDigit};
 ghost use Rattle.scan.specs.Number.{BigEndian, Four, leadsWell, NumeralRead, DigitsRead};
 use crate::text;
 
-// The number that bytes give, the first the most significant; of more than eight bytes the last eight count.
-// Eight, four and two bytes, as fields have them, take no loop.
+// Returns the number that bytes give, the first being the most significant. Of more than eight bytes, only the last
+// eight count. Eight, four and two bytes, which are the sizes of fields, need no loop.
 pub fn big_endian(s: &[u8]) -> u64
     ensures { λ r. ⌜ BigEndian (now (s .entry)) r ⌝ }
 {
@@ -23,7 +23,8 @@ pub fn big_endian(s: &[u8]) -> u64
     byte_by_byte(s)
 }
 
-// The number in the four bytes at an offset, in 32 bits: the compiler makes one read of it.
+// Returns the number in the four bytes at an offset. It is computed in 32 bits, so that the compiler makes it a single
+// read.
 fn four(s: &[u8], at: usize) -> u32
     requires { ⌜ at + 4 ≤ length (now s) ⌝ }
     ensures { λ r. ⌜ Four (now (s .entry)) at r ⌝ }
@@ -31,7 +32,7 @@ fn four(s: &[u8], at: usize) -> u32
     ((narrow(s[at]) * 256 + narrow(s[at + 1])) * 256 + narrow(s[at + 2])) * 256 + narrow(s[at + 3])
 }
 
-// The same of any number of bytes.
+// Returns the number that any number of bytes give, in a loop.
 fn byte_by_byte(s: &[u8]) -> u64
     ensures { λ r. ⌜ BigEndian (now (s .entry)) r ⌝ }
 {
@@ -44,14 +45,14 @@ fn byte_by_byte(s: &[u8]) -> u64
     x
 }
 
-// A byte as a number.
+// Returns a byte as a number of 64 bits.
 fn wide(b: u8) -> u64
     ensures { λ r. ⌜ (r ≡ b) × (r < 256) ⌝ }
 {
     b as u64
 }
 
-// A byte as a number of 32 bits.
+// Returns a byte as a number of 32 bits.
 fn narrow(b: u8) -> u32
     ensures { λ r. ⌜ (r ≡ b) × (r < 256) ⌝ }
 {
@@ -64,7 +65,8 @@ pub enum Number {
     Malformed,
 }
 
-// The decimal number that t is: 1 to `most` digits, and never more than 19, with no leading zero but in a lone 0.
+// Reads `t` as a decimal number. It must have 1 to `most` digits, never more than 19, and no leading zero except in a
+// lone 0.
 pub fn numeral(t: &[u8], most: usize) -> Number
     ensures { λ r. ⌜ NumeralRead (now (t .entry)) most r ⌝ }
 {
@@ -83,7 +85,7 @@ pub fn numeral(t: &[u8], most: usize) -> Number
     digits(t)
 }
 
-// Whether t has no leading zero but in a lone 0.
+// Whether `t` has no leading zero, except in a lone 0.
 fn leads_well(t: &[u8]) -> bool
     ensures { λ r. ⌜ r ≡ leadsWell (now (t .entry)) ⌝ }
 {
@@ -93,7 +95,7 @@ fn leads_well(t: &[u8]) -> bool
     !text::begins_at(t, 0, b"0")
 }
 
-// The number of up to 19 digits.
+// Reads up to 19 digits as a number.
 fn digits(t: &[u8]) -> Number
     requires { ⌜ length (now t) ≤ 19 ⌝ }
     ensures { λ r. ⌜ DigitsRead (now (t .entry)) r ⌝ }

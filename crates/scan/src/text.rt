@@ -4,7 +4,7 @@ ghost use lib.ListN.{drop};
 ghost use Rattle.format.specs.Bytes.{begins, same, allZero};
 use crate::find;
 
-// Whether word stands in s at an offset.
+// Whether `s` has `word` at an offset.
 pub fn begins_at(s: &[u8], at: usize, word: &[u8]) -> bool
     ensures { λ r. ⌜ r ≡ begins (now (word .entry)) (drop at (now (s .entry))) ⌝ }
 {
@@ -33,8 +33,9 @@ pub fn is(s: &[u8], word: &[u8]) -> bool
     begins_at(word, 0, s)
 }
 
-// Whether every byte is zero. A few bytes are tested one by one; of more, the blocks of zeros are passed over first.
-// The large blocks have 128 bytes: the compiler unrolls the test of 64 bytes against zero, and what it makes of that is slow.
+// Whether every byte is zero. Fewer than eight bytes are tested one by one. Of more bytes, the blocks of zeros are
+// passed over first. The large blocks have 128 bytes: the compiler unrolls a test of 64 bytes against zero, and the
+// code that it makes of this is slow.
 pub fn only_zeros(s: &[u8]) -> bool
     ensures { λ r. ⌜ r ≡ allZero (now (s .entry)) ⌝ }
 {
@@ -46,7 +47,7 @@ pub fn only_zeros(s: &[u8]) -> bool
     zeros_from(s, small)
 }
 
-// Whether every byte from an offset on is zero, byte by byte.
+// Whether every byte from an offset on is zero. Tests them byte by byte.
 fn zeros_from(s: &[u8], from: usize) -> bool
     ensures { λ r. ⌜ r ≡ allZero (drop from (now (s .entry))) ⌝ }
 {

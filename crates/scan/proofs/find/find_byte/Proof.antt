@@ -1,4 +1,4 @@
--- The first b is one of the next eight bytes, or is far.
+-- The first `b` is one of the next eight bytes, or it comes after them.
 use borrow.Author.Needs.{needs}
 use Rattle.scan.proofs.FindLaws.{first-near, first-far}
 use Rattle.scan.proofs.find.find_byte.Statement.{statement}

@@ -1,4 +1,4 @@
--- The invariant: such a byte was found already, or stands from j on, where it stands at all.
+-- The invariant: there is such a byte exactly if one was found already or one comes from `j` on.
 use Prim.Native.Nat.{_-_}
 use mathlib.Core.Path.{_≡_}
 use mathlib.Core.Bool.{_||_}

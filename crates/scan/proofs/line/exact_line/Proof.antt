@@ -1,4 +1,4 @@
--- A line is the word where its text is.
+-- A line is the word exactly if its text is the word.
 use borrow.Author.Needs.{needs}
 use Rattle.scan.proofs.LineLaws.{ended-begin, ended-end}
 use Rattle.scan.proofs.ExactLaws.{exact-unended, exact-after, exact-other}

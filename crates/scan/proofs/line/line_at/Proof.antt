@@ -1,4 +1,4 @@
--- An empty line is its line end.
+-- If the first byte is 0A, the line is empty and consists of its line end.
 use borrow.Author.Needs.{needs}
 use Rattle.scan.proofs.TextLaws.{begins-fits}
 use Rattle.scan.proofs.LineLaws.{line-empty}

@@ -1,4 +1,4 @@
--- The first 0A ends the line, and the byte before it says whether the line end has a 0D.
+-- The first 0A ends the line, and the byte before it decides whether the line end has a 0D.
 use borrow.Author.Needs.{needs}
 use Rattle.scan.proofs.LineLaws.{line-none, line-unended, line-some, line-crlf, line-lf}
 use Rattle.scan.proofs.line.long_line.Statement.{statement}

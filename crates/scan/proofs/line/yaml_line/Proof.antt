@@ -1,4 +1,4 @@
--- The line is the word where the bytes begin with it and one of the two line ends.
+-- The line is the first line of a tree exactly if the bytes begin with that line and one of the two line ends.
 use borrow.Author.Needs.{needs}
 use Rattle.scan.proofs.TextLaws.{begins-fits}
 use Rattle.scan.proofs.ExactLaws.{yaml-lf, yaml-crlf, yaml-other}

@@ -1,4 +1,4 @@
--- Eight, four or two bytes, or any number of them.
+-- One case each for eight, four and two bytes, and one for any number of bytes.
 use borrow.Author.Needs.{needs}
 use Rattle.scan.proofs.NumberLaws.{eight-read, all-four, two-read}
 use Rattle.scan.proofs.number.big_endian.Statement.{statement}

@@ -1,4 +1,4 @@
--- The invariant: x is the number of the bytes so far.
+-- The invariant: `x` is the number of the bytes so far.
 use Prim.Native.Nat.{_-_, _≤_}
 use lib.ListN.{length, take}
 use borrow.Author.Needs.{needs}

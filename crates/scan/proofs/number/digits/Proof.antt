@@ -1,4 +1,4 @@
--- The invariant: the bytes so far are digits, and x is their number.
+-- The invariant: the bytes so far are digits, and `x` is their number.
 use Prim.Native.Nat.{_-_, _≤_}
 use lib.ListN.{length}
 use borrow.Author.Needs.{needs}

@@ -1,4 +1,4 @@
--- Four bytes give this number.
+-- The number that is returned is that of the four bytes at the offset.
 use borrow.Author.Needs.{needs}
 use Rattle.scan.proofs.NumberLaws.{four-read}
 use Rattle.scan.proofs.number.four.Statement.{statement}

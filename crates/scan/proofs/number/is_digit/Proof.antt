@@ -1,4 +1,4 @@
--- The two tests of a digit, in their order.
+-- The two tests for a digit, in the order of the code.
 use borrow.Author.Needs.{needs}
 use Rattle.scan.proofs.NumberLaws.{digit-low, digit-high}
 use Rattle.scan.proofs.number.is_digit.Statement.{statement}

@@ -1,4 +1,4 @@
--- A single digit may be any, and of several the first is no zero.
+-- A single digit may be any digit. Of several digits, the first must not be zero.
 use borrow.Author.Needs.{needs}
 use Rattle.scan.proofs.NumberLaws.{leads-alone, leads-first}
 use Rattle.scan.proofs.number.leads_well.Statement.{statement}

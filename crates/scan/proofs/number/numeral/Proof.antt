@@ -1,4 +1,4 @@
--- Each test is one of those that a numeral passes, and what passes them all is the number of its digits.
+-- Each test is one that a numeral passes. If all are passed, the result is the number of the digits.
 use borrow.Author.Needs.{needs}
 use Rattle.scan.proofs.NumberLaws.{numeral-empty, numeral-long, numeral-longer, numeral-zero, numeral-read}
 use Rattle.scan.proofs.number.numeral.Statement.{statement}

@@ -1,4 +1,5 @@
--- The invariant: what is left to test, of the word from j on and the bytes from i on, is what was to be tested.
+-- The invariant: testing the word from `j` on against the bytes from `i` on gives the same answer as testing the whole
+-- word.
 use Prim.Native.Nat.{_≤_, _-_}
 use mathlib.Core.Path.{_≡_}
 use lib.ListN.{length, drop}

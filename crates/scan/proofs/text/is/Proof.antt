@@ -1,4 +1,4 @@
--- Byte strings are the same where they are as long as each other and one begins the other.
+-- Two byte strings are the same exactly if they have the same length and one begins with the other.
 use borrow.Author.Needs.{needs}
 use Rattle.scan.proofs.TextLaws.{same-lengths, begins-same}
 use Rattle.scan.proofs.text.is.Statement.{statement}

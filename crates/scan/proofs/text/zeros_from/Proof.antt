@@ -1,4 +1,4 @@
--- The invariant: what is left to test is what was to be tested.
+-- The invariant: all bytes that had to be tested are zero exactly if those from `i` on are.
 use Prim.Native.Nat.{_-_}
 use mathlib.Core.Path.{_≡_}
 use lib.ListN.{length, drop}
