@@ -1,3 +1,3 @@
--- What the contracts of the searches cite.
+-- What the promises of the searches cite.
 pub mod Mark
 pub mod Fours

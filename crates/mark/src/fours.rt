@@ -1,6 +1,6 @@
-// The search by fours. A mark is four bytes long, so one of every four bytes belongs to it: every fourth byte is looked at first,
-// and the search steps back only from one that belongs to a mark.
-// The tests of 64 bytes have no early exit, no branch and no table, so that the compiler tests many bytes at once.
+// The search by fours. A mark is four bytes long, so one of every four bytes belongs to it. Every fourth byte is looked
+// at first, and the search steps back only from a byte that belongs to a mark. The tests of 64 bytes have no early
+// exit, no branch and no table, so that the compiled code tests many bytes at a time.
 ghost use Prim.Native.Nat.{_+_, _≤_};
 ghost use mathlib.Core.Path.{_≡_};
 ghost use lib.ListN.{length, drop};
@@ -9,8 +9,8 @@ ghost use Rattle.mark.specs.Fours.{FirstIn, FourthsUpTo, Told, InMark, f
 use crate::is_mark;
 use crate::mark_at;
 
-// How many bytes stand before the first mark, or before the end. Blocks of 64 are tested for the marks that begin in them, so
-// three more bytes have to be there.
+// Returns how many bytes come before the first mark, or before the end if there is none. Blocks of 64 bytes (not blocks
+// of a file) are tested for the marks that begin in them, so three more bytes have to be there.
 pub(crate) fn free_space(t: &[u8]) -> usize
     ensures { λ r. ⌜ (r ≡ freeSpace (now (t .entry))) × (r ≤ length (now (t .entry))) ⌝ }
 {
@@ -24,9 +24,10 @@ pub(crate) fn free_space(t: &[u8]) -> usize
     four_by_four(t, i)
 }
 
-// Whether a mark begins at one of the next 64 bytes. No byte of a mark is below 42: that is told fastest, and passes spaces and
-// zeros. Then it is told whether a fourth byte belongs to a mark; and only where one does, the other bytes are looked at too. So no
-// content, however it was made, is gone through four by four before the first mark.
+// Whether a mark begins at one of the next 64 bytes. No byte of a mark is below 42. This is the fastest test, and it
+// passes over spaces and zeros. The second test is whether a fourth byte belongs to a mark. Only if one does, the other
+// bytes are looked at. So no content, however it was made, is searched four by four before the block with the first
+// mark.
 fn block_has_mark(t: &[u8], i: usize) -> bool
     requires { ⌜ i + 67 ≤ length (now t) ⌝ }
     ensures { λ r. ⌜ Told (beginsMark (now (t .entry)) i) 64 r ⌝ }
@@ -40,7 +41,7 @@ fn block_has_mark(t: &[u8], i: usize) -> bool
     any_is_mark(t, i)
 }
 
-// No fourth byte of the next 64 is above this.
+// Returns a bound: no fourth byte of the next 64 is above it.
 fn fourths(t: &[u8], from: usize) -> u8
     requires { ⌜ from + 64 ≤ length (now t) ⌝ }
     ensures { λ r. ⌜ FourthsUpTo (now (t .entry)) from 16 r ⌝ }
@@ -52,8 +53,8 @@ fn fourths(t: &[u8], from: usize) -> u8
     seen
 }
 
-// Whether a fourth byte of the next 64 belongs to a mark. The loop goes through all 64, since the compiler tests many bytes at once
-// only if they stand side by side, but only every fourth counts.
+// Whether a fourth byte of the next 64 belongs to a mark. The loop goes through all 64, although only every fourth byte
+// counts: the compiled code tests many bytes at a time only if they are adjacent.
 fn marked_fourths(t: &[u8], from: usize) -> bool
     requires { ⌜ from + 64 ≤ length (now t) ⌝ }
     ensures { λ r. ⌜ Told (fourthOfMark (now (t .entry)) from) 64 r ⌝ }
@@ -65,7 +66,7 @@ fn marked_fourths(t: &[u8], from: usize) -> bool
     seen
 }
 
-// Whether a mark begins at one of the next 64 bytes: each is tried.
+// Whether a mark begins at one of the next 64 bytes. Each of them is tried.
 fn any_is_mark(t: &[u8], from: usize) -> bool
     requires { ⌜ from + 67 ≤ length (now t) ⌝ }
     ensures { λ r. ⌜ Told (beginsMark (now (t .entry)) from) 64 r ⌝ }
@@ -77,14 +78,16 @@ fn any_is_mark(t: &[u8], from: usize) -> bool
     seen
 }
 
-// Whether a byte belongs to a mark: all four are compared, with no branch that some bytes could mislead.
+// Whether a byte belongs to a mark. It is compared with all four bytes, with no branch that some inputs could make
+// slow.
 fn in_mark(b: u8) -> bool
     ensures { λ r. ⌜ InMark b r ⌝ }
 {
     (b == 0xD3) | (b == 0x42) | (b == 0x4C) | (b == 0x4B)
 }
 
-// The first mark from an offset on, or the end. Fewer than four bytes hold no mark.
+// Returns where the first mark from an offset on begins, or the end if there is none. Fewer than four bytes hold no
+// mark.
 fn four_by_four(t: &[u8], from: usize) -> usize
     requires { ⌜ from ≤ length (now t) ⌝ }
     ensures { λ r. ⌜ (r ≡ from + freeSpace (drop from (now (t .entry)))) × (r ≤ length (now (t .entry))) ⌝ }
@@ -100,8 +103,8 @@ fn four_by_four(t: &[u8], from: usize) -> usize
     t.len()
 }
 
-// Where a mark begins among the next four bytes, or the byte after them. The bytes of a mark differ, so the last of the four tells
-// the only place: how far to step back.
+// Returns where a mark begins among the next four bytes, or the offset after them. The bytes of a mark differ, so the
+// last of the four tells the only place where a mark can begin: how far to step back.
 fn in_four(t: &[u8], i: usize) -> usize
     requires { ⌜ i + 4 ≤ length (now t) ⌝ }
     ensures { λ r. ⌜ FirstIn (now (t .entry)) i r ⌝ }

@@ -1,4 +1,5 @@
-// The search for a block's mark, by fours; and the plain one, which has the same promise and which the other is compared with.
+// The search for a block's mark, by fours. There is also a plain search with the same promise, with which the search by
+// fours is compared.
 mod fours;
 mod plain;
 
@@ -9,7 +10,7 @@ ghost use Rattle.format.specs.Bytes.{begins};
 ghost use Rattle.format.specs.Tree.{mark};
 ghost use Rattle.mark.specs.Mark.{MarkFound};
 
-// Whether a block begins at an offset. This is asked of every block, so the four bytes are compared without a loop.
+// Whether a block begins at an offset. This is asked for every block, so the four bytes are compared without a loop.
 pub fn is_mark(s: &[u8], at: usize) -> bool
     ensures { λ r. ⌜ r ≡ begins mark (drop at (now (s .entry))) ⌝ }
 {
@@ -22,7 +23,7 @@ pub fn is_mark(s: &[u8], at: usize) -> bool
     mark_at(s, at)
 }
 
-// The same where four bytes stand there: all are compared, with no branch.
+// Whether a block begins at an offset from which at least four bytes are left. All four are compared, with no branch.
 fn mark_at(s: &[u8], at: usize) -> bool
     requires { ⌜ at + 4 ≤ length (now s) ⌝ }
     ensures { λ r. ⌜ r ≡ begins mark (drop at (now (s .entry))) ⌝ }
@@ -30,7 +31,8 @@ fn mark_at(s: &[u8], at: usize) -> bool
     (s[at] == 0xD3) & (s[at + 1] == 0x42) & (s[at + 2] == 0x4C) & (s[at + 3] == 0x4B)
 }
 
-// The first mark at or after an offset, or the end. Blocks mostly follow one another at once, so the offset itself is tried first.
+// Returns where the first mark at or after an offset begins, or the end if there is none. A block mostly follows the
+// one before it directly, so the offset itself is tried first.
 pub fn find(s: &[u8], at: usize) -> usize
     ensures { λ r. ⌜ MarkFound (now (s .entry)) at r ⌝ }
 {
@@ -43,7 +45,7 @@ pub fn find(s: &[u8], at: usize) -> usize
     at + fours::free_space(&s[at..])
 }
 
-// The same, looking at every byte.
+// Returns the same as `find`, but looks at every byte.
 pub fn find_plain(s: &[u8], at: usize) -> usize
     ensures { λ r. ⌜ MarkFound (now (s .entry)) at r ⌝ }
 {

@@ -6,7 +6,7 @@ ghost use Rattle.format.specs.Tree.{freeSpace};
 ghost use Rattle.mark.specs.Mark.{Skipped};
 use crate::is_mark;
 
-// How many bytes stand before the first mark, or before the end.
+// Returns how many bytes come before the first mark, or before the end if there is none.
 pub(crate) fn free_space(t: &[u8]) -> usize
     ensures { λ r. ⌜ (r ≡ freeSpace (now (t .entry))) × (r ≤ length (now (t .entry))) ⌝ }
 {
@@ -23,8 +23,8 @@ pub(crate) fn free_space(t: &[u8]) -> usize
     }
 }
 
-// Goes over the fours of bytes that have no D3, the first byte of a mark. Byte by byte, but with one turn for four of them,
-// so that it is as fast wherever the compiler puts it.
+// Passes over groups of four bytes that have no D3, the first byte of a mark. The bytes are tested one by one, but each
+// turn of the loop tests four of them. This makes it equally fast wherever the compiler puts it.
 fn skip_fours(t: &[u8], from: usize) -> usize
     requires { ⌜ from ≤ length (now t) ⌝ }
     ensures { λ r. ⌜ Skipped (now (t .entry)) from r ⌝ }

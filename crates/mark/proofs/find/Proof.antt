@@ -1,4 +1,5 @@
--- `mark::find` meets its contract: a mark at once, or the first of the part from the offset on.
+-- `mark::find` keeps its promise: it finds a mark at the offset itself, or the first mark in the part from the offset
+-- on.
 use borrow.Author.Needs.{needs}
 use Rattle.mark.proofs.MarkLaws.{found-after, found-at-once, found-fits, found-part}
 use Rattle.mark.proofs.find.Statement.{statement}

@@ -1,4 +1,4 @@
--- Too few bytes are left for a mark, or four are compared.
+-- Either too few bytes are left for a mark, or four bytes are compared.
 use borrow.Author.Needs.{needs}
 use Rattle.mark.proofs.MarkLaws.{no-mark-past, no-mark-left}
 use Rattle.mark.proofs.is_mark.Statement.{statement}

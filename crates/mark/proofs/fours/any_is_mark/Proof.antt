@@ -1,4 +1,4 @@
--- The invariant: what was seen tells whether a mark begins at one of the offsets looked at so far.
+-- The invariant: `seen` is true if a mark begins at one of the offsets looked at so far.
 use Prim.Native.Nat.{_-_, _≤_}
 use borrow.Author.Needs.{needs}
 use Rattle.mark.specs.Fours.{Told, beginsMark}

@@ -1,4 +1,4 @@
--- Where no fourth byte belongs to a mark, no mark begins; else each byte is tried.
+-- If no fourth byte belongs to a mark, no mark begins here. Otherwise each byte is tried.
 use borrow.Author.Needs.{needs}
 use Rattle.mark.proofs.FoursLaws.{fourths-none, fourth-none}
 use Rattle.mark.proofs.fours.block_has_mark.Statement.{statement}

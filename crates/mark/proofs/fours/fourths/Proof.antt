@@ -1,4 +1,4 @@
--- The invariant: none of the bytes looked at so far is above what was seen.
+-- The invariant: none of the bytes looked at so far is above `seen`.
 use Prim.Native.Nat.{_-_, _≤_}
 use borrow.Author.Needs.{needs}
 use Rattle.mark.specs.Fours.{FourthsUpTo}

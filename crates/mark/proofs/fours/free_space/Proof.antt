@@ -1,4 +1,4 @@
--- The invariant: what is before i is skipped.
+-- The invariant: the bytes before `i` are skipped.
 use Prim.Native.Nat.{_-_}
 use lib.ListN.{length}
 use borrow.Author.Needs.{needs}

@@ -1,4 +1,4 @@
--- Each byte of a mark is compared.
+-- The byte is compared with each byte of a mark.
 use borrow.Author.Needs.{needs}
 use Rattle.mark.proofs.FoursLaws.{in-mark}
 use Rattle.mark.proofs.fours.in_mark.Statement.{statement}

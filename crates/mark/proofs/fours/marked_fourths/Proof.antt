@@ -1,4 +1,4 @@
--- The invariant: what was seen tells whether one of the fourth bytes looked at so far belongs to a mark.
+-- The invariant: `seen` is true if one of the fourth bytes looked at so far belongs to a mark.
 use Prim.Native.Nat.{_-_, _≤_}
 use borrow.Author.Needs.{needs}
 use Rattle.mark.specs.Fours.{Told, fourthOfMark}

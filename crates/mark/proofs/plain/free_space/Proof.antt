@@ -1,4 +1,4 @@
--- The invariant: the first mark from i on is the first of all.
+-- The invariant: the first mark from `i` on is the first of all.
 use Prim.Native.Nat.{_+_, _-_, _≤_}
 use mathlib.Core.Path.{_≡_}
 use lib.ListN.{length, drop}
