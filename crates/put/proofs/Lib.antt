@@ -1,4 +1,4 @@
--- Laws of buffers that bytes are put into.
+-- Laws about buffers that bytes are put into.
 pub mod PutLaws
 pub mod PartLaws
 pub mod NumberLaws

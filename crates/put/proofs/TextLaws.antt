@@ -1,4 +1,4 @@
--- Texts put into a buffer.
+-- Laws about texts that are put into a buffer.
 use Prim.Native.Nat.{ℕ, _+_, _-_, _≤_}
 use native.Mathlib.Omega.{arith}
 use mathlib.Core.Path.{_≡_}
@@ -10,7 +10,7 @@ use Rattle.format.specs.Bytes.{Bytes}
 use Rattle.format.specs.Lent.{placed}
 
 module _ (out text : Bytes) (at : ℕ) where
-  -- a text is copied into the part of the buffer from an offset on
+  -- If a text fits, copying it into the part of the buffer from `at` on places it there.
   pub text-copied : (part : Bytes) → part ≡ take (length text) text ++ drop (length text) (take (length out - at) (drop at out)) → at ≤ length out
       → length text ≤ length out - at
       → take at out ++ (part ++ drop (length out - at) (drop at out)) ≡ placed out at text

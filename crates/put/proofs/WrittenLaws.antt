@@ -1,4 +1,5 @@
--- What a writer answers and leaves: a refusal, a buffer that is too short, bytes that fit.
+-- Laws about what a writer answers and what it leaves in the buffer, in three cases: a refusal, a buffer that is too
+-- short, and bytes that fit.
 use Prim.Native.Nat.{ℕ, _+_, _^_, _≤_, _<_}
 use native.Mathlib.Omega.{arith}
 use mathlib.Core.Path.{_≡_, refl, sym, ap, _∙_}
@@ -19,25 +20,25 @@ use Rattle.put.specs.Put.{PutWhole, PutAt}
 use Rattle.put.proofs.PutLaws.{placed-none}
 
 module _ (result : Outcome Bytes) (out : Bytes) where
-  -- a refusal changes no byte
+  -- If the result is a refusal, no byte changes.
   pub written-refused : (r : Refusal) → result ≡ refused r → (x : CountAnswer) → x ≡ Refused r → Written result out out x
   unfolding countAnswer writes leaves
   written-refused r h x e = rw (h, e) (record { answer = refl; buffer = refl })
 
   module _ (bytes : Bytes) (h : result ≡ accepted bytes) where
-    -- the bytes do not fit
+    -- If the bytes do not fit, the answer is refusal 21 and no byte changes.
     pub written-short : length out < length bytes → (x : CountAnswer) → x ≡ Refused (refusal 21 0) → Written result out out x
     unfolding countAnswer writes leaves
     written-short p x e =
         rw (h, e) (record { answer = rw (lt-leb (length bytes) (length out) p); buffer = placed-none out 0 bytes (omega arith) })
 
-    -- the bytes are put
+    -- If the bytes fit and are placed at the start of the buffer, the answer is how many bytes they are.
     pub written-placed : length bytes ≤ length out → (after : Bytes) → after ≡ placed out 0 bytes → (n : ℕ) → n ≡ length bytes
         → Written result out after (Counted n)
     unfolding countAnswer writes leaves
     written-placed p after f n e = rw (h, e) (record { answer = rw (le-leb (length bytes) (length out) p); buffer = f })
 
--- a text is written, or the buffer is too short
+-- Either the buffer is too short for a text, or the text is written.
 module _ (t out : Bytes) where
   pub text-short : length out < length t → (x : CountAnswer) → x ≡ Refused (refusal 21 0) → Written (accepted t) out out x
   text-short = written-short (accepted t) out t refl
@@ -45,12 +46,13 @@ module _ (t out : Bytes) where
   pub text-written : length t ≤ length out → (after : Bytes) (most r : ℕ) → PutWhole out after 0 t most r → Written (accepted t) out after (Counted (length t))
   text-written h after most r put = written-placed (accepted t) out t refl h after (put .buffer) (length t) refl
 
--- bytes that fit at the buffer's start stand there
+-- If bytes fit and are placed at the start of a buffer, they are its first bytes.
 start-placed : (out bytes : Bytes) → length bytes ≤ length out → take (length bytes) (placed out 0 bytes) ≡ bytes
 unfolding placed
 start-placed out bytes h = rw (placed, le-leb (0 + length bytes) (length out) (omega arith)) (take-append-seam bytes (drop (0 + length bytes) out))
 
--- at most so many bytes as a buffer has were put at its start, and end at n: they are its first n bytes
+-- A buffer has `most` bytes. At most as many bytes were put at its start, and they end at `n`. So they are the first
+-- `n` bytes of the buffer.
 module _ (own after bytes : Bytes) (most n : ℕ) (put : PutAt own after 0 bytes most n) (room : length own ≡ most) (small : most < 2 ^ 64) where
   own-size : n ≡ length bytes
   own-size = omega (arith, put .end, put .few)
@@ -66,12 +68,12 @@ module _ (own after bytes : Bytes) (most n : ℕ) (put : PutAt own after 0 bytes
   pub own-length : length (take n after) ≡ n
   own-length = ap length own-bytes ∙ sym own-size
 
--- the result is what stands in the first n bytes of a buffer
+-- The result is accepted, and it is the first `n` bytes of a buffer.
 pub record Taken (result : Outcome Bytes) (after : Bytes) (n : ℕ) : Type 0 where
   pub is : result ≡ accepted (take n after)
   pub size : length (take n after) ≡ n
 
--- what is answered to be written is the result, and stands at the buffer's start
+-- If a writer answers that it has written `n` bytes, they are the result and they are at the start of the buffer.
 pub written-taken : (result : Outcome Bytes) (before after : Bytes) (n : ℕ) → Written result before after (Counted n) → Taken result after n
 unfolding countAnswer writes leaves
 written-taken (refused r) before after n w = let clash = w .answer in let z : _≡_ {A = ℕ} 0 1 = cc in absurd (omega arith)

@@ -1,3 +1,3 @@
--- What the contracts of writers cite.
+-- What the promises of the writers cite.
 pub mod Put
 pub mod Decimal

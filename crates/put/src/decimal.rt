@@ -1,4 +1,4 @@
-// Decimal numbers put into a lent buffer.
+// Functions that put decimal numbers into a lent buffer.
 ghost use Prim.Native.Nat.{_+_, _≤_};
 ghost use mathlib.Core.Path.{_≡_};
 ghost use lib.ListN.{length};
@@ -9,8 +9,8 @@ ghost use Rattle.put.specs.Put.{PutDecimals, PutWhole, mostDigits};
 use crate::text::put_text;
 use std::num::wrapping_add_usize;
 
-// Puts numbers in decimal at an offset, with a text between each two, and answers where they end. Each of the parts is put
-// only if it fits: what is put into an empty buffer is measured.
+// Puts numbers in decimal at an offset, with a text between each two, and returns where they end. Each number and each
+// text is put only if it fits. So a call with an empty buffer measures how many bytes they take.
 pub fn put_decimals(out: &mut [u8], at: usize, between: &[u8], numbers: &[u64]) -> usize
     ensures { λ r. ⌜ PutDecimals (now (out .entry)) (now (out .exit)) at (now (between .entry)) (now (numbers .entry)) r ⌝ }
 {
@@ -27,7 +27,7 @@ pub fn put_decimals(out: &mut [u8], at: usize, between: &[u8], numbers: &[u64]) 
     end
 }
 
-// Puts a number in decimal at an offset, and answers where it ends. Where its digits do not fit, nothing changes.
+// Puts a number in decimal at an offset, and returns where it ends. If its digits do not fit, nothing changes.
 pub fn put_decimal(out: &mut [u8], at: usize, x: u64) -> usize
     ensures { λ r. ⌜ PutWhole (now (out .entry)) (now (out .exit)) at (decimal x) mostDigits r ⌝ }
 {
@@ -43,7 +43,7 @@ pub fn put_decimal(out: &mut [u8], at: usize, x: u64) -> usize
     end
 }
 
-// How many digits a number has in decimal: 1 to 20.
+// Returns how many digits a number has in decimal: 1 to 20.
 fn decimal_length(x: u64) -> usize
     ensures { λ r. ⌜ DecimalLength x r ⌝ }
 {
@@ -56,7 +56,7 @@ fn decimal_length(x: u64) -> usize
     n
 }
 
-// Puts the n digits of a number where they fit: the last is put first.
+// Puts the `n` digits of a number, which have to fit. The last digit is put first.
 fn put_digits(out: &mut [u8], at: usize, n: usize, x: u64)
     requires { ⌜ n ≡ length (decimal x) ⌝ }
     requires { ⌜ at + n ≤ length (now out) ⌝ }

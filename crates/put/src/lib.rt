@@ -1,4 +1,4 @@
-// Numbers and texts put into a lent buffer.
+// Functions that put numbers and texts into a lent buffer.
 pub mod decimal;
 pub mod text;
 
@@ -10,7 +10,8 @@ ghost use Rattle.format.specs.Bytes.{toBytes};
 ghost use Rattle.format.specs.Fields.{numberBytes};
 ghost use Rattle.format.specs.Lent.{placed};
 
-// Puts the last `width` bytes of a number at an offset, the most significant first. Where they do not fit, nothing changes.
+// Puts the last `width` bytes of a number at an offset, the most significant first. If they do not fit, nothing
+// changes.
 pub fn put_number(out: &mut [u8], at: usize, width: usize, x: u64)
     ensures { λ _. ⌜ now (out .exit) ≡ placed (now (out .entry)) at (toBytes width x) ⌝ }
 {
@@ -23,7 +24,7 @@ pub fn put_number(out: &mut [u8], at: usize, width: usize, x: u64)
     put_bytes(out, at, width, x);
 }
 
-// The same where they fit. Eight and four bytes take no loop.
+// Puts the same bytes, which have to fit. Eight and four bytes need no loop.
 fn put_bytes(out: &mut [u8], at: usize, width: usize, x: u64)
     requires { ⌜ at + width ≤ length (now out) ⌝ }
     ensures { λ _. ⌜ now (out .exit) ≡ sets (now (out .entry)) at (toBytes width x) ⌝ }
@@ -40,7 +41,7 @@ fn put_bytes(out: &mut [u8], at: usize, width: usize, x: u64)
     put_each(out, at, width, x);
 }
 
-// Puts the last four bytes of a number: the compiler makes one write of it.
+// Puts the last four bytes of a number. The compiler makes this a single write.
 fn put_four(out: &mut [u8], at: usize, x: u64)
     requires { ⌜ at + 4 ≤ length (now out) ⌝ }
     ensures { λ _. ⌜ now (out .exit) ≡ sets (now (out .entry)) at (toBytes 4 x) ⌝ }
@@ -54,7 +55,7 @@ fn put_four(out: &mut [u8], at: usize, x: u64)
     out[at + 3] = (x % 256) as u8;
 }
 
-// Puts any number of bytes, the last first.
+// Puts any number of bytes, the last byte first.
 fn put_each(out: &mut [u8], at: usize, width: usize, x: u64)
     requires { ⌜ at + width ≤ length (now out) ⌝ }
     ensures { λ _. ⌜ now (out .exit) ≡ sets (now (out .entry)) at (toBytes width x) ⌝ }
@@ -68,8 +69,8 @@ fn put_each(out: &mut [u8], at: usize, width: usize, x: u64)
     }
 }
 
-// Puts numbers at an offset, each in eight bytes. Where they do not all fit, nothing changes. The loop goes by the place and not by
-// the count, since the compiler then leaves it a loop and makes one write of each number.
+// Puts numbers at an offset, each in eight bytes. If they do not all fit, nothing changes. The loop counts the place
+// and not the numbers: then the compiler keeps it a loop, and makes each number a single write.
 pub fn put_numbers(out: &mut [u8], at: usize, numbers: &[u64])
     ensures { λ _. ⌜ now (out .exit) ≡ placed (now (out .entry)) at (numberBytes (now (numbers .entry))) ⌝ }
 {

@@ -1,4 +1,4 @@
-// Texts put into a lent buffer.
+// Functions that put texts into a lent buffer.
 ghost use Rattle.format.specs.Outcome.{accepted};
 ghost use Rattle.format.specs.Promise.{Written};
 ghost use Rattle.put.specs.Put.{PutWhole};
@@ -7,7 +7,7 @@ use format::answer::CountAnswer;
 use format::refusal::BUFFER_TOO_SHORT;
 use std::num::wrapping_add_usize;
 
-// Puts a text at an offset, and answers where it ends. Where it does not fit, nothing changes.
+// Puts a text at an offset, and returns where it ends. If it does not fit, nothing changes.
 pub fn put_text(out: &mut [u8], at: usize, text: &[u8]) -> usize
     ensures { λ r. ⌜ PutWhole (now (out .entry)) (now (out .exit)) at (now (text .entry)) (length (now (text .entry))) r ⌝ }
 {
@@ -22,7 +22,8 @@ pub fn put_text(out: &mut [u8], at: usize, text: &[u8]) -> usize
     end
 }
 
-// Writes a text at the buffer's start, and answers how many bytes it has; or 21 where the buffer is too short.
+// Writes a text at the start of the buffer, and returns how many bytes it has. If the buffer is too short, refuses with
+// number 21.
 pub fn write_text(text: &[u8], out: &mut [u8]) -> CountAnswer
     ensures { λ r. ⌜ Written (accepted (now (text .entry))) (now (out .entry)) (now (out .exit)) r ⌝ }
 {

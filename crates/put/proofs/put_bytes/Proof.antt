@@ -1,4 +1,4 @@
--- Eight bytes by halves, four at once, or any number.
+-- Eight bytes are put in two halves, four bytes in one step, and any other number in a loop.
 use borrow.Author.Needs.{needs}
 use Rattle.put.proofs.PutLaws.{eight-put, four-all}
 use Rattle.put.proofs.put_bytes.Statement.{statement}

@@ -1,4 +1,4 @@
--- The invariant: what is left to put is what was to be put.
+-- The invariant: putting the bytes that are left gives the same buffer as putting all bytes.
 use Prim.Native.Nat.{_+_, _≤_}
 use mathlib.Core.Path.{_≡_}
 use lib.ListN.{length}

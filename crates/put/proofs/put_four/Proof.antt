@@ -1,4 +1,4 @@
--- Four bytes are put, the first first.
+-- Four bytes are put, the first of them first.
 use borrow.Author.Needs.{needs}
 use Rattle.put.proofs.PutLaws.{second-inside, third-inside, last-inside, four-put}
 use Rattle.put.proofs.put_four.Statement.{statement}

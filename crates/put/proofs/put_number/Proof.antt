@@ -1,4 +1,4 @@
--- Where the bytes do not fit nothing changes, and where they fit they are put.
+-- If the bytes do not fit, nothing changes. If they fit, they are put.
 use borrow.Author.Needs.{needs}
 use Rattle.format.proofs.PackLaws.{to-bytes-length}
 use Rattle.put.proofs.PutLaws.{placed-outside, number-long, placed-fits}

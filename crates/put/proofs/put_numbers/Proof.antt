@@ -1,4 +1,4 @@
--- The invariant: what is left to put is what was to be put.
+-- The invariant: putting the numbers that are left gives the same buffer as putting all numbers.
 use borrow.Author.Needs.{needs}
 use Prim.Native.Nat.{_+_, _*_, _-_, _≤_}
 use mathlib.Core.Path.{_≡_}

@@ -1,4 +1,4 @@
--- The invariant: as many digits are counted as x has and rest lacks, and one.
+-- The invariant: `x` has `n - 1` digits more than `rest`.
 use borrow.Author.Needs.{needs}
 use Rattle.put.proofs.DecimalLaws.{Counting, count-start, count-fits, count-step, count-done}
 use Rattle.put.proofs.decimal.decimal_length.Statement.{statement}

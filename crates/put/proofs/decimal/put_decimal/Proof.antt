@@ -1,4 +1,4 @@
--- Where the digits do not fit nothing changes, and where they fit they are put.
+-- If the digits do not fit, nothing changes. If they fit, they are put.
 use borrow.Author.Needs.{needs}
 use Rattle.put.proofs.PartLaws.{whole-outside, whole-long, whole-placed}
 use Rattle.put.proofs.DecimalLaws.{decimal-fits}

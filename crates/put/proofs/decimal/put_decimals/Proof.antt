@@ -1,4 +1,4 @@
--- The invariant: the numbers from i on are left to put.
+-- The invariant: the numbers from `i` on are left to put.
 use Prim.Native.Nat.{_-_}
 use lib.ListN.{length}
 use borrow.Author.Needs.{needs}

@@ -1,4 +1,4 @@
--- The invariant: what is left to put is what was to be put.
+-- The invariant: putting the digits that are left gives the same buffer as putting all digits.
 use borrow.Author.Needs.{needs}
 use Rattle.put.proofs.DecimalLaws.{Putting, digits-start, digits-some, digits-inside, digits-first, digits-step, digits-done}
 use Rattle.put.proofs.decimal.put_digits.Statement.{statement}

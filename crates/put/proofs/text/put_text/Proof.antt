@@ -1,4 +1,4 @@
--- Where the text does not fit nothing changes, and where it fits it is copied.
+-- If the text does not fit, nothing changes. If it fits, it is copied.
 use borrow.Author.Needs.{needs}
 use Rattle.put.proofs.PartLaws.{whole-outside, whole-long, whole-placed}
 use Rattle.put.proofs.TextLaws.{text-copied}

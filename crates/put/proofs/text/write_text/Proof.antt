@@ -1,4 +1,4 @@
--- The text does not fit, or it is put.
+-- Either the text does not fit, or it is put.
 use borrow.Author.Needs.{needs}
 use Rattle.put.proofs.WrittenLaws.{text-short, text-written}
 use Rattle.put.proofs.text.write_text.Statement.{statement}
