@@ -179,7 +179,7 @@ begin-step t n k seen x h one = told-step (beginsMark t n) k seen x h (λ m. one
 pub fourths-begin : (t : Bytes) (n : ℕ) → FourthsUpTo t n 0 0
 fourths-begin t n = record { most = λ j h. absurd (omega arith) }
 
--- If one more fourth byte is added with a bitwise or, the result is a bound for it and for those before.
+-- If the next fourth byte is added with a bitwise or, the result is a bound for all fourth bytes so far.
 pub fourths-step : (t : Bytes) (n k seen : ℕ) → FourthsUpTo t n k seen → FourthsUpTo t n (k + 1) (bitOr seen (getD t (n + 4 * k + 3) 0))
 fourths-step t n k seen h = record { most = λ j q. go j q (eqb j k) refl }
   where

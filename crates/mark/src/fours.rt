@@ -1,6 +1,7 @@
-// The search by fours. A mark is four bytes long, so one of every four bytes belongs to it. Every fourth byte is looked
-// at first, and the search steps back only from a byte that belongs to a mark. The tests of 64 bytes have no early
-// exit, no branch and no table, so that the compiled code tests many bytes at a time.
+// The search by fours. A mark is four bytes long, so one of every four bytes belongs to it. Therefore every fourth byte
+// is looked at first, and the search steps back only from a byte that belongs to a mark.
+// The tests of 64 bytes have no early exit, no branch and no table, so that the compiled code tests many bytes at a
+// time.
 ghost use Prim.Native.Nat.{_+_, _≤_};
 ghost use mathlib.Core.Path.{_≡_};
 ghost use lib.ListN.{length, drop};
@@ -10,7 +11,8 @@ use crate::is_mark;
 use crate::mark_at;
 
 // Returns how many bytes come before the first mark, or before the end if there is none. Blocks of 64 bytes (not blocks
-// of a file) are tested for the marks that begin in them, so three more bytes have to be there.
+// of a file) are tested for the marks that begin in them. Such a mark may end up to three bytes after the block, so
+// three more bytes have to be there.
 pub(crate) fn free_space(t: &[u8]) -> usize
     ensures { λ r. ⌜ (r ≡ freeSpace (now (t .entry))) × (r ≤ length (now (t .entry))) ⌝ }
 {
@@ -24,10 +26,10 @@ pub(crate) fn free_space(t: &[u8]) -> usize
     four_by_four(t, i)
 }
 
-// Whether a mark begins at one of the next 64 bytes. No byte of a mark is below 42. This is the fastest test, and it
-// passes over spaces and zeros. The second test is whether a fourth byte belongs to a mark. Only if one does, the other
-// bytes are looked at. So no content, however it was made, is searched four by four before the block with the first
-// mark.
+// Whether a mark begins at one of the next 64 bytes. No byte of a mark is below 42: the test for this is the fastest,
+// and it passes over spaces and zeros. The second test is whether a fourth byte belongs to a mark. The other bytes are
+// looked at only if one does. So no bytes, however they were made, are searched four by four before the block with the
+// first mark, except at most the last 66.
 fn block_has_mark(t: &[u8], i: usize) -> bool
     requires { ⌜ i + 67 ≤ length (now t) ⌝ }
     ensures { λ r. ⌜ Told (beginsMark (now (t .entry)) i) 64 r ⌝ }
@@ -78,8 +80,8 @@ fn any_is_mark(t: &[u8], from: usize) -> bool
     seen
 }
 
-// Whether a byte belongs to a mark. It is compared with all four bytes, with no branch that some inputs could make
-// slow.
+// Whether a byte belongs to a mark. It is compared with all four bytes, with no branch that certain bytes could make
+// the processor mispredict.
 fn in_mark(b: u8) -> bool
     ensures { λ r. ⌜ InMark b r ⌝ }
 {

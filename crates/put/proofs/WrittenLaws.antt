@@ -51,7 +51,7 @@ start-placed : (out bytes : Bytes) → length bytes ≤ length out → take (len
 unfolding placed
 start-placed out bytes h = rw (placed, le-leb (0 + length bytes) (length out) (omega arith)) (take-append-seam bytes (drop (0 + length bytes) out))
 
--- A buffer has `most` bytes. At most as many bytes were put at its start, and they end at `n`. So they are the first
+-- A buffer has `most` bytes. At most that many bytes were put at its start, and they end at `n`. So they are the first
 -- `n` bytes of the buffer.
 module _ (own after bytes : Bytes) (most n : ℕ) (put : PutAt own after 0 bytes most n) (room : length own ≡ most) (small : most < 2 ^ 64) where
   own-size : n ≡ length bytes

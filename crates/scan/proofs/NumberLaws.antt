@@ -22,8 +22,7 @@ use Rattle.scan.specs.declared.number.Number.{Number}
 use Rattle.scan.specs.declared.number.Number.the-variants.{Value, Malformed}
 use Rattle.scan.specs.Number.{BigEndian, Four, Digits, digitsNumber, leadsWell, DigitsRead, NumeralRead}
 
--- If `x` is a number of at most `m` digits to the base `b`, it is also one of at most `n`, where `n` is not less than
--- `m`.
+-- If `x` has at most `m` digits to the base `b`, and `m` is at most `n`, then `x` has at most `n` digits.
 below-more : (b x m n : ℕ) → 1 ≤ b → m ≤ n → x < b ^ m → x < b ^ n
 below-more b x m n p h l = lt-of-lt-of-le l (pow-le-pow-right p h)
 
@@ -163,7 +162,7 @@ leads-alone t h = rw (le-leb (length t) 1 h)
 pub leads-first : (t : Bytes) (z : Bool) → z ≡ begins (text "0") t → 1 < length t → not z ≡ leadsWell t
 leads-first t z e h = rw (lt-leb (length t) 1 h, e)
 
--- An answer of at most `m` digits is also one of at most `n` digits, where `n` is not less than `m`.
+-- If an answer has at most `m` digits, and `m` is at most `n`, then it has at most `n` digits.
 digits-more : (r : Number) (m n : ℕ) → m ≤ n → Digits m r → Digits n r
 digits-more (Value x) m n h d = below-more 10 x m n (omega arith) h d
 digits-more Malformed m n h d = tt

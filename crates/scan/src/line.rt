@@ -75,7 +75,7 @@ fn ends_in_0d(s: &[u8], at: usize, end: usize) -> bool
 
 // Whether a line is the expected one.
 pub enum Exact {
-    // The line is the expected one: where the next line begins, and how this line ends.
+    // It is. The values are where the next line begins, and how this line ends.
     After(usize, LineEnd),
     Other,
 }

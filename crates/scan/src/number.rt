@@ -32,7 +32,7 @@ fn four(s: &[u8], at: usize) -> u32
     ((narrow(s[at]) * 256 + narrow(s[at + 1])) * 256 + narrow(s[at + 2])) * 256 + narrow(s[at + 3])
 }
 
-// Returns the number that any number of bytes give, in a loop.
+// Does the same for any number of bytes, in a loop.
 fn byte_by_byte(s: &[u8]) -> u64
     ensures { λ r. ⌜ BigEndian (now (s .entry)) r ⌝ }
 {
@@ -59,7 +59,7 @@ fn narrow(b: u8) -> u32
     b as u32
 }
 
-// What digits read as.
+// The result of reading digits.
 pub enum Number {
     Value(u64),
     Malformed,

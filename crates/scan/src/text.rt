@@ -47,7 +47,7 @@ pub fn only_zeros(s: &[u8]) -> bool
     zeros_from(s, small)
 }
 
-// Whether every byte from an offset on is zero. Tests them byte by byte.
+// Whether every byte from an offset on is zero, tested byte by byte.
 fn zeros_from(s: &[u8], from: usize) -> bool
     ensures { λ r. ⌜ r ≡ allZero (drop from (now (s .entry))) ⌝ }
 {

@@ -1,4 +1,4 @@
--- The invariant: there is such a byte exactly if one was found already or one comes from `j` on.
+-- The invariant: there is a byte that is looked for exactly if one was found already or one comes from `j` on.
 use Prim.Native.Nat.{_-_}
 use mathlib.Core.Path.{_≡_}
 use mathlib.Core.Bool.{_||_}

@@ -1,4 +1,4 @@
--- The invariant: the bytes from `at` up to `i` have no such byte, so they may be passed over.
+-- The invariant: the bytes from `at` up to `i` have no byte that is looked for, so they may be passed over.
 use Prim.Native.Nat.{_-_}
 use lib.ListN.{length}
 use borrow.Author.Needs.{needs}

@@ -1,4 +1,4 @@
--- The invariant: all bytes that had to be tested are zero exactly if those from `i` on are.
+-- The invariant: the bytes from `from` on are all zero exactly if the bytes from `i` on are.
 use Prim.Native.Nat.{_-_}
 use mathlib.Core.Path.{_≡_}
 use lib.ListN.{length, drop}
