@@ -95,10 +95,14 @@ static int list(const uint8_t *file, size_t length)
 
 int main(int count, char **words)
 {
+    if (count != 2) {
+        fprintf(stderr, "usage: list FILE\n");
+        return 2;
+    }
     size_t length = 0;
-    uint8_t *file = count == 2 ? read_file(words[1], &length) : NULL;
+    uint8_t *file = read_file(words[1], &length);
     if (file == NULL) {
-        fprintf(stderr, "usage: list FILE, which can be read\n");
+        fprintf(stderr, "list: cannot read %s\n", words[1]);
         return 2;
     }
     int status = list(file, length);

@@ -58,3 +58,8 @@ pub use outline::{InnerState, Outline, Row};
 pub use records::{row_count, Inner, Record, Records};
 pub use refusal::{Refusal, REASONS};
 pub use writers::{edit, index_text};
+
+/// Runs the examples of docs/USING.md with those of this documentation.
+#[cfg(doctest)]
+#[doc = include_str!("../../../docs/USING.md")]
+struct Using;
