@@ -28,7 +28,7 @@ fn p4_outline_of_one_block() {
 }
 
 #[test]
-fn p5_index_of_one_block_is_good_behind_it() {
+fn p5_index_of_one_block_is_good_after_it() {
     let file = one_block();
     let text = b"#ASDF BLOCK INDEX\n%YAML 1.1\n--- [12]\n...\n";
     assert_eq!(text.len(), 41);
@@ -86,8 +86,8 @@ const TREE_END: usize = 30;
 
 /// Where the room of the smallest tree ends, with this after it up to the end of the file. By the layout, if the file is
 /// accepted; both proved searches have to find the same.
-fn room_end(behind: &[u8]) -> usize {
-    let file = [HEADER_LINE, LEAST_TREE, behind].concat();
+fn room_end(rest: &[u8]) -> usize {
+    let file = [HEADER_LINE, LEAST_TREE, rest].concat();
     let found = exports::find_mark(&file, TREE_END);
     assert_eq!(exports::find_mark_plain(&file, TREE_END), found);
     let mut layout = [0; LAYOUT_BYTES];
@@ -136,7 +136,7 @@ fn first_of_two_marks_in_reach_is_found() {
 
 #[test]
 fn room_without_a_mark_ends_with_the_file() {
-    for behind in [&b""[..], b"\xD3", b"\xD3B", b"\xD3BL", b"  \xD3", b"K"] {
-        assert_eq!(room_end(behind), TREE_END + behind.len());
+    for rest in [&b""[..], b"\xD3", b"\xD3B", b"\xD3BL", b"  \xD3", b"K"] {
+        assert_eq!(room_end(rest), TREE_END + rest.len());
     }
 }

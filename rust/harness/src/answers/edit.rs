@@ -21,7 +21,7 @@ impl EditAnswers {
         EditAnswers {
             text: text.to_vec(),
             file: Answers::to(file),
-            text_read: behind_header(text),
+            text_read: after_header(text),
             outcome,
         }
     }
@@ -40,14 +40,14 @@ impl EditAnswers {
     }
 
     /// What stands after a tree with which the text begins.
-    pub fn behind_tree(&self) -> Option<&[u8]> {
+    pub fn after_tree(&self) -> Option<&[u8]> {
         let end = leading_tree_end(&self.text_read)?;
         self.text.get(end..)
     }
 }
 
 /// What a text is after a header line.
-fn behind_header(text: &[u8]) -> Result<Layout, Refusal> {
+fn after_header(text: &[u8]) -> Result<Layout, Refusal> {
     read(&[HEADER_LINE, text].concat())
 }
 
@@ -60,5 +60,5 @@ fn leading_tree_end(read: &Result<Layout, Refusal>) -> Option<usize> {
 
 /// Whether a text is exactly one tree.
 pub fn is_one_tree(text: &[u8]) -> bool {
-    leading_tree_end(&behind_header(text)) == Some(text.len())
+    leading_tree_end(&after_header(text)) == Some(text.len())
 }

@@ -146,10 +146,10 @@ fn kind_of_refusal(refusal: Refusal) -> Answer {
 /// The numbers that are asked for out of so many: the first, the last, one after it, any, and
 /// far ones, of which one is the last if it is cut to 32 bits.
 pub fn wanted(count: usize) -> [u64; 6] {
-    let behind = count as u64;
-    let last = behind.saturating_sub(1);
-    let any = Rng::for_file(0, behind).below(count) as u64;
-    [0, last, behind, any, last + (1 << 32), u64::MAX]
+    let next = count as u64;
+    let last = next.saturating_sub(1);
+    let any = Rng::for_file(0, next).below(count) as u64;
+    [0, last, next, any, last + (1 << 32), u64::MAX]
 }
 
 #[cfg(test)]
@@ -191,8 +191,8 @@ mod tests {
 
     #[test]
     fn first_last_next_and_far_numbers_are_wanted() {
-        let [first, last, behind, any, cut, far] = wanted(5);
-        assert_eq!([first, last, behind], [0, 4, 5]);
+        let [first, last, next, any, cut, far] = wanted(5);
+        assert_eq!([first, last, next], [0, 4, 5]);
         assert!(any < 5);
         assert_eq!((cut as u32, far), (4, u64::MAX));
         assert_eq!(wanted(0)[..4], [0; 4]);

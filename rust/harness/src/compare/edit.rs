@@ -79,10 +79,10 @@ fn check_edited(before: &[u8], after: &[u8], text: &[u8]) -> Result<(), String> 
 /// Whether the room holds the text and then spaces, and every other byte is as it was.
 fn check_bytes(before: &[u8], after: &[u8], text: &[u8], room: Range<usize>) -> Result<(), String> {
     same("length", after.len(), before.len())?;
-    let (front, behind) = (..room.start, room.end..);
+    let (front, rest) = (..room.start, room.end..);
     same("bytes before the room", after[front] == before[front], true)?;
-    let kept = after[behind.clone()] == before[behind];
-    same("bytes behind the room", kept, true)?;
+    let kept = after[rest.clone()] == before[rest];
+    same("bytes after the room", kept, true)?;
     let spaces = after[room].strip_prefix(text);
     let only_spaces = spaces.map(|spaces| spaces.iter().all(|&byte| byte == b' '));
     same("text and only spaces in the room", only_spaces, Some(true))

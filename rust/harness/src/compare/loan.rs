@@ -151,7 +151,7 @@ mod tests {
     }
 
     #[test]
-    fn byte_changed_behind_the_result_or_by_a_refusal_is_found_out() {
+    fn byte_changed_after_the_result_or_by_a_refusal_is_found_out() {
         let right = bytes_of(&[5, 6]);
         let mut longer = right.clone();
         longer.push(!LOAN.filled()[LOAN.stretch().start + 16]);

@@ -79,8 +79,8 @@ fn checked_writing(
     let mut buffer = vec![UNTOUCHED; most + SPARE];
     let result = write(&mut buffer);
     let length = result.unwrap_or(0);
-    let behind = buffer.split_off(length);
-    same(what, behind, vec![UNTOUCHED; most + SPARE - length])?;
+    let rest = buffer.split_off(length);
+    same(what, rest, vec![UNTOUCHED; most + SPARE - length])?;
     if length > 0 {
         let mut short = vec![UNTOUCHED; length - 1];
         same(what, write(&mut short), Err(of_whole(BUFFER_TOO_SHORT)))?;

@@ -25,7 +25,7 @@ pub fn places_of(file: &[u8], bytes: &[u8]) -> Vec<usize> {
 }
 
 /// What stands after the first line.
-pub fn behind_first_line(text: &[u8]) -> &[u8] {
+pub fn after_first_line(text: &[u8]) -> &[u8] {
     let end = text.iter().position(|&byte| byte == b'\n');
     end.map_or(&[], |end| &text[end + 1..])
 }

@@ -26,7 +26,7 @@ pub struct Block {
     pub data_size: u64,
     checksum: [u8; 16],
     /// The rest of the header, the content and the unused space.
-    behind_fields: Vec<u8>,
+    after_fields: Vec<u8>,
 }
 
 /// A block with this content, streamed mostly only where the chain may end.
@@ -44,7 +44,7 @@ pub fn good_block(rng: &mut Rng, content: &[u8], may_end: bool) -> Block {
         used,
         data_size: data_size(rng, compression, used),
         checksum: checksum(rng),
-        behind_fields: [&filler, content, &unused].concat(),
+        after_fields: [&filler, content, &unused].concat(),
     };
     if block.flags & STREAMED != 0 && rng.chance(2) {
         block.fill_sizes(rng.pick(&[0, 1, u64::MAX]));
@@ -147,7 +147,7 @@ impl Block {
         bytes.extend(self.used.to_be_bytes());
         bytes.extend(self.data_size.to_be_bytes());
         bytes.extend(self.checksum);
-        bytes.extend(&self.behind_fields);
+        bytes.extend(&self.after_fields);
         bytes
     }
 }

@@ -137,7 +137,7 @@ mod tests {
     }
 
     #[test]
-    fn fields_are_overwritten_behind_a_mark_only() {
+    fn fields_are_overwritten_after_a_mark_only() {
         let block = [MARK, &[7; 50]].concat();
         for number in 0..100 {
             let mut rng = Rng::for_file(0, number);

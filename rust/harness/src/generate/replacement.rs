@@ -3,7 +3,7 @@
 use super::cut::cut;
 use super::damage::damage;
 use super::tree::{no_tree, tree};
-use crate::format::text::{behind_first_line, LEAST_TREE, MARK};
+use crate::format::text::{after_first_line, LEAST_TREE, MARK};
 use crate::rng::Rng;
 
 /// What may stand wrongly before the tree of a text.
@@ -23,7 +23,7 @@ const BEFORE: &[&[u8]] = &[
 ];
 
 /// What may stand wrongly after it.
-const BEHIND: &[&[u8]] = &[
+const AFTER: &[&[u8]] = &[
     b"\n",
     b"\r\n",
     b" ",
@@ -108,9 +108,9 @@ fn wrong_text(rng: &mut Rng, room: usize) -> Vec<u8> {
         0 => text.truncate(text.len() - 1),
         1 | 2 => cut(rng, &mut text),
         3 => text = [rng.pick(BEFORE), &text].concat(),
-        4 => text.extend(rng.pick(BEHIND)),
+        4 => text.extend(rng.pick(AFTER)),
         5..=7 => text = tree(rng, true),
-        8 => text = [&no_tree(rng), behind_first_line(&text)].concat(),
+        8 => text = [&no_tree(rng), after_first_line(&text)].concat(),
         9 => damage(rng, &mut text),
         10 => text = rng.bytes(room),
         _ => text.clear(),

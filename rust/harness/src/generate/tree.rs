@@ -212,10 +212,10 @@ mod tests {
     use asdf_second::{read, Layout, Refusal};
 
     /// What is said of a header line with something after it, for many of them.
-    fn answers(behind: impl Fn(&mut Rng) -> Vec<u8>) -> Vec<Result<Layout, Refusal>> {
+    fn answers(rest: impl Fn(&mut Rng) -> Vec<u8>) -> Vec<Result<Layout, Refusal>> {
         (0..500)
-            .map(|number| behind(&mut Rng::for_file(0, number)))
-            .map(|behind| read(&[b"#ASDF 1.0.0\n", &behind[..]].concat()))
+            .map(|number| rest(&mut Rng::for_file(0, number)))
+            .map(|rest| read(&[b"#ASDF 1.0.0\n", &rest[..]].concat()))
             .collect()
     }
 

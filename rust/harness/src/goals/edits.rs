@@ -10,7 +10,7 @@ use crate::format::refusals::{
     EDIT_WITHOUT_TREE, NEITHER_TREE_NOR_BLOCK, SECOND_START_LINE, TEXT_LONGER_THAN_ROOM,
     TEXT_NOT_ONE_TREE, TREE_NOT_ENDED, WRONG_LINE_BEFORE_START,
 };
-use crate::format::text::{behind_first_line, places_of, MARK, YAML_LINE};
+use crate::format::text::{after_first_line, places_of, MARK, YAML_LINE};
 use asdf_second::{Block, Inner, LineEnd, Record, Verdict};
 
 /// A goal of edits.
@@ -334,10 +334,10 @@ fn beginnings() -> Vec<EditGoal> {
             answers.text_refused_with(NEITHER_TREE_NOR_BLOCK).is_some()
         }),
         wrong_text("comment before the tree", |text, _| {
-            text.starts_with(b"#") && is_one_tree(behind_first_line(text))
+            text.starts_with(b"#") && is_one_tree(after_first_line(text))
         }),
         wrong_text("header line before the tree", |text, _| {
-            text.starts_with(b"#ASDF 1.0.0\n") && is_one_tree(behind_first_line(text))
+            text.starts_with(b"#ASDF 1.0.0\n") && is_one_tree(after_first_line(text))
         }),
         wrong_text("blank line before the tree", |text, _| {
             text.starts_with(b"\n") && is_one_tree(&text[1..])
@@ -355,16 +355,16 @@ fn ends() -> Vec<EditGoal> {
             is_one_tree(&[text, b"\n"].concat())
         }),
         wrong_text("blank line behind the tree", |_, answers| {
-            answers.behind_tree() == Some(b"\n")
+            answers.after_tree() == Some(b"\n")
         }),
         wrong_text("space behind the tree", |_, answers| {
-            answers.behind_tree() == Some(b" ")
+            answers.after_tree() == Some(b" ")
         }),
         wrong_text("zero behind the tree", |_, answers| {
-            answers.behind_tree() == Some(b"\0")
+            answers.after_tree() == Some(b"\0")
         }),
         wrong_text("another tree behind it", |_, answers| {
-            answers.behind_tree().is_some_and(is_one_tree)
+            answers.after_tree().is_some_and(is_one_tree)
         }),
         wrong_text("mark behind the tree", |text, _| {
             text.strip_suffix(MARK).is_some_and(is_one_tree)

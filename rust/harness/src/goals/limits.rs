@@ -173,8 +173,8 @@ fn is_one_above(file: &[u8], block: usize, above: Field, below: Field) -> bool {
 /// Whether the end of the allocated space, cut to so many bits, falls into the file.
 fn wraps(file: &[u8], block: usize, bits: u32) -> bool {
     stored_end(file, block).is_some_and(|end| {
-        let behind_range = 1 << bits;
-        end >= behind_range && end % behind_range <= file.len() as u128
+        let range_end = 1 << bits;
+        end >= range_end && end % range_end <= file.len() as u128
     })
 }
 
