@@ -1,17 +1,19 @@
-//! Generates test files, and compares what is said of them.
+//! Generates test files, and compares what the proved functions and the second program report about
+//! them.
 //!
 //! | Folder | Holds |
 //! |---|---|
 //! | `format` | the words, fields, limits and refusal numbers of the format |
 //! | `calls` | the proved functions, and how often each was called in which way |
-//! | `answers` | what the second program says |
+//! | `answers` | what the second program reports |
 //! | `files` | files that are made by hand |
 //! | `generate` | files, stored outlines and edits that are made from a seed |
 //! | `goals` | what a run has to reach |
-//! | `compare` | the comparisons of what is called with what the second program says |
+//! | `compare` | the comparisons of the proved functions with the second program |
 //! | `run` | what the command does |
 //!
-//! Each rests only on those above it, so that no two know each other.
+//! Each folder uses only the folders above it, except in unit tests. So no two depend on each
+//! other.
 
 #![deny(unsafe_code)]
 

@@ -1,4 +1,5 @@
-//! The command: generates test files and compares what is said of them.
+//! The command: generates test files, and compares what the proved functions and the second program
+//! report about them.
 
 #![deny(unsafe_code)]
 
@@ -13,22 +14,22 @@ usage: asdf-harness [SEED] [COUNT]
        asdf-harness --dump SEED COUNT DIR
        asdf-harness --stack BYTES
 
-The first form generates COUNT files (100,000 if it is not said), as many files with files
-inside, as many stored outlines and as many edits, each a file and a text for its tree. It
-compares what the proved functions and the second program say of each and what they leave, and
-prints what was reached. A few sparse files at the limit of 4 GiB and a few with many rows are
-compared too. The status is 1 if something differs or was never reached; the first 20 failing
-ones are written as build/failing/SEED-NUMBER.asdf, SEED-NUMBER-nest.asdf,
+The first form generates COUNT files (100,000 by default). It also generates COUNT files with
+files inside, COUNT stored outlines and COUNT edits; an edit is a file and a text for its tree.
+It compares what the proved functions and the second program report and write for each of them,
+and prints what was reached. A few sparse files at the limit of 4 GiB and a few files with many
+rows are compared too. The status is 1 if something differs or was never reached. The first 20
+failures are written as build/failing/SEED-NUMBER.asdf, SEED-NUMBER-nest.asdf,
 SEED-NUMBER.outline, or SEED-NUMBER-edit.asdf with SEED-NUMBER-edit.text.
 
-The second form writes the files to DIR/in, each behind its length in 8 bytes, and what the
-second program says of each as a line of DIR/out; files above 65,536 bytes are left out.
+The second form writes the files to DIR/in, each after its length in 8 bytes. What the second
+program reports about each file is a line of DIR/out. Files longer than 65,536 bytes are left out.
 
-The third form lets the proved functions walk the files that make them go deepest in a thread
-with a stack of BYTES bytes. Too small a stack ends the program with a signal.
+The third form runs the proved functions on the files that make them go deepest, in a thread
+with a stack of BYTES bytes. A stack that is too small ends the program with a signal.
 ";
 
-/// What is asked for.
+/// What the caller asks for.
 enum Command {
     Run {
         seed: u64,
@@ -60,7 +61,7 @@ fn main() -> ExitCode {
     }
 }
 
-/// The command that these words give.
+/// Reads the command from the arguments.
 fn command(words: &[String]) -> Option<Command> {
     let words: Vec<&str> = words.iter().map(String::as_str).collect();
     if let ["--dump", seed, count, directory] = words[..] {
@@ -84,7 +85,7 @@ fn command(words: &[String]) -> Option<Command> {
     Some(Command::Run { seed, count })
 }
 
-/// Does what is asked for, and says whether all is well.
+/// Carries out the command, and returns whether all is well.
 fn perform(command: Command) -> io::Result<bool> {
     match command {
         Command::Run { seed, count } => run(seed, count),

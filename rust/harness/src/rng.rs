@@ -1,6 +1,6 @@
-//! A small seeded source of random numbers (SplitMix64): the same seed gives the same numbers.
+//! A small source of random numbers (SplitMix64). The same seed gives the same numbers.
 
-/// The step between two states, an odd number near 2^64 divided by the golden ratio.
+/// The step between two states: an odd number near 2^64 divided by the golden ratio.
 const STEP: u64 = 0x9E37_79B9_7F4A_7C15;
 
 /// A source of random numbers.
@@ -9,7 +9,7 @@ pub struct Rng {
 }
 
 impl Rng {
-    /// The source of the file with this number in the run of a seed.
+    /// The source for the file with this number in the run with this seed.
     pub fn for_file(seed: u64, number: u64) -> Rng {
         let run = Rng { state: seed }.word();
         Rng {
@@ -33,7 +33,7 @@ impl Rng {
         self.word() as u8
     }
 
-    /// A number below `bound`, and 0 below 0.
+    /// A number below `bound`, or 0 if `bound` is 0.
     pub fn below(&mut self, bound: usize) -> usize {
         match bound {
             0 => 0,
@@ -41,27 +41,27 @@ impl Rng {
         }
     }
 
-    /// A number from `least` to `most`.
+    /// A number from `least` to `most`, both included.
     pub fn between(&mut self, least: usize, most: usize) -> usize {
         least + self.below(most - least + 1)
     }
 
-    /// True once in so many times.
+    /// True in one of `one_in` cases on average.
     pub fn chance(&mut self, one_in: usize) -> bool {
         self.below(one_in) == 0
     }
 
-    /// One of the choices, of which there must be at least one.
+    /// One of the choices. There must be at least one.
     pub fn pick<T: Copy>(&mut self, choices: &[T]) -> T {
         choices[self.below(choices.len())]
     }
 
-    /// So many bytes of any value.
+    /// `length` bytes of any value.
     pub fn bytes(&mut self, length: usize) -> Vec<u8> {
         (0..length).map(|_| self.byte()).collect()
     }
 
-    /// So many bytes, each one of the choices.
+    /// `length` bytes, each of them one of the choices.
     pub fn bytes_of(&mut self, choices: &[u8], length: usize) -> Vec<u8> {
         (0..length).map(|_| self.pick(choices)).collect()
     }

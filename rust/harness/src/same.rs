@@ -1,8 +1,8 @@
-//! The one comparison that every check is made of.
+//! The one comparison on which every check is built.
 
 use std::fmt::Debug;
 
-/// Fails where two things that have to be the same are not.
+/// Fails if two values differ that have to be the same.
 pub fn same<T: PartialEq + Debug>(what: &str, found: T, expected: T) -> Result<(), String> {
     if found == expected {
         Ok(())

@@ -1,22 +1,23 @@
-//! What the second program says of an edit.
+//! What the second program reports about an edit.
 
 use super::file::Answers;
 use crate::format::text::HEADER_LINE;
 use asdf_second::{read, Layout, Refusal, Tree};
 
-/// What is said of a file and a text for its tree.
+/// What is reported about a file and a text for its tree.
 pub struct EditAnswers {
     pub text: Vec<u8>,
-    /// What is said of the file before the edit.
+    /// The answers for the file before the edit.
     pub file: Answers,
-    /// What the text is after a header line.
+    /// How the text reads after a header line.
     pub text_read: Result<Layout, Refusal>,
-    /// What came of the edit.
+    /// Whether the edit was made, or how it was refused.
     pub outcome: Result<(), Refusal>,
 }
 
 impl EditAnswers {
-    /// Asks the second program, of which this came.
+    /// Asks the second program about the file and the text. `outcome` is the outcome of the edit
+    /// itself.
     pub fn to(file: &[u8], text: &[u8], outcome: Result<(), Refusal>) -> EditAnswers {
         EditAnswers {
             text: text.to_vec(),
@@ -26,32 +27,33 @@ impl EditAnswers {
         }
     }
 
-    /// Where the edit is refused with this number.
+    /// The place at which the edit is refused, if it is refused with this number.
     pub fn refused_with(&self, number: u8) -> Option<usize> {
         let refusal = self.outcome.err()?;
         (refusal.number == number).then_some(refusal.place as usize)
     }
 
-    /// Where the text is refused with this number, counted from its own first byte.
+    /// The place at which the text is refused, if it is refused with this number. It is counted
+    /// from the first byte of the text.
     pub fn text_refused_with(&self, number: u8) -> Option<usize> {
         let refusal = self.text_read.as_ref().err()?;
         let place = (refusal.place as usize).checked_sub(HEADER_LINE.len())?;
         (refusal.number == number).then_some(place)
     }
 
-    /// What stands after a tree with which the text begins.
+    /// The bytes after the tree with which the text begins, if it begins with one.
     pub fn after_tree(&self) -> Option<&[u8]> {
         let end = leading_tree_end(&self.text_read)?;
         self.text.get(end..)
     }
 }
 
-/// What a text is after a header line.
+/// How a text reads after a header line.
 fn after_header(text: &[u8]) -> Result<Layout, Refusal> {
     read(&[HEADER_LINE, text].concat())
 }
 
-/// Where a tree ends with which a text begins.
+/// Where the tree ends with which a text begins, if it begins with one.
 fn leading_tree_end(read: &Result<Layout, Refusal>) -> Option<usize> {
     let tree: Tree = read.as_ref().ok()?.tree?;
     let begins = tree.start.0 as usize == HEADER_LINE.len();

@@ -1,4 +1,4 @@
-//! The bytes between two blocks, by what the second program says of a file.
+//! The bytes between two blocks, according to the second program.
 
 use super::file::{block_end, Answers};
 use crate::format::limits::DEEPEST;
@@ -6,17 +6,17 @@ use crate::format::text::MARK;
 use asdf_second::{read, Record};
 use std::ops::Range;
 
-/// Bytes between two blocks of one file; there is at least one.
+/// The bytes between two blocks of one file. There is at least one byte.
 pub struct Gap<'a> {
     pub before: &'a Record,
     pub after: &'a Record,
-    /// The outermost file, and where the gap stands in it.
+    /// The outermost file, and where the gap is in it.
     file: &'a [u8],
     stretch: Range<usize>,
 }
 
 impl<'a> Gap<'a> {
-    /// What stands between two blocks of one file, if anything does.
+    /// The gap between two blocks of one file, if there is one.
     fn between(file: &'a [u8], before: &'a Record, after: &'a Record) -> Option<Gap<'a>> {
         let own_file = (after.offset.0 - after.block.offset.0) as usize;
         let stretch = own_file + block_end(&before.block)..after.offset.0 as usize;
@@ -28,29 +28,29 @@ impl<'a> Gap<'a> {
         })
     }
 
-    /// Its bytes.
     pub fn bytes(&self) -> &'a [u8] {
         &self.file[self.stretch.clone()]
     }
 
-    /// Where the mark after it stands.
+    /// Where the mark after the gap begins.
     pub fn mark(&self) -> usize {
         self.stretch.end
     }
 
-    /// Whether the four bytes of a mark begin in the block before and end in the gap.
+    /// Whether the four bytes of a mark begin in the block before the gap and end in the gap.
     pub fn ends_a_mark(&self) -> bool {
         let mut begins = (1..MARK.len()).map(|length| self.stretch.start - length);
         begins.any(|begin| self.file[begin..].starts_with(MARK))
     }
 }
 
-/// The gaps of an accepted file, and of the files inside it.
+/// The gaps of an accepted file and of the files inside it.
 pub fn gaps<'a>(file: &'a [u8], answers: &'a Answers) -> Vec<Gap<'a>> {
     let mut gaps = Vec::new();
     let mut latest = [None; DEEPEST as usize + 1];
     for after in answers.records() {
-        // Between two blocks of one file stand only rows of greater depth.
+        // Between the records of two blocks of one file there are only records of greater depth. So
+        // the latest record of this depth is the block before.
         let before = latest[usize::from(after.depth)].replace(after);
         if after.block.ordinal > 0 {
             gaps.extend(before.and_then(|before| Gap::between(file, before, after)));
@@ -59,8 +59,9 @@ pub fn gaps<'a>(file: &'a [u8], answers: &'a Answers) -> Vec<Gap<'a>> {
     gaps
 }
 
-/// What stands before the mark for which a file is refused (11 to 16), after the block before it. Of the file that ends at
-/// that mark the second program says where its last block ends, if only by refusing its tail (17).
+/// The bytes between a mark and the block before it, in a file that is refused at this mark (11 to
+/// 16). The second program reads the file cut off at the mark. This shows where the last block
+/// ends, either in the layout or as the place of a refused tail (17).
 pub fn gap_before(file: &[u8], mark: usize) -> &[u8] {
     let front = &file[..mark];
     let end = match read(front) {
@@ -75,7 +76,7 @@ mod tests {
     use super::*;
     use crate::files::nests::{file_of, file_with_gaps};
 
-    /// The bytes of the gaps of a file, each with the depth of its blocks.
+    /// The bytes of each gap of a file, with the depth of its blocks.
     fn gaps_of(file: &[u8]) -> Vec<(u8, Vec<u8>)> {
         gaps(file, &Answers::to(file))
             .iter()

@@ -1,4 +1,4 @@
-//! What the second program says of a file, of a stored outline and of an edit.
+//! What the second program reports about a file, a stored outline and an edit.
 
 pub mod edit;
 pub mod file;

@@ -1,9 +1,9 @@
-//! What the second program says of a stored outline.
+//! What the second program reports about a stored outline.
 
 use super::file::written;
 use asdf_second::{read_outline, rewrite_outline, Refusal, Row};
 
-/// What is said of a stored outline.
+/// What the second program reports about a stored outline.
 pub struct StoredAnswers {
     pub rows: Result<Vec<Row>, Refusal>,
     /// The outline written again.
@@ -19,12 +19,12 @@ impl StoredAnswers {
         }
     }
 
-    /// The rows; none of a refused outline.
+    /// The rows. A refused outline has none.
     pub fn rows(&self) -> &[Row] {
         self.rows.as_ref().map_or(&[], |rows| rows)
     }
 
-    /// Where the outline is refused with this number.
+    /// The place at which the outline is refused, if it is refused with this number.
     pub fn refused_with(&self, number: u8) -> Option<usize> {
         let refusal = self.rows.as_ref().err()?;
         (refusal.number == number).then_some(refusal.place as usize)

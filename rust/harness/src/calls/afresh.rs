@@ -1,4 +1,4 @@
-//! What the proved functions say of a file, in buffers that fit.
+//! What the proved functions report about a file. Every buffer that is lent fits exactly.
 
 use super::exports;
 use super::numbers::{numbers_of, LAYOUT_BYTES, NUMBER_BYTES, RECORD_NUMBERS};

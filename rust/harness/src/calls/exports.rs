@@ -1,4 +1,5 @@
-//! The proved functions, and what is taken from libc: the only unsafe code of the harness.
+//! The proved functions, and the functions of libc that are used. This is the only unsafe code of
+//! the harness.
 
 #![allow(unsafe_code)]
 
@@ -24,32 +25,33 @@ extern "C" {
 /// A proved search for a mark.
 type Search = unsafe extern "C" fn(*const u8, usize, usize) -> usize;
 
-/// Where the first mark at or after an offset begins, or the end: the search of the core.
+/// Where the first mark at or after an offset begins, or the end if there is none. This is the
+/// search of the core.
 pub fn find_mark(bytes: &[u8], at: usize) -> usize {
     searched(bench_find_mark, bytes, at)
 }
 
-/// The same by the plain search, which looks at every byte.
+/// Finds the same with the plain search, which looks at every byte.
 pub fn find_mark_plain(bytes: &[u8], at: usize) -> usize {
     searched(bench_find_mark_plain, bytes, at)
 }
 
-/// What a proved search finds.
+/// Calls a proved search.
 fn searched(search: Search, bytes: &[u8], at: usize) -> usize {
-    // SAFETY: the pointer comes from a slice with this length, and lives through the call.
+    // SAFETY: The pointer comes from a slice of this length, which outlives the call.
     unsafe { search(bytes.as_ptr(), bytes.len(), at) }
 }
 
-/// Where libc finds a byte first.
+/// Where libc finds a byte for the first time.
 pub fn find_byte(bytes: &[u8], byte: u8) -> Option<usize> {
-    // SAFETY: the pointer comes from a slice with this length.
+    // SAFETY: The pointer comes from a slice of this length.
     let found = unsafe { memchr(bytes.as_ptr().cast(), c_int::from(byte), bytes.len()) };
     place_in(bytes, found)
 }
 
-/// Where libc finds these bytes first.
+/// Where libc finds these bytes for the first time.
 pub fn find_bytes(bytes: &[u8], wanted: &[u8]) -> Option<usize> {
-    // SAFETY: both pointers come from slices with these lengths.
+    // SAFETY: Both pointers come from slices of these lengths.
     let found = unsafe {
         memmem(
             bytes.as_ptr().cast(),
@@ -61,17 +63,18 @@ pub fn find_bytes(bytes: &[u8], wanted: &[u8]) -> Option<usize> {
     place_in(bytes, found)
 }
 
-/// Whether libc finds only zeros: the first byte is one, and each is the same as the next.
+/// Whether libc finds only zeros. That is so if the first byte is zero and every byte is equal to
+/// the next.
 pub fn only_zeros(bytes: &[u8]) -> bool {
     let Some((first, rest)) = bytes.split_first() else {
         return true;
     };
-    // SAFETY: both pointers come from slices with at least this length.
+    // SAFETY: Both pointers come from slices of at least this length.
     let order = unsafe { memcmp(bytes.as_ptr().cast(), rest.as_ptr().cast(), rest.len()) };
     *first == 0 && order == 0
 }
 
-/// The place in these bytes to which libc points, if it points at all.
+/// The place in these bytes to which libc points. A null pointer means that nothing was found.
 fn place_in(bytes: &[u8], found: *mut c_void) -> Option<usize> {
     (!found.is_null()).then(|| found as usize - bytes.as_ptr() as usize)
 }

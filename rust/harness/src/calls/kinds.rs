@@ -1,4 +1,4 @@
-//! Counts the calls of the proved functions: by function, buffer and what came of them.
+//! Counts the calls of the proved functions by function, by buffer and by answer.
 
 use super::numbers::{BLOCK_NUMBERS, LAYOUT_NUMBERS, NUMBER_BYTES, RECORD_NUMBERS, ROW_NUMBERS};
 use std::collections::BTreeMap;
@@ -21,10 +21,10 @@ pub enum Function {
     Edit,
 }
 
-/// The length of a lent buffer, beside that of the result.
+/// The length of a lent buffer, compared with the length of the result.
 #[derive(Debug, Clone, Copy, PartialEq, Eq, PartialOrd, Ord)]
 pub enum Buffer {
-    /// None is lent.
+    /// No buffer is lent.
     No,
     Exact,
     Short,
@@ -32,7 +32,7 @@ pub enum Buffer {
     Long,
 }
 
-/// What came of a call.
+/// What a call resulted in.
 #[derive(Debug, Clone, Copy, PartialEq, Eq, PartialOrd, Ord)]
 pub enum Answer {
     Counted,
@@ -73,7 +73,7 @@ impl Function {
         Function::Edit,
     ];
 
-    /// Whether it is lent a stored outline and not a file.
+    /// Whether the function is lent a stored outline and not a file.
     fn is_of_stored(self) -> bool {
         matches!(
             self,
@@ -81,17 +81,17 @@ impl Function {
         )
     }
 
-    /// Whether it only counts.
+    /// Whether the function only counts.
     fn is_count(self) -> bool {
         matches!(self, Function::Count | Function::StoredCount)
     }
 
-    /// Whether it is lent a buffer for its result.
+    /// Whether the function is lent a buffer for its result.
     fn is_lent_buffer(self) -> bool {
         !self.is_count() && self != Function::Edit
     }
 
-    /// The bytes of its result, if that has always so many or none.
+    /// The length of the result in bytes, if every result that is not empty has the same length.
     pub fn result_bytes(self) -> Option<usize> {
         let numbers = match self {
             Function::Read => LAYOUT_NUMBERS,
@@ -103,14 +103,14 @@ impl Function {
         Some(numbers * NUMBER_BYTES)
     }
 
-    /// Whether it always writes something if it succeeds.
+    /// Whether the function always writes something if it succeeds.
     fn finds_something(self) -> bool {
         matches!(self, Function::Read | Function::Index)
     }
 }
 
 impl Buffer {
-    /// Those that are lent.
+    /// The kinds of buffer that are lent.
     pub const LENT: [Buffer; 4] = [Buffer::Exact, Buffer::Short, Buffer::Empty, Buffer::Long];
     const ALL: [Buffer; 5] = [
         Buffer::No,
@@ -120,10 +120,11 @@ impl Buffer {
         Buffer::Long,
     ];
 
-    /// The bytes of a long buffer beyond the result.
+    /// How many bytes longer than the result a long buffer is.
     const SPARE: usize = 21;
 
-    /// The length of this buffer for a result of so many bytes. None is shorter than an empty one.
+    /// The length of this buffer for a result of `result` bytes. If the result is empty, a short
+    /// buffer is empty too, because no buffer can be shorter.
     pub fn length(self, result: usize) -> usize {
         match self {
             Buffer::Exact => result,
@@ -152,7 +153,7 @@ impl Answer {
 }
 
 impl Call {
-    /// Whether this can come at all.
+    /// Whether a call of this kind can occur at all.
     fn is_possible(&self) -> bool {
         let lends = self.buffer != Buffer::No;
         let fits = matches!(self.buffer, Buffer::Exact | Buffer::Long);
@@ -171,7 +172,7 @@ impl Call {
         answers && lends == self.function.is_lent_buffer()
     }
 
-    /// Every kind of call.
+    /// Every combination of function, buffer and answer, whether or not it is possible.
     fn all() -> impl Iterator<Item = Call> {
         Function::ALL.into_iter().flat_map(|function| {
             Buffer::ALL.into_iter().flat_map(move |buffer| {
@@ -231,13 +232,14 @@ impl fmt::Display for Call {
     }
 }
 
-/// How often each kind of call came.
+/// How often each kind of call occurred.
 pub struct Calls {
     times: BTreeMap<Call, u64>,
 }
 
 impl Calls {
-    /// No call came yet.
+    /// Begins with no call counted. All possible kinds are there from the start, so that missing
+    /// ones are seen.
     pub fn new() -> Calls {
         let possible = Call::all().filter(Call::is_possible);
         Calls {
@@ -245,12 +247,11 @@ impl Calls {
         }
     }
 
-    /// Counts a call.
     pub fn count(&mut self, call: Call) {
         *self.times.entry(call).or_default() += 1;
     }
 
-    /// The kinds of call that never came.
+    /// The kinds of call that never occurred.
     pub fn missing(&self) -> Vec<String> {
         let missing = self.times.iter().filter(|(_, &times)| times == 0);
         missing.map(|(call, _)| call.to_string()).collect()
@@ -258,7 +259,7 @@ impl Calls {
 }
 
 impl fmt::Display for Calls {
-    /// A table with a line for each kind of call.
+    /// Writes a table with a line for each kind of call.
     fn fmt(&self, f: &mut fmt::Formatter<'_>) -> fmt::Result {
         writeln!(f, "{:<52}{:>10}", "called", "times")?;
         self.times

@@ -1,12 +1,13 @@
-//! What the second program says, as the numbers that the proved functions put into a buffer.
+//! What the second program reports, as the numbers that the proved functions put into a buffer.
 
 use asdf_second::{Block, Inner, InnerKind, Layout, LineEnd, Record, Refusal, Row, Tree, Verdict};
 pub use asdf_sys::{BLOCK_NUMBERS, LAYOUT_NUMBERS, NUMBER_BYTES, RECORD_NUMBERS, ROW_NUMBERS};
 
-/// The bytes of a layout.
+/// The length of a layout in bytes.
 pub const LAYOUT_BYTES: usize = LAYOUT_NUMBERS * NUMBER_BYTES;
 
-/// The numbers of a layout: version, header end, comments' end, tree, number of blocks, verdict, line end.
+/// The numbers of a layout: version, end of the header, end of the comments, tree, number of
+/// blocks, verdict, line end.
 pub fn layout_numbers(layout: &Layout) -> [u64; LAYOUT_NUMBERS] {
     let version = layout.version;
     let [present, start, end, room_end] = tree_numbers(layout.tree);
@@ -26,7 +27,7 @@ pub fn layout_numbers(layout: &Layout) -> [u64; LAYOUT_NUMBERS] {
     ]
 }
 
-/// Whether there is a tree, its start, its end and its room's end.
+/// Four numbers: whether there is a tree, its start, its end and the end of its room.
 fn tree_numbers(tree: Option<Tree>) -> [u64; 4] {
     tree.map_or([0; 4], |tree| {
         [
@@ -48,7 +49,7 @@ fn verdict_number(verdict: Verdict) -> u64 {
     }
 }
 
-/// The number of the header's line end.
+/// The number of the line end of the header.
 fn line_end_number(line_end: LineEnd) -> u64 {
     match line_end {
         LineEnd::Lf => 0,
@@ -73,7 +74,8 @@ pub fn block_numbers(block: &Block) -> [u64; BLOCK_NUMBERS] {
     ]
 }
 
-/// The numbers of a record: depth, offset in the outermost file, inner state, then its block's.
+/// The numbers of a record: depth, offset in the outermost file, inner state with its refusal, and
+/// then the numbers of its block.
 pub fn record_numbers(record: &Record) -> [u64; RECORD_NUMBERS] {
     let refusal = inner_refusal(record.inner);
     let front = [
@@ -88,7 +90,7 @@ pub fn record_numbers(record: &Record) -> [u64; RECORD_NUMBERS] {
     std::array::from_fn(|_| numbers.next().unwrap_or(0))
 }
 
-/// The refusal of an inner file, two zeros where there is none.
+/// The refusal of an inner file, or two zeros if there is none.
 fn inner_refusal(inner: Inner) -> Refusal {
     match inner {
         Inner::Refused(refusal) => refusal,
@@ -115,7 +117,7 @@ pub fn row_numbers(row: &Row) -> [u64; ROW_NUMBERS] {
     ]
 }
 
-/// Numbers as the bytes of a buffer.
+/// Turns numbers into the bytes of a buffer.
 pub fn bytes_of(numbers: &[u64]) -> Vec<u8> {
     let mut bytes = Vec::with_capacity(numbers.len() * NUMBER_BYTES);
     for number in numbers {
@@ -124,7 +126,7 @@ pub fn bytes_of(numbers: &[u64]) -> Vec<u8> {
     bytes
 }
 
-/// The numbers in whole buffer bytes.
+/// The numbers in the bytes of a buffer. Bytes at the end that make no whole number are left out.
 pub fn numbers_of(bytes: &[u8]) -> Vec<u64> {
     let (chunks, _) = bytes.as_chunks();
     chunks

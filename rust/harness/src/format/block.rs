@@ -1,4 +1,4 @@
-//! The header of a block: its fields, and one written by hand.
+//! The header of a block: its fields, and a function that writes one by hand.
 
 use super::text;
 use std::ops::Range;
@@ -6,9 +6,9 @@ use std::ops::Range;
 /// A field of a block header.
 #[derive(Clone, Copy)]
 pub struct Field {
-    /// Where it begins, counted from the block's first byte.
+    /// Where the field begins, counted from the first byte of the block.
     at: usize,
-    /// How many bytes it has.
+    /// How many bytes the field has.
     pub length: usize,
 }
 
@@ -25,7 +25,7 @@ pub const USED: Field = field(22, 8);
 pub const DATA_SIZE: Field = field(30, 8);
 pub const CHECKSUM: Field = field(38, 16);
 
-/// All of them, front to back.
+/// All fields in their order.
 pub const FIELDS: &[Field] = &[
     MARK,
     HEADER_SIZE,
@@ -37,22 +37,22 @@ pub const FIELDS: &[Field] = &[
     CHECKSUM,
 ];
 
-/// H counts from this offset in the block.
+/// The offset in the block from which the header size counts.
 pub const HEADER_SIZE_COUNTS_FROM: usize = 6;
-/// The bytes of a block header with H 48: all fields.
+/// The bytes of a block header with header size 48, which holds the named fields and no more.
 pub const FIELD_BYTES: usize = 54;
-/// H of a block header with no more than the named fields.
+/// The header size of a block header that holds the named fields and no more.
 pub const LEAST_HEADER_SIZE: u16 = 48;
 /// The flag of a streamed block.
 pub const STREAMED: u32 = 1;
 
 impl Field {
-    /// Where the field stands if its block begins at `block`.
+    /// Where the field is if its block begins at `block`.
     pub fn stretch(self, block: usize) -> Range<usize> {
         block + self.at..block + self.at + self.length
     }
 
-    /// The field's big-endian number, if the file reaches so far.
+    /// The field as a big-endian number, if it is within the file.
     pub fn number(self, file: &[u8], block: usize) -> Option<u128> {
         let bytes = file.get(self.stretch(block))?;
         let number = bytes
@@ -62,7 +62,7 @@ impl Field {
     }
 }
 
-/// A block's header, with one number for all three sizes.
+/// Writes the header of a block, with one number for all three sizes.
 pub fn block_header(flags: u32, size: u64) -> Vec<u8> {
     let front = [
         text::MARK,

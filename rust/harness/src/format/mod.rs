@@ -1,4 +1,5 @@
-//! What the format says: its fixed words, the fields of a block header, its limits and the numbers of its refusals.
+//! What the format fixes: its words, the fields of a block header, its limits and the numbers of
+//! its refusals.
 
 pub mod block;
 pub mod limits;

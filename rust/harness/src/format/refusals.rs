@@ -1,4 +1,4 @@
-//! The numbers of refusals that are named here, as the C header names them.
+//! The numbers of those refusals that the harness names. The names are those of the C header.
 
 use asdf_second::Refusal;
 
@@ -17,7 +17,7 @@ pub const NO_INDEX_POSSIBLE: u8 = 22;
 pub const OUTLINE_LENGTH: u8 = 23;
 pub const OUTLINE_ROW: u8 = 24;
 
-/// A refusal that concerns the whole.
+/// A refusal that concerns the whole input, so that its place is 0.
 pub const fn of_whole(number: u8) -> Refusal {
     Refusal { number, place: 0 }
 }
