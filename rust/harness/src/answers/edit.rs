@@ -41,7 +41,7 @@ impl EditAnswers {
         (refusal.number == number).then_some(place)
     }
 
-    /// The bytes after the tree with which the text begins, if it begins with one.
+    /// The bytes after the tree at the start of the text, if there is one.
     pub fn after_tree(&self) -> Option<&[u8]> {
         let end = leading_tree_end(&self.text_read)?;
         self.text.get(end..)
@@ -53,7 +53,7 @@ fn after_header(text: &[u8]) -> Result<Layout, Refusal> {
     read(&[HEADER_LINE, text].concat())
 }
 
-/// Where the tree ends with which a text begins, if it begins with one.
+/// Where the tree at the start of a text ends, if there is one.
 fn leading_tree_end(read: &Result<Layout, Refusal>) -> Option<usize> {
     let tree: Tree = read.as_ref().ok()?.tree?;
     let begins = tree.start.0 as usize == HEADER_LINE.len();

@@ -1,4 +1,4 @@
-//! What is asked of a proved function with buffers of each kind, and what it has to answer.
+//! Asks a proved function with buffers of each kind, and compares its answer with the expected one.
 
 use super::loan::Loan;
 use crate::calls::kinds::{Answer, Buffer, Call, Calls, Function};
@@ -11,21 +11,21 @@ use crate::rng::Rng;
 use crate::same::same;
 use asdf_second::Refusal;
 
-/// The exact buffer for a writer that refuses.
+/// The length that counts as exact if a writer refuses, because then there is no result to measure.
 const USUAL_RESULT: usize = 48;
 
-/// What is asked of a function, and what it has to answer.
+/// A function that is asked, and the answer that it has to give.
 pub struct Asked {
     function: Function,
-    /// The bytes of a buffer that fits exactly.
+    /// The length of a buffer that fits exactly.
     exact: usize,
     expected: Expected,
-    /// Chooses what fills the buffers, and where in memory they begin.
+    /// Decides what fills the buffers and where in memory they begin.
     filling: usize,
 }
 
 impl Asked {
-    /// What is asked; `filling` may be any number.
+    /// Prepares the question. `filling` may be any number.
     pub fn new(function: Function, expected: Expected, filling: usize) -> Asked {
         let usual = function.result_bytes();
         let exact = usual.or(expected.as_ref().ok().map(Vec::len));
@@ -44,7 +44,7 @@ impl Asked {
             .try_for_each(|buffer| self.compare_with(buffer, &ask, calls))
     }
 
-    /// Asks with one buffer.
+    /// Asks with a buffer of one kind.
     fn compare_with(
         &self,
         buffer: Buffer,
@@ -67,7 +67,7 @@ impl Asked {
     }
 }
 
-/// Asks for the one thing of each number, with a buffer of each kind.
+/// Asks for the item with each of these numbers, with a buffer of each kind.
 pub fn compare_numbered(
     function: Function,
     mut numbers: impl Iterator<Item = u64>,
@@ -83,7 +83,7 @@ pub fn compare_numbered(
     })
 }
 
-/// Compares the word of a function that only counts.
+/// Compares `word`, which was returned by a function that only counts.
 pub fn compare_count(
     function: Function,
     expected: Result<usize, Refusal>,
@@ -100,8 +100,8 @@ pub fn compare_count(
     same("returned", result_of(word), expected).map_err(|reason| format!("{call}: {reason}"))
 }
 
-/// Compares the word of an edit and every byte of the file and around it, and returns the file
-/// as it was left.
+/// Compares what an edit returns, and every byte of the file and around it. Returns the file as the
+/// edit left it.
 pub fn compare_edited(
     file: &[u8],
     expected: &Expected,
@@ -120,7 +120,7 @@ pub fn compare_edited(
         .map_err(|reason| format!("{call}: {reason}"))
 }
 
-/// The kind of an answer with a buffer.
+/// The kind of an answer that was given with a buffer.
 fn kind_of(answer: Result<&[u8], Refusal>) -> Answer {
     match answer {
         Ok([]) => Answer::Nothing,
@@ -143,8 +143,9 @@ fn kind_of_refusal(refusal: Refusal) -> Answer {
     }
 }
 
-/// The numbers that are asked for out of so many: the first, the last, one after it, any, and
-/// far ones, of which one is the last if it is cut to 32 bits.
+/// The numbers that are asked for if there are `count` items. They are the first, the last, the one
+/// after the last, any, and two that are far too high. Cut to 32 bits, one of these two is the
+/// last.
 pub fn wanted(count: usize) -> [u64; 6] {
     let next = count as u64;
     let last = next.saturating_sub(1);

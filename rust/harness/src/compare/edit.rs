@@ -1,4 +1,4 @@
-//! Compares the proved edit with the second program's, and reads what is edited afresh.
+//! Compares the proved edit with the edit of the second program, and reads the edited file again.
 
 use super::asked::compare_edited;
 use crate::calls::kinds::Calls;
@@ -10,8 +10,9 @@ use crate::same::same;
 use std::io;
 use std::ops::Range;
 
-/// Says where an edit answers or leaves other bytes than the second program's, of which this came,
-/// or leaves a file that does not read as it has to.
+/// Compares an edit with the outcome of the second program's edit, which is `expected`. Fails if
+/// the edit returns something else or leaves other bytes. Also fails if the file that it leaves
+/// does not read as it has to.
 pub fn compare(
     pair: &Edit,
     expected: &Expected,
@@ -27,17 +28,23 @@ pub fn compare(
     Ok(())
 }
 
-/// Edits by the second program, which has to leave a file that it refuses.
+/// Edits the file with the second program. If that refuses the edit, it has to leave the file as it
+/// was.
 pub fn edited_by_second(pair: &Edit) -> Result<Expected, String> {
     let mut file = pair.file.clone();
     let outcome = asdf_second::edit(&mut file, &pair.text);
     if outcome.is_err() {
-        same("file that the second program refused", &file, &pair.file)?;
+        same(
+            "file after the second program refused the edit",
+            &file,
+            &pair.file,
+        )?;
     }
     Ok(outcome.map(|()| file))
 }
 
-/// Makes a long edit by both programs, and compares what comes of it with what is told by hand.
+/// Makes a long edit with both programs, and compares the outcomes with the one that is stated by
+/// hand.
 pub fn compare_long(edit: &LongEdit, before: &[u8]) -> io::Result<Result<(), String>> {
     let (mut ours, mut second) = (edit.file()?, edit.file()?);
     let our_outcome = result_of(exports::edit(ours.lend()?, TEXT));
@@ -49,16 +56,17 @@ pub fn compare_long(edit: &LongEdit, before: &[u8]) -> io::Result<Result<(), Str
     Ok(checked)
 }
 
-/// Whether a long edit left the file as it has to.
+/// Checks that a long edit left the file as it has to.
 fn check_left(edit: &LongEdit, before: &[u8], after: &[u8]) -> Result<(), String> {
     match edit.outcome {
         Ok(()) => check_edited(before, after, TEXT),
-        Err(_) => same("file as it was", after == before, true),
+        Err(_) => same("file unchanged", after == before, true),
     }
 }
 
-/// Whether an edited file has the text in its tree's room and is otherwise what it was before, in
-/// every byte and by all that the proved functions say of both.
+/// Checks that an edited file has the text in the room of its tree and is otherwise what it was
+/// before. This is checked for every byte, and for all that the proved functions report about both
+/// files.
 fn check_edited(before: &[u8], after: &[u8], text: &[u8]) -> Result<(), String> {
     let mut expected = afresh::layout(before);
     let mut room = 0..0;
@@ -76,7 +84,7 @@ fn check_edited(before: &[u8], after: &[u8], text: &[u8]) -> Result<(), String> 
     same("records after the edit", after, before)
 }
 
-/// Whether the room holds the text and then spaces, and every other byte is as it was.
+/// Checks that the room holds the text and then spaces, and that every other byte is as it was.
 fn check_bytes(before: &[u8], after: &[u8], text: &[u8], room: Range<usize>) -> Result<(), String> {
     same("length", after.len(), before.len())?;
     let (front, rest) = (..room.start, room.end..);
@@ -100,7 +108,7 @@ mod tests {
         [HEADER_LINE, tree, b"free", &block_header(0, 0)].concat()
     }
 
-    /// What is said of an edit with a text, done in this way.
+    /// What the comparison reports about this edit, made with this text.
     fn said(text: &[u8], edit: impl Fn(&mut [u8], &[u8]) -> u64) -> Result<(), String> {
         let pair = Edit {
             file: file(),

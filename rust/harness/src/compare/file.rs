@@ -1,4 +1,5 @@
-//! Compares the proved functions with the second program: one file by itself.
+//! Compares the proved functions with the second program on one file. `nest` compares what concerns
+//! the files inside it, and the index.
 
 use super::asked::{compare_numbered, Asked};
 use super::nest;
@@ -8,10 +9,11 @@ use crate::calls::kinds::{Calls, Function};
 use crate::calls::numbers::{block_numbers, bytes_of, layout_numbers};
 use crate::calls::returned::Expected;
 
-/// Ordinals that no file has. Cut to fewer bits or taken as signed, some would be one.
+/// Ordinals that no block has. Cut to fewer bits or read as signed numbers, some of them would be
+/// the ordinal of a block.
 const FAR_ORDINALS: [u64; 6] = [64, 1 << 8, 1 << 16, 1 << 32, 1 << 63, u64::MAX];
 
-/// Says where a proved function answers otherwise than the second program, if anywhere.
+/// Fails if a proved function answers differently from the second program, and says where.
 pub fn compare(file: &[u8], answers: &Answers, calls: &mut Calls) -> Result<(), String> {
     let layout = Asked::new(Function::Read, expected_layout(answers), file.len());
     layout.compare(|out| exports::read(file, out), calls)?;
@@ -26,12 +28,12 @@ pub fn compare(file: &[u8], answers: &Answers, calls: &mut Calls) -> Result<(), 
     nest::compare(file, answers, calls)
 }
 
-/// The ordinal of each block, two after them, and far ones.
+/// The ordinal of each block, the two ordinals after the last, and far higher ones.
 fn ordinals(blocks: usize) -> impl Iterator<Item = u64> {
     (0..=blocks as u64 + 1).chain(FAR_ORDINALS)
 }
 
-/// The bytes of the layout by the second program.
+/// The bytes of the layout according to the second program.
 fn expected_layout(answers: &Answers) -> Expected {
     let layout = answers.layout.as_ref();
     layout
@@ -39,7 +41,7 @@ fn expected_layout(answers: &Answers) -> Expected {
         .map_err(|&refusal| refusal)
 }
 
-/// The bytes of a block by the second program, none where there is no such block.
+/// The bytes of a block according to the second program. There are none if there is no such block.
 fn expected_block(answers: &Answers, ordinal: u64) -> Expected {
     let layout = answers.layout.as_ref().map_err(|&refusal| refusal)?;
     let mut blocks = layout.blocks.iter();

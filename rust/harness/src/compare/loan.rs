@@ -1,4 +1,4 @@
-//! A lent buffer, and every byte of it and around it after a call.
+//! Lends a buffer, and checks every byte of it and around it after the call.
 
 use crate::calls::numbers::{numbers_of, NUMBER_BYTES};
 use crate::calls::returned::{result_of, Expected};
@@ -7,10 +7,10 @@ use crate::same::same;
 use asdf_second::Refusal;
 use std::ops::Range;
 
-/// At least so many bytes are watched before and after a lent buffer.
+/// The minimum number of bytes that are watched before and after a lent buffer.
 const AROUND: usize = 16;
 
-/// A buffer to be lent, in the middle of bytes that are watched too.
+/// A buffer that is lent. It is in the middle of bytes that are watched too.
 #[derive(Clone, Copy)]
 pub struct Loan {
     pub length: usize,
@@ -18,7 +18,7 @@ pub struct Loan {
 }
 
 impl Loan {
-    /// A buffer that these bytes fill.
+    /// A buffer that is as long as these bytes.
     pub fn of(bytes: &[u8]) -> Loan {
         Loan {
             length: bytes.len(),
@@ -26,13 +26,13 @@ impl Loan {
         }
     }
 
-    /// The part that is lent; it begins at any remainder by eight.
+    /// The part that is lent. Modulo 8 its start may be any number, which depends on `filling`.
     fn stretch(self) -> Range<usize> {
         let start = AROUND + self.filling % NUMBER_BYTES;
         start..start + self.length
     }
 
-    /// All bytes before the call: no two neighbours are the same.
+    /// All bytes before the call. No two neighbours are equal.
     fn filled(self) -> Vec<u8> {
         let watched = self.stretch().end + AROUND;
         let byte = |place| (self.filling + 37 * place) as u8;
@@ -46,7 +46,7 @@ impl Loan {
         all
     }
 
-    /// The answer with a buffer of this length.
+    /// The answer that is expected with a buffer of this length.
     pub fn answer(self, expected: &Expected) -> Result<&[u8], Refusal> {
         match expected {
             Err(refusal) => Err(*refusal),
@@ -55,7 +55,7 @@ impl Loan {
         }
     }
 
-    /// Asks, and compares what is returned and every byte of the buffer and around it.
+    /// Asks a function. Compares what it returns, and every byte of the buffer and around it.
     pub fn check(
         self,
         expected: Result<&[u8], Refusal>,
@@ -68,7 +68,8 @@ impl Loan {
         self.check_bytes(&bytes, expected.unwrap_or(&[]))
     }
 
-    /// Lets a file be edited, and compares what is returned and every byte of it and around it.
+    /// Lends a file to an edit. Compares what is returned, and every byte of the file and around
+    /// it. Returns the file as it was left.
     pub fn check_edit(
         self,
         file: &[u8],
@@ -83,7 +84,8 @@ impl Loan {
         Ok(bytes[self.stretch()].to_vec())
     }
 
-    /// Compares all bytes after a call that had to leave these at the start of the lent part.
+    /// Compares all bytes after a call that had to leave the bytes `written` at the start of the
+    /// lent part.
     fn check_bytes(self, bytes: &[u8], written: &[u8]) -> Result<(), String> {
         let left = self.holding(written);
         if bytes == left {
@@ -92,7 +94,8 @@ impl Loan {
         self.difference(bytes, &left, written.len())
     }
 
-    /// Tells where bytes are not as they were to be left, of which so many are the result.
+    /// Reports where `bytes` differs from `left`, which is what the call had to leave. The first
+    /// `written` bytes of the lent part are the result.
     fn difference(self, bytes: &[u8], left: &[u8], written: usize) -> Result<(), String> {
         let result = self.stretch().start..self.stretch().start + written;
         same_result(&bytes[result.clone()], &left[result.clone()])?;
@@ -102,7 +105,8 @@ impl Loan {
     }
 }
 
-/// Compares a result byte by byte; a difference is told by the number in which it is.
+/// Compares a result byte by byte. The message for a difference also names the number that holds
+/// it.
 fn same_result(found: &[u8], expected: &[u8]) -> Result<(), String> {
     let Some(place) = (0..expected.len()).find(|&place| found[place] != expected[place]) else {
         return Ok(());
@@ -127,7 +131,7 @@ mod tests {
         filling: 3,
     };
 
-    /// What is said of a function that returns this and writes these bytes.
+    /// What the check reports about a function that returns `word` and writes these bytes.
     fn said(expected: Result<&[u8], Refusal>, word: u64, written: &[u8]) -> Result<(), String> {
         LOAN.check(expected, |out| {
             out[..written.len()].copy_from_slice(written);

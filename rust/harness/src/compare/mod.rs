@@ -1,4 +1,5 @@
-//! Compares what the proved functions say and leave with what the second program says, and each of the two with itself.
+//! Compares what the proved functions report and write with what the second program reports. Also
+//! checks that the answers of each of the two are consistent.
 
 mod asked;
 pub mod edit;

@@ -8,7 +8,7 @@ use crate::calls::numbers::{bytes_of, record_numbers};
 use crate::calls::returned::Expected;
 use asdf_second::Record;
 
-/// Says where count, outline, records or index differ, if anywhere.
+/// Fails if count, outline, records or index differ, and says where.
 pub fn compare(file: &[u8], answers: &Answers, calls: &mut Calls) -> Result<(), String> {
     let count = answers.count();
     compare_count(Function::Count, count, exports::count(file), calls)?;
@@ -29,14 +29,15 @@ pub fn compare(file: &[u8], answers: &Answers, calls: &mut Calls) -> Result<(), 
     )
 }
 
-/// The bytes of all records by the second program.
+/// The bytes of all records according to the second program.
 fn expected_records(answers: &Answers) -> Expected {
     let records = answers.records.as_ref().map_err(|&refusal| refusal)?;
     let bytes: Vec<Vec<u8>> = records.iter().map(record_bytes).collect();
     Ok(bytes.concat())
 }
 
-/// The bytes of one record by the second program, none where there is no such record.
+/// The bytes of one record according to the second program. There are none if there is no such
+/// record.
 fn expected_record(answers: &Answers, number: u64) -> Expected {
     let records = answers.records.as_ref().map_err(|&refusal| refusal)?;
     Ok(records
@@ -44,7 +45,6 @@ fn expected_record(answers: &Answers, number: u64) -> Expected {
         .map_or(Vec::new(), record_bytes))
 }
 
-/// The bytes of a record.
 fn record_bytes(record: &Record) -> Vec<u8> {
     bytes_of(&record_numbers(record))
 }

@@ -1,4 +1,5 @@
-//! Reads back what the proved functions write: the outline as a stored one, and the index after the last block.
+//! Reads back what the proved functions write: the outline as a stored outline, and the index after
+//! the last block.
 
 use super::stored;
 use crate::answers::file::Answers;
@@ -10,14 +11,15 @@ use crate::calls::returned::result_in;
 use crate::same::same;
 use asdf_second::{Row, Verdict, LONGEST_INDEX, ROW_LENGTH};
 
-/// Whether what the proved functions write is what they read: the outline as a stored one, and
-/// the index after the last block.
+/// Checks that the proved functions read what they write: the outline as a stored outline, and the
+/// index after the last block.
 pub fn read_back(file: &[u8], answers: &Answers, calls: &mut Calls) -> Result<(), String> {
     read_outline_back(file, answers, calls).map_err(|reason| format!("read back: {reason}"))?;
     read_index_back(file, answers)
 }
 
-/// The outline is accepted as a stored one, and its rows are those of the records.
+/// Checks that the outline is accepted as a stored outline, and that its rows are those of the
+/// records.
 fn read_outline_back(file: &[u8], answers: &Answers, calls: &mut Calls) -> Result<(), String> {
     let Ok(records) = &answers.records else {
         return Ok(());
@@ -32,7 +34,8 @@ fn read_outline_back(file: &[u8], answers: &Answers, calls: &mut Calls) -> Resul
     stored::compare(&outline, &expected, calls)
 }
 
-/// The file cut after its last block and followed by the index reads the same, with a good index.
+/// Checks that a file that is cut after its last block and followed by its index reads the same,
+/// with a good index.
 fn read_index_back(file: &[u8], answers: &Answers) -> Result<(), String> {
     let (Ok(layout), Some(end)) = (&answers.layout, answers.chain_end()) else {
         return Ok(());
@@ -55,7 +58,7 @@ mod tests {
     use crate::format::refusals::of_whole;
     use asdf_second::{Inner, Record};
 
-    /// What is found out if the answers to a file in a file in a file are changed.
+    /// What the comparisons report if the answers for a file in a file in a file are changed.
     fn said(change: fn(&mut Answers)) -> Result<(), String> {
         let file = path(3, 2, 1, b"#ASDF ");
         let mut answers = Answers::to(&file);
@@ -65,7 +68,6 @@ mod tests {
         read_back(&file, &answers, &mut calls)
     }
 
-    /// Changes the last record.
     fn change_last(answers: &mut Answers, change: fn(&mut Record)) {
         let records = answers.records.as_mut().unwrap();
         change(records.last_mut().unwrap());

@@ -1,4 +1,4 @@
-//! Compares both proved searches for a mark with a plain one of Rust.
+//! Compares both proved searches for a mark with a plain search in Rust.
 
 use crate::calls::exports;
 use crate::format::text::MARK;
@@ -7,25 +7,26 @@ use crate::goals::searches::Search;
 use crate::rng::Rng;
 use crate::same::same;
 
-/// The bytes that a search may trip over: those of a mark, a space and a zero.
+/// The bytes that may mislead a search: those of a mark, a space and a zero.
 const BYTES: [u8; 6] = [0xD3, 0x42, 0x4C, 0x4B, 0x20, 0x00];
 /// The length of the longest string.
 const LONGEST: usize = 200;
-/// So many strings there are of each length.
+/// How many strings there are of each length.
 const STRINGS: u64 = 20;
-/// What sets the strings apart from the files of a seed.
+/// Changes the seed, so that the strings do not use the random numbers of the files of this seed.
 const SEARCHES: u64 = 1 << 60;
 
 /// A search for the first mark at or after an offset.
 type Searcher = fn(&[u8], usize) -> usize;
 
-/// The proved ones.
+/// The proved searches with their names.
 const SEARCHERS: [(&str, Searcher); 2] = [
     ("find_mark", exports::find_mark),
     ("find_mark_plain", exports::find_mark_plain),
 ];
 
-/// Searches every string from every offset on, also one after its end. Tells how many searches there were.
+/// Searches every string from every offset, and from the offset one after its end. Returns how many
+/// searches there were.
 pub fn compare_strings(seed: u64, coverage: &mut Coverage<Search>) -> Result<u64, String> {
     let mut searches = 0;
     for length in 0..=LONGEST {
@@ -41,8 +42,8 @@ pub fn compare_strings(seed: u64, coverage: &mut Coverage<Search>) -> Result<u64
     Ok(searches)
 }
 
-/// Searches a file from its first four offsets on, and again from after the first byte of each mark. Tells how many searches there
-/// were.
+/// Searches a file from each of its first four offsets, and again from the second byte of each mark
+/// that is found. Returns how many searches there were.
 pub fn compare_in_file(file: &[u8]) -> Result<u64, String> {
     for start in 1..MARK.len() {
         compare(file, start, &SEARCHERS)?;
@@ -55,7 +56,7 @@ pub fn compare_in_file(file: &[u8]) -> Result<u64, String> {
     Ok(searches)
 }
 
-/// The string of this number and length; two in three have a mark.
+/// The string with this number and length. In two of three strings a mark is placed, if it fits.
 fn numbered_string(seed: u64, number: u64, length: usize) -> Vec<u8> {
     let mut rng = Rng::for_file(seed ^ SEARCHES, (length as u64) << 32 | number);
     let mut string = rng.bytes_of(&BYTES, length);
@@ -66,17 +67,18 @@ fn numbered_string(seed: u64, number: u64, length: usize) -> Vec<u8> {
     string
 }
 
-/// Searches from one offset on: each has to find what the plain search of Rust does.
+/// Searches from one offset. Each search has to find what the plain search in Rust finds.
 fn compare(bytes: &[u8], start: usize, searchers: &[(&str, Searcher)]) -> Result<Search, String> {
     let found = first_mark(bytes, start);
     for (name, searcher) in searchers {
         same(name, searcher(bytes, start), found)
-            .map_err(|reason| format!("from {start} on, {reason}"))?;
+            .map_err(|reason| format!("searched from {start}: {reason}"))?;
     }
     Ok(Search { start, found })
 }
 
-/// The first mark at or after an offset, or the end; after the end it is the offset itself.
+/// Where the first mark at or after `start` begins, or the end if there is none. If `start` is
+/// after the end, it is returned itself.
 fn first_mark(bytes: &[u8], start: usize) -> usize {
     let rest = bytes.get(start..).unwrap_or_default();
     let length = rest.windows(MARK.len()).position(|four| four == MARK);

@@ -1,4 +1,4 @@
-//! Whether the second program's answers to a file fit together.
+//! Checks that the answers of the second program for one file are consistent.
 
 use crate::answers::file::Answers;
 use crate::format::refusals::{of_whole, BUFFER_TOO_SHORT, NO_INDEX_POSSIBLE};
@@ -10,14 +10,15 @@ use asdf_second::{
 
 /// What a lent buffer holds before it is written to.
 const UNTOUCHED: u8 = 0xA5;
-/// The bytes that a writer is lent beyond its result.
+/// How many bytes beyond its result a writer is lent.
 const SPARE: usize = 3;
-/// The bytes of a written index without its numbers and line ends.
+/// The bytes of a written index without its numbers, the commas and spaces between them, and its
+/// line ends.
 const INDEX_FRAME: usize = 35;
-/// The lines of a written index.
+/// How many lines a written index has.
 const INDEX_LINES: usize = 4;
 
-/// Says what does not fit together, if anything.
+/// Fails if the answers are not consistent, and says where.
 pub fn check(file: &[u8], answers: &Answers) -> Result<(), String> {
     check_line_end(file, answers)?;
     check_records(answers)?;
@@ -27,7 +28,7 @@ pub fn check(file: &[u8], answers: &Answers) -> Result<(), String> {
     check_listing(file, answers)
 }
 
-/// Layout and records refuse the same files and report the same blocks.
+/// Checks that layout and records refuse the same files and report the same blocks.
 fn check_records(answers: &Answers) -> Result<(), String> {
     let blocks = answers.layout.clone().map(|layout| layout.blocks);
     let outermost = answers.records.clone().map(|records| {
@@ -43,7 +44,8 @@ fn expected_rows(answers: &Answers) -> Result<Vec<Row>, Refusal> {
     Ok(records.into_iter().map(Row::from).collect())
 }
 
-/// The rows are those of the records, and no more than there may be.
+/// Checks that the rows are those of the records, and that there are no more of them than a file of
+/// this length can have.
 fn check_rows(file: &[u8], answers: &Answers) -> Result<(), String> {
     let expected = expected_rows(answers);
     let count = expected.clone().map(|rows| rows.len());
@@ -53,7 +55,7 @@ fn check_rows(file: &[u8], answers: &Answers) -> Result<(), String> {
     same("more rows than fit the length", too_many, false)
 }
 
-/// The outline is read back to the rows and written again as it was.
+/// Checks that the outline is read back as the same rows and written again as the same bytes.
 fn check_outline(file: &[u8], answers: &Answers) -> Result<(), String> {
     let expected = expected_rows(answers);
     let length = expected.as_ref().map_or(0, Vec::len) * ROW_LENGTH;
@@ -69,8 +71,8 @@ fn check_outline(file: &[u8], answers: &Answers) -> Result<(), String> {
     }
 }
 
-/// What a writer writes into a buffer that is long enough. The buffer after it has to stay, and
-/// all of a buffer that is one byte too short.
+/// What a writer writes into a buffer that is long enough. The bytes after the result must not
+/// change. A buffer that is one byte too short must not change at all.
 fn checked_writing(
     what: &str,
     most: usize,
@@ -89,7 +91,7 @@ fn checked_writing(
     Ok(result.map(|_| buffer))
 }
 
-/// The index is refused where there can be none.
+/// Checks that the index is refused if there can be none, and is written otherwise.
 fn check_index(file: &[u8], answers: &Answers) -> Result<(), String> {
     let text = checked_writing("index", LONGEST_INDEX, |out| write_index(file, out))?;
     match (&answers.layout, answers.chain_end(), text) {
@@ -100,7 +102,7 @@ fn check_index(file: &[u8], answers: &Answers) -> Result<(), String> {
     }
 }
 
-/// The index that is written has the stated length and is good after the last block.
+/// Checks that the written index has the stated length and is good after the last block.
 fn check_index_text(chain: &[u8], layout: &Layout, text: &[u8]) -> Result<(), String> {
     same("length of the index", text.len(), index_length(layout))?;
     let mut expected = layout.clone();
@@ -117,7 +119,6 @@ fn index_length(layout: &Layout) -> usize {
     INDEX_FRAME + line_ends + digits.sum::<usize>() + 2 * (blocks.len() - 1)
 }
 
-/// The bytes of a line end.
 fn line_end_bytes(line_end: LineEnd) -> &'static [u8] {
     match line_end {
         LineEnd::Lf => b"\n",
@@ -125,7 +126,7 @@ fn line_end_bytes(line_end: LineEnd) -> &'static [u8] {
     }
 }
 
-/// The header line ends as is reported.
+/// Checks that the reported line end is that of the header line.
 fn check_line_end(file: &[u8], answers: &Answers) -> Result<(), String> {
     let Ok(layout) = &answers.layout else {
         return Ok(());
@@ -138,7 +139,7 @@ fn check_line_end(file: &[u8], answers: &Answers) -> Result<(), String> {
     same("line end of the header", layout.line_end, expected)
 }
 
-/// The listing says what layout and records say.
+/// Checks that the listing states what layout and records state.
 fn check_listing(file: &[u8], answers: &Answers) -> Result<(), String> {
     let expected = match &answers.layout {
         _ if file.len() > PROGRAM_LIMIT => "too long for this program\n".to_string(),

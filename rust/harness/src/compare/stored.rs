@@ -8,10 +8,10 @@ use crate::calls::numbers::{bytes_of, row_numbers};
 use crate::calls::returned::Expected;
 use asdf_second::Row;
 
-/// Every row of an outline with at most so many is asked for.
+/// If an outline has at most this many rows, every row is asked for.
 const FEW_ROWS: usize = 24;
 
-/// Says where a function answers otherwise than expected, if anywhere.
+/// Fails if a function answers differently from what is expected, and says where.
 pub fn compare(stored: &[u8], expected: &StoredAnswers, calls: &mut Calls) -> Result<(), String> {
     let count = expected.rows.as_ref().map(Vec::len);
     let count = count.map_err(|&refusal| refusal);
@@ -32,7 +32,8 @@ pub fn compare(stored: &[u8], expected: &StoredAnswers, calls: &mut Calls) -> Re
     )
 }
 
-/// The numbers of the rows that are asked for: all of few, and those asked of any number.
+/// The numbers of the rows that are asked for: all rows if there are few, and in any case those
+/// that `wanted` chooses.
 fn row_places(count: usize) -> impl Iterator<Item = u64> {
     let all = if count <= FEW_ROWS { count as u64 } else { 0 };
     (0..all).chain(wanted(count))
@@ -45,7 +46,7 @@ fn expected_rows(expected: &StoredAnswers) -> Expected {
     Ok(bytes.concat())
 }
 
-/// The bytes of a row, none where there is no such row.
+/// The bytes of a row. There are none if there is no such row.
 fn expected_row(expected: &StoredAnswers, number: u64) -> Expected {
     let rows = expected.rows.as_ref().map_err(|&refusal| refusal)?;
     Ok(rows.get(number as usize).map_or(Vec::new(), row_bytes))
@@ -63,7 +64,7 @@ mod tests {
     /// A row that keeps the rules.
     const ROW: [u8; 16] = [0, 0, 0, 48, 0, 0, 0, 12, 0, 0, 0, 2, 0, 0, 0, 1];
 
-    /// What is said of stored bytes, if the answers to others are expected.
+    /// What the comparison reports about `stored` if the answers for `other` are expected.
     fn said(stored: &[u8], other: &[u8]) -> Result<(), String> {
         compare(stored, &StoredAnswers::to(other), &mut Calls::new())
     }

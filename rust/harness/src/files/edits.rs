@@ -1,4 +1,4 @@
-//! Edits of files at the limit of the length, with what has to come of them told by hand.
+//! Edits of files at the length limit. Their outcomes are stated by hand.
 
 use super::sparse::SparseFile;
 use crate::answers::edit::EditAnswers;
@@ -9,18 +9,19 @@ use crate::format::text::{HEADER_LINE, LEAST_TREE};
 use asdf_second::Refusal;
 use std::io;
 
-/// The text of every one of these edits.
+/// The text of all these edits.
 pub const TEXT: &[u8] = b"%YAML 1.1\n---\na: text of more than the smallest length\n...\n";
 
-/// The file of a long edit: a small tree, free space and one block up to the end.
+/// An edit of a long file. The file has a small tree, free space, and one block that reaches to its
+/// end.
 pub struct LongEdit {
     pub name: &'static str,
     length: usize,
-    /// What has to come of it.
+    /// The outcome that the edit must have.
     pub outcome: Result<(), Refusal>,
 }
 
-/// All of them.
+/// All long edits.
 pub const LONG_EDITS: [LongEdit; 2] = [
     LongEdit {
         name: "edit of the longest file",
@@ -34,7 +35,7 @@ pub const LONG_EDITS: [LongEdit; 2] = [
     },
 ];
 
-/// A sparse file of this length with a small tree, a room of so many bytes and one block.
+/// A sparse file of this length with a small tree, a room of `room` bytes and one block.
 pub fn file_with_room(length: usize, room: usize) -> io::Result<SparseFile> {
     let block = HEADER_LINE.len() + room;
     let header = block_header(0, (length - block - FIELD_BYTES) as u64);
@@ -47,7 +48,7 @@ pub fn file_with_room(length: usize, room: usize) -> io::Result<SparseFile> {
 }
 
 impl LongEdit {
-    /// The bytes of every room, more than a page of memory.
+    /// The bytes of every room: more than a page of memory.
     const ROOM: usize = 10_000;
 
     /// The file before the edit.
@@ -55,7 +56,7 @@ impl LongEdit {
         file_with_room(self.length, LongEdit::ROOM)
     }
 
-    /// What has to be said of the edit.
+    /// The answers that the edit must have.
     pub fn answers(&self, file: &[u8]) -> EditAnswers {
         EditAnswers::to(file, TEXT, self.outcome)
     }

@@ -1,4 +1,4 @@
-//! Files at the limit of the length, with what has to be said of them told by hand.
+//! Files at the length limit. What must be reported about them is stated by hand.
 
 use super::sparse::SparseFile;
 use crate::answers::file::Answers;
@@ -17,22 +17,22 @@ const PLAIN: u64 = 0;
 const OPENED: u64 = 1;
 const LINE_END_0A: u64 = 0;
 
-/// The place of a first block.
+/// The place of the first block.
 const FIRST: usize = HEADER_LINE.len();
-/// A place near the end of the longest file.
+/// The place of the last block, near the end of the longest file.
 const LAST: usize = 4_294_967_000;
-/// The bytes of a gap before it.
+/// The length of a gap before the last block.
 const GAP: usize = 100;
 /// The index of a file with these two blocks.
 const INDEX: &[u8] = b"#ASDF BLOCK INDEX\n%YAML 1.1\n--- [12, 4294967000]\n...\n";
 
-/// A long file and the numbers that tell its layout and its records, or its refusal.
+/// A long file, with its layout and records as numbers, or its refusal.
 pub struct LongFile {
     pub name: &'static str,
     pub file: SparseFile,
     layout: Result<[u64; LAYOUT_NUMBERS], Refusal>,
     records: Vec<[u64; RECORD_NUMBERS]>,
-    /// The index after the last block, where there is one.
+    /// The index after the last block. It is empty if there is none.
     index: &'static [u8],
 }
 
@@ -41,10 +41,10 @@ pub struct LongFile {
 struct Block {
     depth: u64,
     inner: u64,
-    /// Where its own file begins in the outermost one.
+    /// Where the block's own file begins in the outermost file.
     file: usize,
     ordinal: u64,
-    /// Where it begins in the outermost file.
+    /// Where the block begins in the outermost file.
     place: usize,
     flags: u32,
     size: usize,
@@ -87,7 +87,7 @@ impl Block {
     }
 }
 
-/// All of them.
+/// All long files.
 pub fn long_files() -> io::Result<Vec<LongFile>> {
     Ok(vec![
         too_long()?,
@@ -99,7 +99,7 @@ pub fn long_files() -> io::Result<Vec<LongFile>> {
     ])
 }
 
-/// One byte above the limit.
+/// A file that is one byte longer than the limit.
 fn too_long() -> io::Result<LongFile> {
     Ok(LongFile {
         name: "file of 4,294,967,296 bytes",
@@ -125,7 +125,7 @@ fn streamed_block() -> io::Result<LongFile> {
     longest_file("longest file with a streamed block", &[block], b"")
 }
 
-/// The longest file with a block near its end and an index after that.
+/// The longest file with a block near its end, and an index after this block.
 fn two_blocks_and_index() -> io::Result<LongFile> {
     let blocks = [
         Block::new(0, FIRST, LAST),
@@ -134,7 +134,7 @@ fn two_blocks_and_index() -> io::Result<LongFile> {
     longest_file("longest file with an index", &blocks, INDEX)
 }
 
-/// The same with zeros between the two blocks.
+/// The same file with zeros between the two blocks.
 fn gap_and_index() -> io::Result<LongFile> {
     let blocks = [
         Block::new(0, FIRST, LAST - GAP),
@@ -143,7 +143,7 @@ fn gap_and_index() -> io::Result<LongFile> {
     longest_file("longest file with a gap and an index", &blocks, INDEX)
 }
 
-/// The longest file with a file inside that has a block near its end.
+/// The longest file with a file inside. This inner file has a block near its end.
 fn file_inside() -> io::Result<LongFile> {
     let outer = Block {
         inner: OPENED,
@@ -164,7 +164,7 @@ fn file_inside() -> io::Result<LongFile> {
     )
 }
 
-/// A file of the greatest length with these blocks and this index at its end.
+/// A file of the largest length with these blocks, and with this index at its end.
 fn longest_file(
     name: &'static str,
     blocks: &[Block],
@@ -190,7 +190,7 @@ fn longest_file(
 }
 
 impl LongFile {
-    /// Whether the second program says what is told by hand.
+    /// Checks that the second program reports what is stated by hand.
     pub fn check(&self, answers: &Answers) -> Result<(), String> {
         let layout = answers.layout.as_ref().map(layout_numbers);
         same("layout", layout, self.layout.as_ref().copied())?;

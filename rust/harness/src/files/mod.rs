@@ -1,4 +1,5 @@
-//! Files that are made by hand: files inside files, and files at the limit of the length, with edits of such.
+//! Files that are made by hand: files inside files, files at the length limit, and edits of such
+//! long files.
 
 pub mod edits;
 pub(crate) mod long;

@@ -6,13 +6,14 @@ use asdf_map::Map;
 use std::io;
 use std::ops::Deref;
 
-/// A long stretch of zeros with other bytes at some places. Only what is not zero takes memory.
+/// A long range of zeros with other bytes at some places. Only the bytes that are not zero take
+/// memory.
 pub struct SparseFile {
     map: Map,
 }
 
 impl SparseFile {
-    /// A file of this length with these bytes at these places in it.
+    /// A file of this length that has these bytes at these places.
     pub fn new(length: usize, parts: &[(usize, &[u8])]) -> io::Result<SparseFile> {
         let mut map = Map::of_zeros(length)?;
         let file = map.lend()?;
@@ -23,7 +24,7 @@ impl SparseFile {
         Ok(SparseFile { map })
     }
 
-    /// The bytes to be changed.
+    /// Lends the bytes, so that they can be changed.
     pub fn lend(&mut self) -> io::Result<&mut [u8]> {
         self.map.lend()
     }
@@ -37,7 +38,8 @@ impl Deref for SparseFile {
     }
 }
 
-/// A file of zeros with a header line and so many blocks, each of this length with its header.
+/// A file of zeros with a header line and `blocks` blocks. Each block has `length` bytes, its
+/// header included.
 pub fn chain_of_blocks(blocks: usize, length: usize) -> io::Result<SparseFile> {
     let header = block_header(0, (length - FIELD_BYTES) as u64);
     let place = |block| HEADER_LINE.len() + block * length;

@@ -1,4 +1,5 @@
-//! A run: generates files and outlines, compares what is said of each, and tells what they reached.
+//! A run: generates files, stored outlines and edits, compares what is reported about each, and
+//! prints what they reached.
 
 use crate::answers::edit::EditAnswers;
 use crate::answers::file::Answers;
@@ -23,19 +24,19 @@ use std::fs;
 use std::io;
 use std::panic::{catch_unwind, AssertUnwindSafe};
 
-/// The seed of a run for which none is said.
+/// The seed of a run if none is given.
 pub const DEFAULT_SEED: u64 = 1;
-/// The number of files of each kind in a run for which none is said.
+/// How many files of each kind a run has if no number is given.
 pub const DEFAULT_COUNT: u64 = 100_000;
 
-/// Where failing files are written.
+/// The folder to which failing files are written.
 const FAILING: &str = "build/failing";
-/// So many failing files are written and told of.
+/// How many failing files are written and reported at most.
 const MOST_TOLD: u64 = 20;
-/// So much is told of a reason.
+/// How many characters of a reason are printed.
 const LONGEST_REASON: usize = 600;
 
-/// What is generated.
+/// What a run generates.
 enum Generated {
     File(Vec<u8>),
     Nest(Vec<u8>),
@@ -44,7 +45,7 @@ enum Generated {
 }
 
 impl Generated {
-    /// The one of each kind with this number.
+    /// One of each kind, with this number.
     fn numbered(seed: u64, number: u64) -> [Generated; 4] {
         [
             Generated::File(numbered_file(seed, number)),
@@ -54,7 +55,7 @@ impl Generated {
         ]
     }
 
-    /// What is written of a failing one, with the ends of the names.
+    /// The parts that are written if it fails, each with the end of its file name.
     fn parts(&self) -> Vec<(&'static str, &[u8])> {
         match self {
             Generated::File(bytes) => vec![(".asdf", bytes)],
@@ -67,7 +68,7 @@ impl Generated {
     }
 }
 
-/// What came of a run.
+/// What a run has counted so far.
 struct Outcome {
     coverage: Coverage,
     stored_coverage: Coverage<StoredAnswers>,
@@ -82,7 +83,7 @@ struct Outcome {
     failures: u64,
 }
 
-/// Generates and checks files, prints what came of it, and says whether all is well.
+/// Generates and checks files, prints the outcome, and returns whether all is well.
 pub fn run(seed: u64, count: u64) -> io::Result<bool> {
     println!("seed {seed}; files, files with files inside, stored outlines, edits: {count} each");
     let outcome = check_files(seed, count)?;
@@ -104,7 +105,8 @@ pub fn run(seed: u64, count: u64) -> io::Result<bool> {
     Ok(outcome.failures == 0 && missing.is_empty())
 }
 
-/// Checks the long files, then generates and checks others.
+/// Checks the searches and the files and edits that are made by hand. Then generates others and
+/// checks them.
 fn check_files(seed: u64, count: u64) -> io::Result<Outcome> {
     let mut outcome = Outcome::new();
     let checked = outcome.check_searches(seed);
@@ -131,7 +133,7 @@ fn check_files(seed: u64, count: u64) -> io::Result<Outcome> {
 }
 
 impl Outcome {
-    /// Nothing came of a run yet.
+    /// The outcome before anything is checked.
     fn new() -> Outcome {
         Outcome {
             coverage: Coverage::new(goals::of_files()),
@@ -147,7 +149,8 @@ impl Outcome {
         }
     }
 
-    /// What was never reached, and too few files with files inside.
+    /// What was never reached. This includes the files with files inside, if there were fewer than
+    /// `least_nests`.
     fn missing(&self, least_nests: u64) -> Vec<String> {
         let mut missing = self.coverage.missing();
         missing.extend(self.stored_coverage.missing());
@@ -160,7 +163,7 @@ impl Outcome {
         missing
     }
 
-    /// Tells of a file that is not generated, if it failed.
+    /// Counts and reports a failure of something that is not generated.
     fn tell(&mut self, name: &str, checked: Result<(), String>) {
         if let Err(reason) = checked {
             self.failures += 1;
@@ -168,7 +171,7 @@ impl Outcome {
         }
     }
 
-    /// Checks one that is generated; a failing one is kept under its name and told of.
+    /// Checks something that is generated. If it fails, it is written under its name and reported.
     fn check_generated(&mut self, generated: &Generated, name: &str) -> io::Result<()> {
         let checked = match generated {
             Generated::File(bytes) | Generated::Nest(bytes) => self.check_file(bytes),
@@ -185,13 +188,13 @@ impl Outcome {
         report(name, &generated.parts(), &reason)
     }
 
-    /// Compares the searches for a mark on short strings.
+    /// Compares the searches for a mark in short strings.
     fn check_searches(&mut self, seed: u64) -> Result<(), String> {
         self.searches += compare_strings(seed, &mut self.search_coverage)?;
         Ok(())
     }
 
-    /// Puts a generated file through all checks.
+    /// Runs all checks on a generated file.
     fn check_file(&mut self, file: &[u8]) -> Result<(), String> {
         self.bytes += file.len() as u64;
         self.longest = self.longest.max(file.len());
@@ -204,13 +207,13 @@ impl Outcome {
         without_panic(|| second::check(file, &answers))?
     }
 
-    /// Compares a long file, and what is said of it with what is told by hand.
+    /// Compares a long file, and then what is reported about it with what is stated by hand.
     fn check_long_file(&mut self, long: &LongFile) -> Result<(), String> {
         let answers = self.compare_file(&long.file)?;
         long.check(&answers)
     }
 
-    /// Counts what a file reaches, and compares what is said of it.
+    /// Counts what a file reaches, and compares what is reported about it.
     fn compare_file(&mut self, file: &[u8]) -> Result<Answers, String> {
         let answers = without_panic(|| Answers::to(file))?;
         self.coverage.count(file, &answers);
@@ -218,7 +221,7 @@ impl Outcome {
         Ok(answers)
     }
 
-    /// Counts what a stored outline reaches, and compares what is said of it.
+    /// Counts what a stored outline reaches, and compares what is reported about it.
     fn check_outline(&mut self, stored: &[u8]) -> Result<(), String> {
         let lent = stored.to_vec();
         let answers = without_panic(|| StoredAnswers::to(stored))?;
@@ -227,7 +230,7 @@ impl Outcome {
         same("the outline after all calls", &lent[..], stored)
     }
 
-    /// Counts what an edit reaches, and compares what comes of it.
+    /// Counts what an edit reaches, and compares its outcome.
     fn check_edit(&mut self, edit: &Edit) -> Result<(), String> {
         let expected = without_panic(|| edit::edited_by_second(edit))??;
         let outcome = expected.as_ref().map(|_| ()).map_err(|&refusal| refusal);
@@ -237,7 +240,7 @@ impl Outcome {
         without_panic(|| edit::compare(edit, &expected, exports::edit, &mut self.calls))?
     }
 
-    /// Counts what a long edit reaches, and compares what comes of it.
+    /// Counts what a long edit reaches, and compares its outcome.
     fn check_long_edit(&mut self, long: &LongEdit) -> io::Result<Result<(), String>> {
         let file = long.file()?;
         self.edit_coverage.count(&file, &long.answers(&file));
@@ -245,17 +248,17 @@ impl Outcome {
     }
 }
 
-/// Whether a block holds what begins like a file.
+/// Whether a block has content that begins like a file.
 fn holds_a_file(record: &Record) -> bool {
     record.inner != Inner::Plain
 }
 
-/// What the work gives; a panic fails only the file at hand.
+/// Does the work and returns what it gives. A panic fails only the file at hand and not the run.
 fn without_panic<T>(work: impl FnOnce() -> T) -> Result<T, String> {
-    catch_unwind(AssertUnwindSafe(work)).map_err(|_| "a panic".to_string())
+    catch_unwind(AssertUnwindSafe(work)).map_err(|_| "a panic occurred".to_string())
 }
 
-/// Writes the parts of a failing one and tells of it.
+/// Writes the parts of something that failed, and reports it.
 fn report(name: &str, parts: &[(&'static str, &[u8])], reason: &str) -> io::Result<()> {
     fs::create_dir_all(FAILING)?;
     for (end, bytes) in parts {

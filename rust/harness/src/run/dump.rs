@@ -1,4 +1,4 @@
-//! Files and what the second program says of them, for a reader that runs elsewhere.
+//! Writes files and what the second program reports about them, for a reader that runs elsewhere.
 
 use crate::calls::numbers::{block_numbers, layout_numbers};
 use crate::generate::corpus::numbered_file;
@@ -7,7 +7,7 @@ use std::fs::{create_dir_all, File};
 use std::io::{self, BufWriter, Write};
 use std::path::Path;
 
-/// Writes `in`, each file after its length, and `out`, a line for each.
+/// Writes `in`, with each file after its length, and `out`, with a line for each file.
 pub fn dump(seed: u64, count: u64, directory: &Path) -> io::Result<()> {
     create_dir_all(directory)?;
     let mut input = BufWriter::new(File::create(directory.join("in"))?);
@@ -23,7 +23,7 @@ pub fn dump(seed: u64, count: u64, directory: &Path) -> io::Result<()> {
     output.flush()
 }
 
-/// What is said of a file, in one line.
+/// What is reported about a file, in one line.
 fn answer_text(file: &[u8]) -> String {
     match read(file) {
         Err(refusal) => format!("{refusal} "),
@@ -31,7 +31,7 @@ fn answer_text(file: &[u8]) -> String {
     }
 }
 
-/// A layout with its blocks; where there is no tree, one word stands for its numbers.
+/// A layout with its blocks. If there is no tree, one word replaces its numbers.
 fn layout_text(layout: &Layout) -> String {
     let [front @ .., _, start, end, room_end, count, verdict, line_end] = layout_numbers(layout);
     let tree = match layout.tree {
@@ -43,7 +43,7 @@ fn layout_text(layout: &Layout) -> String {
     format!("{front}{tree}{back}{blocks}nomore")
 }
 
-/// A block after a bar.
+/// A block, after a bar.
 fn block_text(block: &Block) -> String {
     format!("| {}", words(&block_numbers(block)))
 }

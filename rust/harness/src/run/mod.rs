@@ -1,4 +1,5 @@
-//! What the command does: the run of all comparisons, the files of a run for a reader elsewhere, and the walk with a small stack.
+//! What the command does: the run of all comparisons, the files of a run for a reader that runs
+//! elsewhere, and the walk with a small stack.
 
 mod comparison;
 pub mod dump;

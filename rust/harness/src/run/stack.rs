@@ -1,4 +1,4 @@
-//! How much stack the proved functions take on the files that make them go deepest.
+//! Shows how much stack the proved functions need on the files that make them go deepest.
 
 use crate::calls::numbers::{NUMBER_BYTES, RECORD_NUMBERS};
 use crate::calls::returned::{result_in, Expected};
@@ -8,7 +8,7 @@ use crate::same::same;
 use std::io;
 use std::thread;
 
-/// What a walk of one file gives.
+/// What the walk of one file gives.
 #[derive(Debug, PartialEq)]
 struct Walked {
     count: u64,
@@ -17,8 +17,8 @@ struct Walked {
     last: Expected,
 }
 
-/// Walks the deepest files in a thread with a stack of so many bytes, and compares what comes of
-/// it with a walk on the main stack. A stack that is too small ends the whole process.
+/// Walks the deepest files in a thread with a stack of `bytes` bytes. Compares the outcome with a
+/// walk on the stack of the calling thread. A stack that is too small ends the whole process.
 pub fn walk_with_stack(bytes: usize) -> io::Result<Result<(), String>> {
     let files = deepest();
     let expected: Vec<Walked> = files.iter().map(|file| walked(file)).collect();
@@ -28,7 +28,7 @@ pub fn walk_with_stack(bytes: usize) -> io::Result<Result<(), String>> {
     Ok(same("walk with a small stack", found, Some(expected)))
 }
 
-/// What count, outline, records and record say of a file.
+/// What the functions for count, outline, records and the last record give for a file.
 fn walked(file: &[u8]) -> Walked {
     let count = exports::count(file);
     let length = RECORD_NUMBERS * NUMBER_BYTES;
