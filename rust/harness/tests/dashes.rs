@@ -1,6 +1,6 @@
-//! Indexes with dashes, as run: the verdict on both sides of every rule.
+//! Runs the proved functions on indexes with dashes: the verdict on both sides of every rule.
 //!
-//! Most indexes stand after the file of 66 bytes that has an empty block at 12.
+//! Most indexes follow the file of 66 bytes that has an empty block at 12.
 
 mod common;
 
@@ -12,32 +12,34 @@ use std::collections::HashSet;
 
 /// The first two lines of every index.
 const FIRST_LINES: &str = "#ASDF BLOCK INDEX\n%YAML 1.1\n";
-/// The index of a block at 12, as it is written.
+/// The index of a block at 12, as the functions write it.
 const WRITTEN: &[u8] = b"#ASDF BLOCK INDEX\n%YAML 1.1\n--- [12]\n...\n";
 
-/// A file with an index of these lines from its start line on, and no end line but one that is among them.
+/// A file with an index. `rest` holds the lines from the start line on, with the end line if there
+/// is one.
 fn with_index(file: &[u8], rest: &str) -> Vec<u8> {
     [file, FIRST_LINES.as_bytes(), rest.as_bytes()].concat()
 }
 
-/// The verdict on the index of these lines after one block.
+/// The verdict on an index with these lines after one block.
 fn after_one_block(rest: &str) -> &'static str {
     verdict(&with_index(&one_block(), rest))
 }
 
-/// The verdict on the index of these lines after blocks at 12 and 66.
+/// The verdict on an index with these lines after blocks at 12 and 66.
 fn after_two_blocks(rest: &str) -> &'static str {
     verdict(&with_index(&file_of([&b""[..]; 2]), rest))
 }
 
-/// Each of these as the lines of the index of one block has to have this verdict.
+/// Asserts this verdict for each of these lists, as the index of a file with one block.
 fn assert_all(expected: &str, lists: &[&str]) {
     for list in lists {
         assert_eq!(after_one_block(list), expected, "{list:?}");
     }
 }
 
-/// Each of these lines, before an end line, in place of the only line with a dash: the form has to be wrong.
+/// Asserts that the form is wrong if one of these lines replaces the only line with a dash, before
+/// an end line.
 fn assert_wrong_lines(lines: &[&str]) {
     for line in lines {
         for line_end in ["\n", "\r\n"] {
@@ -274,7 +276,7 @@ fn brackets_keep_their_own_spaces() {
     );
 }
 
-/// All texts of at most so many of these parts.
+/// All texts that consist of at most `most` of these parts.
 fn texts(parts: &[&str], most: usize) -> Vec<String> {
     let mut texts = vec![String::new()];
     let mut longest = texts.clone();
@@ -286,7 +288,8 @@ fn texts(parts: &[&str], most: usize) -> Vec<String> {
     texts
 }
 
-/// After one block, each of these has to have the verdict of the second program, and every verdict on an index has to come up.
+/// Asserts that each of these lists, after one block, has the verdict of the second program. Every
+/// verdict on an index has to occur.
 fn assert_as_second(lists: impl Iterator<Item = String>) {
     let mut found = HashSet::new();
     for list in lists {

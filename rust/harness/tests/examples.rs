@@ -1,4 +1,4 @@
-//! The worked examples of outlines, indexes and edits, as run: exact bytes.
+//! Runs the worked examples of outlines, indexes and edits, and compares exact bytes.
 
 mod common;
 
@@ -9,7 +9,7 @@ use asdf_harness::format::block::block_header;
 use asdf_harness::format::text::{HEADER_LINE, LEAST_TREE};
 use common::{assert_writes, one_block, verdict};
 
-/// A header line, this in the room of a tree, and an empty block.
+/// A file with a header line, these bytes as the room of a tree, and an empty block.
 fn file_with(room: &[u8]) -> Vec<u8> {
     [HEADER_LINE, room, &block_header(0, 0)].concat()
 }
@@ -81,11 +81,12 @@ fn p13_edit_with_one_byte_too_many_is_refused_with_20() {
     assert_eq!(file, one_tree());
 }
 
-/// Where the smallest tree ends; it begins at 12.
+/// Where the smallest tree ends. It begins at 12.
 const TREE_END: usize = 30;
 
-/// Where the room of the smallest tree ends, with this after it up to the end of the file. By the layout, if the file is
-/// accepted; both proved searches have to find the same.
+/// Where the room of the smallest tree ends if the file goes on with the bytes `rest` to its end.
+/// Both proved searches have to find the same place. If the file is accepted, its layout has to
+/// name this place too.
 fn room_end(rest: &[u8]) -> usize {
     let file = [HEADER_LINE, LEAST_TREE, rest].concat();
     let found = exports::find_mark(&file, TREE_END);
@@ -97,7 +98,7 @@ fn room_end(rest: &[u8]) -> usize {
     found
 }
 
-/// Where the room ends if these bytes and an empty block stand after the tree.
+/// Where the room ends if these bytes and an empty block follow the tree.
 fn room_end_before_a_block(space: &[u8]) -> usize {
     room_end(&[space, &block_header(0, 0)].concat())
 }

@@ -1,6 +1,7 @@
-//! Space between blocks, as run: what is found after a gap, on both sides of every rule.
+//! Runs the proved functions on files with space between blocks: what is found after a gap, on both
+//! sides of every rule.
 //!
-//! Most files begin with the one of 66 bytes that has an empty block at 12.
+//! Most files begin with the file of 66 bytes that has an empty block at 12.
 
 mod common;
 
@@ -17,7 +18,8 @@ const UPDATED_GAP: &[u8] = include_bytes!("../../../tests/data/updated-gap.asdf"
 
 const STREAMED: u32 = 1;
 
-/// Where fields stand in a block's header: both bytes of H, and the lowest byte of each size.
+/// Places in the header of a block: both bytes of the header size, and the lowest byte of each of
+/// the other sizes.
 const HIGH_H: usize = 4;
 const LOW_H: usize = 5;
 const ALLOCATED: usize = 21;
@@ -39,7 +41,8 @@ fn block_with(place: usize, byte: u8) -> Vec<u8> {
     block
 }
 
-/// A block for each number from 11 to 15, that is refused with it even if an empty block follows.
+/// A wrong block for each number from 11 to 15. It is refused with this number even if an empty
+/// block follows.
 fn wrong_blocks() -> [(Vec<u8>, u64); 5] {
     [
         (block_with(HIGH_H, 0xFF), 11),
@@ -50,17 +53,18 @@ fn wrong_blocks() -> [(Vec<u8>, u64); 5] {
     ]
 }
 
-/// The file with one block, and these parts after it.
+/// The file with one block, followed by these parts.
 fn after_one_block(parts: &[&[u8]]) -> Vec<u8> {
     [&one_block()[..], &parts.concat()].concat()
 }
 
-/// The file with as many empty blocks as there may be, and this after them, at 3468.
+/// The file with as many empty blocks as allowed. The bytes `tail` follow at 3468.
 fn after_64_blocks(tail: &[u8]) -> Vec<u8> {
     [&file_of([&b""[..]; 64]), tail].concat()
 }
 
-/// Asks for the block of an ordinal, which has to be there; its offset, flags, allocated size and used size.
+/// Asks for the block with this ordinal, which has to exist. Returns its offset, flags, allocated
+/// size and used size.
 fn block(file: &[u8], ordinal: u64) -> [u64; 4] {
     let [number, offset, _, flags, _, allocated, used, ..] =
         numbers::<10>(|out| exports::block(file, ordinal, out));
@@ -68,7 +72,8 @@ fn block(file: &[u8], ordinal: u64) -> [u64; 4] {
     [offset, flags, allocated, used]
 }
 
-/// A file that is accepted with blocks at these offsets, none of them with a file inside, and this verdict.
+/// Asserts that a file is accepted with blocks at these offsets and with this verdict. No block may
+/// hold a file.
 fn assert_blocks(file: &[u8], offsets: &[u64], expected: &str) {
     let [.., blocks, _verdict, _line_end] = layout(file);
     let count = offsets.len() as u64;
@@ -81,14 +86,15 @@ fn assert_blocks(file: &[u8], offsets: &[u64], expected: &str) {
     assert_eq!(exports::block(file, count, &mut []), 0);
 }
 
-/// Asks for a record; its depth, its offset in the outermost file, its inner state and the number and place of a refusal.
+/// Asks for a record. Returns its depth, its offset in the outermost file, its inner state, and the
+/// number and place of a refusal.
 fn record(file: &[u8], number: u64) -> [u64; 5] {
     let [depth, offset, inner, refusal, place, ..] =
         numbers::<15>(|out| exports::record(file, number, out));
     [depth, offset, inner, refusal, place]
 }
 
-/// A file with these records, and no more.
+/// Asserts that a file has these records and no more.
 fn assert_records(file: &[u8], expected: &[[u64; 5]]) {
     assert_eq!(exports::count(file), expected.len() as u64);
     for (number, expected) in (0..).zip(expected) {
@@ -96,7 +102,7 @@ fn assert_records(file: &[u8], expected: &[[u64; 5]]) {
     }
 }
 
-/// A file that every function refuses with this number at this place.
+/// Asserts that every function refuses a file with this number at this place.
 fn assert_refused(file: &[u8], number: u64, place: u64) {
     let refused = (number << 56) + place;
     let writers: [Writer; 4] = [

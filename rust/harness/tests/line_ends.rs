@@ -1,4 +1,5 @@
-//! The line end of the header, and the index whose lines end the same way, as run: exact bytes.
+//! Runs the proved functions on both line ends of a header, and compares exact bytes. The lines of
+//! a written index end like the header.
 
 mod common;
 
@@ -17,36 +18,37 @@ const LF: u64 = 0;
 const CRLF: u64 = 1;
 /// What a lent buffer holds before a call.
 const UNTOUCHED: u8 = 0xA5;
-/// What is returned for a buffer that is too short, and where there can be no index.
+/// What is returned if a buffer is too short, and if there can be no index.
 const TOO_SHORT: u64 = 21 << 56;
 const NO_INDEX: u64 = 22 << 56;
 /// What is returned for a malformed version line.
 const MALFORMED: u64 = (3 << 56) + 6;
 
-/// A file of this front and an empty block.
+/// A file that consists of `front` and an empty block.
 fn with_block(front: &[u8]) -> Vec<u8> {
     [front, &block_header(0, 0)].concat()
 }
 
-/// The smallest file with a block and 0D 0A.
+/// The smallest file with a block and a header that ends with 0D 0A.
 fn dos_block() -> Vec<u8> {
     with_block(DOS_HEADER)
 }
 
-/// An index of this list, with 0A.
+/// An index with this list. Its lines end with 0A.
 fn index(list: &str) -> Vec<u8> {
     format!("#ASDF BLOCK INDEX\n%YAML 1.1\n--- [{list}]\n...\n").into_bytes()
 }
 
-/// The same with 0D 0A.
+/// The same index with lines that end with 0D 0A.
 fn dos_index(list: &str) -> Vec<u8> {
     format!("#ASDF BLOCK INDEX\r\n%YAML 1.1\r\n--- [{list}]\r\n...\r\n").into_bytes()
 }
 
-/// A header line, the index of a list with the same line end, and the length of one.
+/// A header line, the function that makes an index with the same line end, and the length of an
+/// index.
 type Kind = (&'static [u8], fn(&str) -> Vec<u8>, usize);
 
-/// The places of 64 empty blocks, one after another from here on.
+/// The places of 64 empty blocks that follow one another from `first` on.
 fn places_from(first: usize) -> Vec<usize> {
     let length = block_header(0, 0).len();
     (0..MOST_BLOCKS)
@@ -54,19 +56,20 @@ fn places_from(first: usize) -> Vec<usize> {
         .collect()
 }
 
-/// The list of these places in an index.
+/// These places as the list of an index.
 fn list_of(places: &[usize]) -> String {
     let numbers: Vec<String> = places.iter().map(usize::to_string).collect();
     numbers.join(", ")
 }
 
-/// The number of the header's line end: the last of the layout.
+/// The number of the line end of the header, which is the last number of the layout.
 fn line_end(file: &[u8]) -> u64 {
     let [.., line_end] = layout(file);
     line_end
 }
 
-/// Whether a file's index is this text, and good after its last block, which ends the file.
+/// Asserts that the index of a file is this text, and that it is good after the last block. The
+/// file has to end with this block.
 fn assert_index(file: &[u8], text: &[u8]) {
     assert_writes(|out| exports::index(file, out), text);
     assert_eq!(verdict(&[file, text].concat()), "good");
@@ -154,15 +157,15 @@ fn index_of_64_blocks_has_404_bytes_with_0d_0a_and_400_with_0a() {
     }
 }
 
-/// A file has this index, whatever is lent for it.
+/// Asserts that a file has this index, whatever buffer is lent for it.
 fn assert_written_exactly(file: &[u8], text: &[u8]) {
     for lent in 0..text.len() + 3 {
         assert_written(file, text, lent);
     }
 }
 
-/// A file has this index. With so many bytes lent it is written and the bytes after it stay, or it is refused with 21 and
-/// all of them stay.
+/// Asserts that a file has this index if a buffer of `lent` bytes is lent. If the index fits, the
+/// bytes after it must not change. Otherwise it is refused with 21 and no byte may change.
 fn assert_written(file: &[u8], text: &[u8], lent: usize) {
     let mut buffer = vec![UNTOUCHED; lent];
     let returned = exports::index(file, &mut buffer);

@@ -1,9 +1,10 @@
-//! The stack that the walk of files inside files takes.
+//! Tests how much stack the walk of files inside files takes.
 
 use asdf_harness::run::stack::walk_with_stack;
 
-/// 32 KiB: the stack grows with the depth of the files and not with their blocks. `asdf-harness --stack BYTES` tries others; a
-/// system may give a thread more than was asked for.
+/// 32 KiB: the stack grows with the depth of the files and not with the number of their blocks. Use
+/// `asdf-harness --stack BYTES` to try other sizes. A system may give a thread more than was asked
+/// for.
 const STACK_BYTES: usize = 1 << 15;
 
 #[test]

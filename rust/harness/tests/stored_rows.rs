@@ -1,44 +1,46 @@
-//! All rows of a stored outline as numbers: exact bytes, both sides of each rule, and buffers that fit, do not, or are
-//! longer.
+//! All rows of a stored outline as numbers. The tests compare exact bytes, on both sides of each
+//! rule, with buffers that fit, that are too short, or that are longer.
 
 use asdf_harness::calls::exports::stored_rows;
 
 /// What every lent buffer holds before a call.
 const UNTOUCHED: u8 = 0xA5;
-/// The bytes of a row as numbers.
+/// The length of a row as numbers, in bytes.
 const ROW: usize = 80;
 
-/// A row that keeps every rule: ordinal, header size and sizes at their limits, all flags, inner state 3.
+/// A row that keeps every rule. Its ordinal, header size and sizes are at their limits, all flags
+/// are set, and the inner state is 3.
 const FIRST: [u8; 16] = [
     0x1F, 63, 0, 48, 0, 0, 0, 12, 0xFF, 0xFF, 0xFF, 0xFF, 0xFF, 0xFF, 0xFF, 0xFF,
 ];
 const FIRST_NUMBERS: [u64; 10] = [0, 63, 12, 48, 0xFFFF_FFFF, 0xFFFF_FFFF, 1, 1, 1, 3];
 
-/// A row one deeper, without flags.
+/// A row one level deeper, without flags.
 const SECOND: [u8; 16] = [
     0x20, 0, 0xFF, 0xFF, 0xFF, 0xFF, 0xFF, 0xFF, 0, 0, 0, 2, 0, 0, 0, 1,
 ];
 const SECOND_NUMBERS: [u64; 10] = [1, 0, 0xFFFF_FFFF, 65_535, 2, 1, 0, 0, 0, 0];
 
-/// A refusal with its place, as it is returned.
+/// A refusal with its place, in the form in which it is returned.
 const fn refusal(number: u64, place: u64) -> u64 {
     (number << 56) + place
 }
 
-/// What is returned for a buffer of so many bytes, and what it holds then.
+/// What is returned for a buffer of `length` bytes, and what the buffer holds then.
 fn asked(stored: &[u8], length: usize) -> (u64, Vec<u8>) {
     let mut buffer = vec![UNTOUCHED; length];
     (stored_rows(stored, &mut buffer), buffer)
 }
 
-/// The outline is refused so, whatever buffer is lent, and no byte changes.
+/// Asserts that the outline is refused with this word, whatever buffer is lent, and that no byte
+/// changes.
 fn assert_refused(stored: &[u8], word: u64) {
     for length in [0, 1, ROW, 3 * ROW] {
         assert_eq!(asked(stored, length), (word, vec![UNTOUCHED; length]));
     }
 }
 
-/// Its rows are these numbers.
+/// Asserts that the rows of the outline are these numbers.
 fn assert_rows(stored: &[u8], rows: &[[u64; 10]]) {
     let numbers = rows.as_flattened().iter().map(|n| n.to_be_bytes());
     let bytes: Vec<u8> = numbers.flatten().collect();
@@ -56,7 +58,7 @@ fn assert_rows(stored: &[u8], rows: &[[u64; 10]]) {
     }
 }
 
-/// The first row, then the second with this change.
+/// The first row, and then the second row with this change.
 fn changed(change: impl Fn(&mut [u8; 16])) -> Vec<u8> {
     let mut second = SECOND;
     change(&mut second);

@@ -1,5 +1,5 @@
-//! Runs the proved listing program on files, and compares what it prints with the stored listings and with the second
-//! program's.
+//! Runs the proved listing program on files. Compares what it prints with the stored listings and
+//! with the listings of the second program.
 
 #![deny(unsafe_code)]
 
@@ -19,22 +19,23 @@ use std::time::Duration;
 const USAGE: &str = "usage: asdf-listings PROGRAM [SEED] [COUNT]
 
 Runs PROGRAM on the cases, on the real files, on files at the limit of its input, on COUNT
-generated files (5,000 if it is not said) and as many with files inside. The status is 1 if
-something differs or a kind of listing never came; the first 20 failing files are written as
-build/failing/listing-NUMBER.asdf.
+generated files (5,000 by default) and on COUNT generated files with files inside. The status is
+1 if something differs, if a case or a real file is missing, or if a kind of listing never
+occurred. The first 20 failing files are written as build/failing/listing-NUMBER.asdf.
 ";
 const DEFAULT_SEED: u64 = 1;
 const DEFAULT_COUNT: u64 = 5_000;
 
 const ROOT: &str = concat!(env!("CARGO_MANIFEST_DIR"), "/../..");
 const FAILING: &str = "build/failing";
-/// So many failing files are written and told of.
+/// How many failing files are written and reported at most.
 const MOST_TOLD: u64 = 20;
-/// The cases and the real files that are there; more may come, none may get lost.
+/// The minimum numbers of cases and of real files. More may be added, but none may be lost.
 const LEAST_CASES: usize = 67;
 const LEAST_REAL_FILES: usize = 18;
 const STREAMED: u32 = 1;
-/// Of so many generated files one comes in two parts with a pause between, and one is made as long as the limit.
+/// Of this many generated files, one comes in two parts with a pause between them. Three others are
+/// made as long as the limit, one byte shorter and one byte longer.
 const ONE_IN: u64 = 50;
 
 /// The program, and what it has printed so far.
@@ -80,7 +81,7 @@ fn main() -> ExitCode {
 }
 
 impl Run {
-    /// Runs the program on everything, tells what came, and says whether all is well.
+    /// Runs the program on everything, prints the numbers, and returns whether all is well.
     fn all(&mut self, seed: u64, count: u64) -> io::Result<bool> {
         let cases = self.cases()?;
         let real = self.real_files()?;
@@ -107,7 +108,8 @@ impl Run {
         Ok(complete && listed > 0 && refused > 0 && too_long > 0 && different == 0)
     }
 
-    /// The cases, whose listings stand one after another, each after its file's name.
+    /// Runs the program on the cases. One file stores all their listings, each after the name of
+    /// its file.
     fn cases(&mut self) -> io::Result<usize> {
         let folder = Path::new(ROOT).join("crates/cases");
         let stored = fs::read(folder.join("stdout"))?;
@@ -120,13 +122,13 @@ impl Run {
         }
         if together != stored {
             self.different += 1;
-            eprintln!("asdf-listings: the cases' listings are not those of crates/cases/stdout");
+            eprintln!("asdf-listings: the listings of the cases differ from crates/cases/stdout");
         }
         let files = fs::read_dir(folder.join("data"))?.count();
         Ok(names.lines().count().min(files))
     }
 
-    /// The real files, each with its listing beside it.
+    /// Runs the program on the real files. The listing of each is stored next to it.
     fn real_files(&mut self) -> io::Result<usize> {
         let mut found = 0;
         for entry in fs::read_dir(Path::new(ROOT).join("tests/data"))? {
@@ -143,7 +145,8 @@ impl Run {
         Ok(found)
     }
 
-    /// A generated file: most as they are, some in two parts, some filled with zeros up to the limit and a byte around it.
+    /// Runs the program on a generated file. Most files stay as they are. Some come in two parts.
+    /// Some are cut or filled with zeros to the length of the limit, or to one byte less or more.
     fn generated(&mut self, mut file: Vec<u8>, number: u64) -> io::Result<()> {
         let turn = number % ONE_IN;
         if turn < 3 {
@@ -154,7 +157,8 @@ impl Run {
         Ok(())
     }
 
-    /// Runs the program on a file, with a pause after its first bytes, and compares. Answers what it printed.
+    /// Runs the program on a file, with a pause after its first `first` bytes, and compares.
+    /// Returns what the program printed.
     fn compare(&mut self, file: &[u8], expected: &[u8], first: usize) -> io::Result<Vec<u8>> {
         match expected {
             [b't', b'o', ..] => self.too_long += 1,
@@ -168,19 +172,20 @@ impl Run {
         Ok(printed.unwrap_or_default())
     }
 
-    /// Counts a failing file, writes it and tells of it.
+    /// Counts a failing file, writes it and reports it.
     fn keep(&mut self, file: &[u8]) -> io::Result<()> {
         if self.different < MOST_TOLD {
             let path = Path::new(FAILING).join(format!("listing-{}.asdf", self.different));
             fs::create_dir_all(FAILING)?;
             fs::write(&path, file)?;
-            eprintln!("asdf-listings: {} is listed otherwise", path.display());
+            eprintln!("asdf-listings: {} is listed differently", path.display());
         }
         self.different += 1;
         Ok(())
     }
 
-    /// What the program prints for a file; nothing where its status is not 0 or it says something on standard error.
+    /// What the program prints for a file. There is no answer if its status is not 0 or it writes
+    /// to standard error.
     fn print(&self, file: &[u8], first: usize) -> io::Result<Option<Vec<u8>>> {
         let mut child = Command::new(&self.program)
             .stdin(Stdio::piped())
@@ -192,7 +197,8 @@ impl Run {
             if first > 0 {
                 sleep(Duration::from_millis(2));
             }
-            // A program that has seen that its input is too long reads no further.
+            // This write may fail: a program that has seen that its input is too long reads no
+            // further.
             let _ = input.write_all(&file[first..]);
         }
         let output = child.wait_with_output()?;
@@ -201,8 +207,9 @@ impl Run {
     }
 }
 
-/// Files at the limit: nothing, one block up to the limit and a byte around it, bytes that are no file, much more than is
-/// taken, and as many rows as a regular file of this length has.
+/// Files at the limit: an empty file, far more bytes than the program takes, and a regular nest of
+/// files with many rows. Then a file with one block and bytes that are no file, each at the limit,
+/// one byte below it and one byte above it.
 fn limits() -> Vec<Vec<u8>> {
     let mut files = vec![
         Vec::new(),

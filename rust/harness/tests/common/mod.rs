@@ -6,9 +6,9 @@ use asdf_harness::files::nests::file_of;
 
 /// What every lent buffer holds before a call.
 const UNTOUCHED: u8 = 0xA5;
-/// The bytes of every lent buffer.
+/// The length of every lent buffer.
 const LENT: usize = 100;
-/// The bytes of a number.
+/// The length of a number in bytes.
 const NUMBER: usize = 8;
 /// The words for the verdicts on an index, in the order of their numbers.
 const VERDICTS: [&str; 4] = ["absent", "good", "ignored-form", "ignored-list"];
@@ -43,7 +43,7 @@ pub fn assert_writes(ask: impl FnOnce(&mut [u8]) -> u64, expected: &[u8]) {
     assert_eq!(buffer, beginning(expected));
 }
 
-/// Asks a writer, which has to write so many numbers.
+/// Asks a writer, which has to write `N` numbers.
 pub fn numbers<const N: usize>(ask: impl FnOnce(&mut [u8]) -> u64) -> [u64; N] {
     let mut bytes = vec![UNTOUCHED; N * NUMBER];
     assert_eq!(ask(&mut bytes), bytes.len() as u64);

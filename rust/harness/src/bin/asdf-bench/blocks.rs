@@ -1,34 +1,36 @@
-//! Files with many blocks, or with large ones, whose rows are asked for.
+//! Files with many blocks or with large blocks, for which outlines and records are measured.
 
 use crate::read::{LINE_OF_41, MIB};
 use asdf_harness::files::nests::{file_of, many_gaps, path, tree};
 use asdf_harness::format::limits::{LEVELS, MOST_BLOCKS};
 use asdf_second::{most_rows, row_count};
 
-/// What a refused file begins with: it has to be read to its end to see that its tree has none.
+/// The beginning of a refused file. Such a file has to be read to its end, because only there it
+/// shows that its tree does not end.
 const ENDLESS_TREE: &[u8] = b"#ASDF 1.0.0\n%YAML 1.1\n---\n";
-/// The lines of a refused file.
+/// How many lines a refused file has after its beginning.
 const REFUSED_LINES: usize = 24;
-/// The blocks of a file with large ones.
+/// How many blocks a file with large blocks has.
 const LARGE_BLOCKS: usize = 10;
 
-/// A file whose rows are measured.
+/// A file for which the rows are measured.
 pub struct Case {
     pub name: &'static str,
     pub file: Vec<u8>,
     lent: Lent,
 }
 
-/// For how many rows a buffer is lent.
+/// How many rows the lent buffer has room for.
 enum Lent {
-    /// For as many as a file of this length can have.
+    /// As many as a file of this length can have.
     Most,
-    /// For those that the file has, so that the buffer might not do.
+    /// As many as the file has. Only when the rows are counted is it known that such a buffer is
+    /// long enough.
     Exact,
 }
 
 impl Case {
-    /// For how many rows a buffer is lent.
+    /// How many rows the lent buffer has room for.
     pub fn rows_lent(&self) -> usize {
         match self.lent {
             Lent::Most => most_rows(self.file.len()),
@@ -67,14 +69,14 @@ pub fn cases() -> Vec<Case> {
     ]
 }
 
-/// 32 files of 32 blocks, each with a file that is refused after its last byte.
+/// 32 files of 32 blocks. Each block holds a file that is refused after its last byte.
 fn refused_files() -> Vec<u8> {
     let refused = [ENDLESS_TREE, &LINE_OF_41.repeat(REFUSED_LINES)].concat();
     let inner = file_of([&refused[..]; 32]);
     file_of([&inner[..]; 32])
 }
 
-/// A few blocks with large contents, as most files have them.
+/// A few blocks with large contents, as in most files.
 fn large_blocks() -> Vec<u8> {
     let content = vec![b'x'; MIB];
     file_of([&content[..]; LARGE_BLOCKS])

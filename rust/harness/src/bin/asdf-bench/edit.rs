@@ -1,4 +1,4 @@
-//! The edit in place, beside the second program's.
+//! Measures the edit in place, next to that of the second program.
 
 use crate::measure::medians;
 use crate::read::{tree_text, GIB, LINE_OF_41, MIB};
@@ -8,12 +8,12 @@ use asdf_harness::files::sparse::SparseFile;
 use std::hint::black_box;
 use std::io;
 
-/// The room of a small tree.
+/// The length of the room of a small tree.
 const SMALL_ROOM: usize = 100;
-/// The bytes of a block after a room.
+/// The length of the block after a room.
 const LEAST_BLOCK: usize = 1_000;
 
-/// A file with a room, and a text for it.
+/// A file with a room, and a text for this room.
 struct Case {
     name: &'static str,
     length: usize,
@@ -55,11 +55,11 @@ fn cases() -> [Case; 3] {
     ]
 }
 
-/// Measures one edit and prints what came of it. Every call finds what the one before it left.
+/// Measures one edit and prints the times. Every call finds the file as the call before it left it.
 fn print_row(case: &Case) -> io::Result<()> {
     let (mut ours, mut second) = (edited(case, our_edit)?, edited(case, second_edit)?);
     if ours[..] != second[..] {
-        return Err(io::Error::other("edited files that differ"));
+        return Err(io::Error::other("the edited files differ"));
     }
     let (our_file, second_file) = (ours.lend()?, second.lend()?);
     let [ours, second] = medians([
@@ -74,21 +74,21 @@ fn print_row(case: &Case) -> io::Result<()> {
     Ok(())
 }
 
-/// The file of a case after an edit, which has to be accepted.
+/// The file of a case after the edit. The edit has to be accepted.
 fn edited(case: &Case, edit: fn(&mut [u8], &[u8]) -> usize) -> io::Result<SparseFile> {
     let mut file = file_with_room(case.length, case.room)?;
     match edit(file.lend()?, &case.text) {
         0 => Ok(file),
-        _ => Err(io::Error::other("a refused edit")),
+        _ => Err(io::Error::other("the edit was refused")),
     }
 }
 
-/// Edits by the proved function; 0 where that is done.
+/// Edits with the proved function. Returns 0 if the edit is made.
 fn our_edit(file: &mut [u8], text: &[u8]) -> usize {
     exports::edit(file, black_box(text)) as usize
 }
 
-/// Edits by the second program; 0 where that is done.
+/// Edits with the second program. Returns 0 if the edit is made.
 fn second_edit(file: &mut [u8], text: &[u8]) -> usize {
     usize::from(asdf_second::edit(file, black_box(text)).is_err())
 }

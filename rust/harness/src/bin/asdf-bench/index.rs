@@ -8,10 +8,11 @@ use asdf_harness::format::text::HEADER_LINE;
 
 /// The lines of an index before its start line.
 const INDEX_BEGIN: &str = "#ASDF BLOCK INDEX\n%YAML 1.1\n";
-/// The greatest number that an index may list. It takes ten digits.
+/// The highest number that an index may list. It takes ten digits.
 const GREATEST: usize = 9_999_999_999;
 
-/// Files with their names: the index of as many blocks as there may be, and a long one of other numbers.
+/// Files with their names. Two have as many blocks as allowed and the index of these blocks. Two
+/// have one block and a long index of other numbers.
 pub fn indexed_files() -> [(&'static str, Vec<u8>); 4] {
     let block = block_header(0, 0).len();
     let offsets: Vec<usize> = (0..MOST_BLOCKS)
@@ -33,7 +34,7 @@ pub fn indexed_files() -> [(&'static str, Vec<u8>); 4] {
     ]
 }
 
-/// The index of these numbers in brackets, as it is written.
+/// The index of these numbers in brackets, in the form in which the functions write an index.
 fn in_brackets(numbers: &[usize]) -> String {
     let numbers: Vec<String> = numbers.iter().map(usize::to_string).collect();
     format!("{INDEX_BEGIN}--- [{}]\n...\n", numbers.join(", "))

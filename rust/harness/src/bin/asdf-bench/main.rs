@@ -1,4 +1,5 @@
-//! The benchmark: the proved functions against the second program's and a bare search of libc.
+//! The benchmark: measures the proved functions against those of the second program and a bare
+//! search of libc.
 
 #![deny(unsafe_code)]
 

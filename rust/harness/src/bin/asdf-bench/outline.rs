@@ -1,4 +1,4 @@
-//! Outlines, each beside that of a plain file of the same length.
+//! Measures outlines, each next to that of a plain file of the same length.
 
 use crate::blocks::{cases, Case};
 use crate::measure::medians;
@@ -9,7 +9,7 @@ use asdf_second::{most_rows, ROW_LENGTH};
 use std::hint::black_box;
 use std::io;
 
-/// The bytes of a plain file that are not its tree's content.
+/// How many bytes of a plain file are not content of its tree.
 const PLAIN_FRAME: usize = 84;
 /// Measures every file and prints a line for each.
 pub fn print_table() -> io::Result<()> {
@@ -35,7 +35,7 @@ fn plain_file(length: usize) -> io::Result<SparseFile> {
     tree_file(&LINE_OF_41.repeat(lines), b"")
 }
 
-/// Measures one file and its plain one, and prints what came of it.
+/// Measures one file and the plain file of its length, and prints the times.
 fn print_row(case: &Case) -> io::Result<()> {
     let plain = plain_file(case.file.len())?;
     let rows = check_outline(case)?;
@@ -57,7 +57,7 @@ fn print_row(case: &Case) -> io::Result<()> {
     Ok(())
 }
 
-/// The number of rows, if both outlines have it.
+/// The number of rows. Fails unless both outlines have the same number.
 fn check_outline(case: &Case) -> io::Result<usize> {
     let lent = case.rows_lent();
     let (ours, second) = (
@@ -68,18 +68,18 @@ fn check_outline(case: &Case) -> io::Result<usize> {
         Ok(ours / ROW_LENGTH)
     } else {
         Err(io::Error::other(format!(
-            "outline of {ours} bytes and not {second}"
+            "an outline of {ours} bytes instead of {second}"
         )))
     }
 }
 
-/// Writes the outline by the proved function, into a buffer for so many rows.
+/// Writes the outline with the proved function, into a buffer for `rows` rows.
 fn our_outline(file: &[u8], rows: usize) -> impl FnMut() -> usize + '_ {
     let mut out = vec![0; rows * ROW_LENGTH];
     move || exports::outline(black_box(file), &mut out) as usize
 }
 
-/// Writes the outline by the second program, into a buffer for so many rows.
+/// Writes the outline with the second program, into a buffer for `rows` rows.
 fn second_outline(file: &[u8], rows: usize) -> impl FnMut() -> usize + '_ {
     let mut out = vec![0; rows * ROW_LENGTH];
     move || asdf_second::outline(black_box(file), &mut out).unwrap_or(0)

@@ -1,4 +1,5 @@
-//! The layout of one file by itself, beside the second program and a bare search of libc.
+//! Measures the layout of one file, without the files inside it, next to the second program and a
+//! bare search of libc.
 
 use crate::index::indexed_files;
 use crate::measure::medians;
@@ -17,17 +18,17 @@ pub const MIB: usize = 1 << 20;
 pub const GIB: usize = 1 << 30;
 const BLOCKS: usize = 64;
 
-/// The lines around a tree's content.
+/// The lines before and after the content of a tree.
 const TREE_BEGIN: &[u8] = b"%YAML 1.1\n---\n";
 const TREE_END: &[u8] = b"...\n";
 
-/// A line of 40 bytes and its end.
+/// A line of 40 bytes and its line end.
 pub const LINE_OF_41: &[u8] = b"xxxxxxxxxxxxxxxxxxxxxxxxxxxxxxxxxxxxxxxx\n";
 
 /// A search of libc that has to look at the same bytes as a reader.
 type Floor = fn(&[u8]) -> usize;
 
-/// A file to be read.
+/// A file that is read.
 struct Case {
     name: &'static str,
     file: SparseFile,
@@ -84,7 +85,7 @@ fn cases() -> io::Result<Vec<Case>> {
     Ok(cases)
 }
 
-/// A file whose tree has 1 MiB of content in copies of a line.
+/// A file with a tree whose content is 1 MiB of copies of one line.
 fn tree_case(name: &'static str, line: &[u8]) -> io::Result<Case> {
     Ok(Case {
         name,
@@ -93,7 +94,8 @@ fn tree_case(name: &'static str, line: &[u8]) -> io::Result<Case> {
     })
 }
 
-/// A file with as many empty blocks as there may be, and these bytes before each but the first.
+/// A file with as many empty blocks as allowed, and the bytes `gap` before each block except the
+/// first.
 fn gap_case(name: &'static str, gap: &[u8]) -> io::Result<Case> {
     let file = file_with_gaps([&b""[..]; BLOCKS], gap);
     Ok(Case {
@@ -103,19 +105,20 @@ fn gap_case(name: &'static str, gap: &[u8]) -> io::Result<Case> {
     })
 }
 
-/// A file with an empty block and zeros after it. They are written, so that they take memory as those of a file do.
+/// A file with an empty block and zeros after it. The zeros are written, so that they take memory
+/// like those of a real file.
 fn block_before_zeros() -> io::Result<SparseFile> {
     let zeros = vec![0; 64 * MIB];
     let file = [HEADER_LINE, &block_header(0, 0), &zeros].concat();
     SparseFile::new(file.len(), &[(0, &file)])
 }
 
-/// A megabyte of random bytes, in which no mark stands.
+/// A megabyte of random bytes without a mark.
 pub fn random_bytes() -> Vec<u8> {
     Rng::for_file(1, 0).bytes(MIB)
 }
 
-/// A file with this content of its tree, this free space, and an empty block.
+/// A file with a tree of this content, this free space, and an empty block.
 pub fn tree_file(content: &[u8], free_space: &[u8]) -> io::Result<SparseFile> {
     let (tree, block) = (tree_text(content), block_header(0, 0));
     let file = [HEADER_LINE, &tree, free_space, &block].concat();
@@ -127,7 +130,7 @@ pub fn tree_text(content: &[u8]) -> Vec<u8> {
     [TREE_BEGIN, content, TREE_END].concat()
 }
 
-/// Finds each line's end with memchr, and counts them.
+/// Finds the end of each line with `memchr`, and counts the lines.
 fn find_line_ends(file: &[u8]) -> usize {
     let (mut start, mut lines) = (0, 0);
     while let Some(length) = exports::find_byte(&file[start..], b'\n') {
@@ -137,18 +140,18 @@ fn find_line_ends(file: &[u8]) -> usize {
     lines
 }
 
-/// Finds the first mark with memmem.
+/// Finds the first mark with `memmem`.
 fn find_mark(file: &[u8]) -> usize {
     exports::find_bytes(file, MARK).unwrap_or(file.len())
 }
 
-/// Finds the mark at each block's place with memmem.
+/// Finds the mark at the place of each block with `memmem`.
 fn find_each_block(file: &[u8]) -> usize {
     let blocks = file[HEADER_LINE.len()..].chunks(GIB / BLOCKS);
     blocks.map(find_mark).sum()
 }
 
-/// Finds one mark after another with memmem, and counts them.
+/// Finds one mark after another with `memmem`, and counts them.
 fn find_all_marks(file: &[u8]) -> usize {
     let (mut start, mut marks) = (0, 0);
     while let Some(length) = exports::find_bytes(&file[start..], MARK) {
@@ -158,7 +161,7 @@ fn find_all_marks(file: &[u8]) -> usize {
     marks
 }
 
-/// Compares the zeros after an empty block with memcmp, and counts them.
+/// Compares the zeros after an empty block with `memcmp`, and counts them.
 fn find_zeros(file: &[u8]) -> usize {
     let tail = &file[HEADER_LINE.len() + FIELD_BYTES..];
     if exports::only_zeros(tail) {
@@ -168,7 +171,7 @@ fn find_zeros(file: &[u8]) -> usize {
     }
 }
 
-/// Measures one file and prints what came of it.
+/// Measures one file and prints the times.
 fn print_row(case: &Case) {
     let file: &[u8] = &case.file;
     let mut out = [0; LAYOUT_BYTES];
@@ -187,7 +190,7 @@ fn print_row(case: &Case) {
     );
 }
 
-/// How many blocks an answer tells of.
+/// The number of blocks in an answer.
 fn blocks_of(answer: &[u8; LAYOUT_BYTES]) -> usize {
     let [.., blocks, _verdict, _line_end] = answer.as_chunks().0 else {
         return 0;

@@ -1,5 +1,5 @@
-//! The records of the same files, and how many they are. The second program makes a list of them in memory; so that both do the same
-//! work, its records are also put as the same bytes.
+//! Measures the records of the same files, and their number. The second program makes a list of its
+//! records in memory. For a fair comparison they are also turned into the same bytes.
 
 use crate::blocks::{cases, Case};
 use crate::measure::medians;
@@ -8,7 +8,7 @@ use asdf_harness::calls::numbers::{record_numbers, NUMBER_BYTES, RECORD_NUMBERS}
 use std::hint::black_box;
 use std::io;
 
-/// The bytes of a record.
+/// The length of a record in bytes.
 const RECORD_BYTES: usize = RECORD_NUMBERS * NUMBER_BYTES;
 
 /// Measures every file and prints a line for each.
@@ -29,7 +29,7 @@ pub fn print_table() -> io::Result<()> {
     cases().iter().try_for_each(print_row)
 }
 
-/// Measures one file and prints what came of it.
+/// Measures one file and prints the times.
 fn print_row(case: &Case) -> io::Result<()> {
     let rows = check_records(case)?;
     let file: &[u8] = &case.file;
@@ -50,7 +50,7 @@ fn print_row(case: &Case) -> io::Result<()> {
     Ok(())
 }
 
-/// The number of rows, if both programs say it of records and count.
+/// The number of rows. Fails unless the records and the counts of both programs have this number.
 fn check_records(case: &Case) -> io::Result<usize> {
     let rows = records_by_second(&case.file);
     let records = our_records(case)() / RECORD_BYTES;
@@ -68,13 +68,13 @@ fn check_records(case: &Case) -> io::Result<usize> {
     }
 }
 
-/// Writes the records by the proved function.
+/// Writes the records with the proved function.
 fn our_records(case: &Case) -> impl FnMut() -> usize + '_ {
     let mut out = vec![0; case.rows_lent() * RECORD_BYTES];
     move || exports::records(black_box(&case.file), &mut out) as usize
 }
 
-/// Makes the records by the second program, and puts them as the same bytes.
+/// Makes the records with the second program, and writes them as the same bytes.
 fn bytes_by_second(case: &Case) -> impl FnMut() -> usize + '_ {
     let mut out = vec![0; case.rows_lent() * RECORD_BYTES];
     move || {

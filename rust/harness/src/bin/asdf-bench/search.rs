@@ -1,4 +1,4 @@
-//! The search for a mark by fours, beside the plain one and libc's.
+//! Measures the search for a mark by fours, next to the plain search and that of libc.
 
 use crate::measure::medians;
 use crate::read::{random_bytes, MIB};
@@ -7,7 +7,7 @@ use asdf_harness::format::text::MARK;
 use std::hint::black_box;
 use std::io;
 
-/// Lines as a tree has them.
+/// Lines as they occur in a tree.
 const TEXT: &[u8] = b"asdf_library: !core/software-1.0.0 {author: The ASDF Developers, name: asdf}
 data: !core/ndarray-1.0.0
   source: 0
@@ -16,7 +16,7 @@ data: !core/ndarray-1.0.0
   shape: [4096, 4096]
 meta: {telescope: KECK, instrument: LRIS, detector: B, exposure: 120.0, filter: 'BG38'}
 ";
-/// Among letters of a mark its first byte stands once in so many.
+/// Among letters of a mark, one byte in this many is the first byte of a mark.
 const RARE: usize = 64;
 
 /// A megabyte without a mark.
@@ -71,14 +71,14 @@ fn rare_first_byte(offset: usize) -> u8 {
     }
 }
 
-/// Measures one content and prints what came of it.
+/// Measures one content and prints the times.
 fn print_row(case: &Case) -> io::Result<()> {
     let bytes = &case.bytes[..];
     let by_fours = || exports::find_mark(black_box(bytes), 0);
     let plain = || exports::find_mark_plain(black_box(bytes), 0);
     let libc = || exports::find_bytes(black_box(bytes), MARK).unwrap_or(bytes.len());
     if [by_fours(), plain(), libc()] != [MIB; 3] {
-        return Err(io::Error::other("a mark where there is none"));
+        return Err(io::Error::other("a mark was found where there is none"));
     }
     let [by_fours, plain, libc] = medians([&mut { by_fours }, &mut { plain }, &mut { libc }]);
     println!(
