@@ -84,9 +84,9 @@ fn p13_edit_with_one_byte_too_many_is_refused_with_20() {
 /// Where the smallest tree ends. It begins at 12.
 const TREE_END: usize = 30;
 
-/// Where the room of the smallest tree ends if the file goes on with the bytes `rest` to its end.
-/// Both proved searches have to find the same place. If the file is accepted, its layout has to
-/// name this place too.
+/// Where the room of the smallest tree ends if the bytes `rest` follow the tree up to the end of
+/// the file. Both proved searches have to find the same place. If the file is accepted, its layout
+/// has to report this place too.
 fn room_end(rest: &[u8]) -> usize {
     let file = [HEADER_LINE, LEAST_TREE, rest].concat();
     let found = exports::find_mark(&file, TREE_END);

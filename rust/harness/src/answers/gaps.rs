@@ -50,7 +50,7 @@ pub fn gaps<'a>(file: &'a [u8], answers: &'a Answers) -> Vec<Gap<'a>> {
     let mut latest = [None; DEEPEST as usize + 1];
     for after in answers.records() {
         // Between the records of two blocks of one file there are only records of greater depth. So
-        // the latest record of this depth is the block before.
+        // the latest record of this depth is that of the block before.
         let before = latest[usize::from(after.depth)].replace(after);
         if after.block.ordinal > 0 {
             gaps.extend(before.and_then(|before| Gap::between(file, before, after)));

@@ -28,8 +28,8 @@ pub fn compare(
     Ok(())
 }
 
-/// Edits the file with the second program. If that refuses the edit, it has to leave the file as it
-/// was.
+/// Edits the file with the second program. If this program refuses the edit, it has to leave the
+/// file as it was.
 pub fn edited_by_second(pair: &Edit) -> Result<Expected, String> {
     let mut file = pair.file.clone();
     let outcome = asdf_second::edit(&mut file, &pair.text);

@@ -26,7 +26,8 @@ impl Loan {
         }
     }
 
-    /// The part that is lent. Modulo 8 its start may be any number, which depends on `filling`.
+    /// The part that is lent. Its start modulo 8 depends on `filling` and may be any number from 0
+    /// to 7.
     fn stretch(self) -> Range<usize> {
         let start = AROUND + self.filling % NUMBER_BYTES;
         start..start + self.length

@@ -78,7 +78,7 @@ fn compare(bytes: &[u8], start: usize, searchers: &[(&str, Searcher)]) -> Result
 }
 
 /// Where the first mark at or after `start` begins, or the end if there is none. If `start` is
-/// after the end, it is returned itself.
+/// after the end, `start` itself is returned.
 fn first_mark(bytes: &[u8], start: usize) -> usize {
     let rest = bytes.get(start..).unwrap_or_default();
     let length = rest.windows(MARK.len()).position(|four| four == MARK);

@@ -5,8 +5,8 @@ use asdf_harness::files::nests::{file_of, many_gaps, path, tree};
 use asdf_harness::format::limits::{LEVELS, MOST_BLOCKS};
 use asdf_second::{most_rows, row_count};
 
-/// The beginning of a refused file. Such a file has to be read to its end, because only there it
-/// shows that its tree does not end.
+/// The beginning of a refused file. Such a file has to be read to its end before it is clear that
+/// its tree has no end.
 const ENDLESS_TREE: &[u8] = b"#ASDF 1.0.0\n%YAML 1.1\n---\n";
 /// How many lines a refused file has after its beginning.
 const REFUSED_LINES: usize = 24;

@@ -1,5 +1,6 @@
 //! Measures the records of the same files, and their number. The second program makes a list of its
-//! records in memory. For a fair comparison they are also turned into the same bytes.
+//! records in memory. So that both do the same work, its records are also written as the same
+//! bytes.
 
 use crate::blocks::{cases, Case};
 use crate::measure::medians;
