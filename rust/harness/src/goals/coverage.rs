@@ -1,24 +1,24 @@
-//! Counts what the files of a run reach.
+//! Counts how often the files of a run reach each goal.
 
 use super::goal::Goal;
 use crate::answers::file::Answers;
 use std::collections::HashSet;
 use std::fmt;
 
-/// How often a goal was reached, and at which places.
+/// A goal, how often it was reached, and at which places.
 struct Reached<A> {
     goal: Goal<A>,
     times: u64,
     places: HashSet<usize>,
 }
 
-/// What the files of a run reached so far.
+/// What the files of a run have reached so far.
 pub struct Coverage<A = Answers> {
     reached: Vec<Reached<A>>,
 }
 
 impl<A> Coverage<A> {
-    /// Nothing is reached yet.
+    /// Starts with no goal reached.
     pub fn new(goals: Vec<Goal<A>>) -> Coverage<A> {
         let reached = goals.into_iter().map(|goal| Reached {
             goal,
@@ -30,7 +30,7 @@ impl<A> Coverage<A> {
         }
     }
 
-    /// Counts what one file reaches.
+    /// Counts the goals that one file reaches.
     pub fn count(&mut self, file: &[u8], answers: &A) {
         for reached in &mut self.reached {
             let places = (reached.goal.places)(file, answers);
@@ -39,7 +39,7 @@ impl<A> Coverage<A> {
         }
     }
 
-    /// The goals that were never reached.
+    /// Returns the names of the goals that were never reached.
     pub fn missing(&self) -> Vec<String> {
         self.reached
             .iter()
@@ -50,7 +50,7 @@ impl<A> Coverage<A> {
 }
 
 impl<A> fmt::Display for Coverage<A> {
-    /// A table with a line for each goal.
+    /// Writes a table with one line for each goal.
     fn fmt(&self, f: &mut fmt::Formatter<'_>) -> fmt::Result {
         writeln!(f, "{:<52}{:>10}{:>10}", "reached", "times", "places")?;
         for reached in &self.reached {

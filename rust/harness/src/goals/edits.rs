@@ -1,4 +1,4 @@
-//! What a run has to reach of edits.
+//! The goals for edits.
 
 use super::file::VERDICTS;
 use super::goal::Goal;
@@ -13,10 +13,10 @@ use crate::format::refusals::{
 use crate::format::text::{after_first_line, places_of, MARK, YAML_LINE};
 use asdf_second::{Block, Inner, LineEnd, Record, Verdict};
 
-/// A goal of edits.
+/// A goal that an edit can reach.
 type EditGoal = Goal<EditAnswers>;
 
-/// All of them.
+/// Returns all goals for edits.
 pub fn goals() -> Vec<EditGoal> {
     [
         refusals(),
@@ -35,7 +35,7 @@ pub fn goals() -> Vec<EditGoal> {
     .collect()
 }
 
-/// An edit: the file's bytes, its tree's places, and what is said of it.
+/// An edit: the bytes of the file, the offsets of its tree and room, and the answers to the edit.
 struct Seen<'a> {
     bytes: &'a [u8],
     start: usize,
@@ -45,7 +45,7 @@ struct Seen<'a> {
 }
 
 impl<'a> Seen<'a> {
-    /// An edit of a file; its places are 0 where there is no tree.
+    /// Takes the offsets from the tree of the file. They are 0 if there is no tree.
     fn new(bytes: &'a [u8], answers: &'a EditAnswers) -> Seen<'a> {
         let places = answers.file.tree().map_or([0; 3], |tree| {
             [tree.start, tree.end, tree.room_end].map(|at| at.0 as usize)
@@ -60,32 +60,32 @@ impl<'a> Seen<'a> {
         }
     }
 
-    /// The text.
+    /// Returns the text that is to replace the tree.
     fn text(&self) -> &[u8] {
         &self.answers.text
     }
 
-    /// The old tree.
+    /// Returns the old tree.
     fn old(&self) -> &[u8] {
         &self.bytes[self.start..self.end]
     }
 
-    /// The free space after the old tree.
+    /// Returns the free space after the old tree.
     fn free_space(&self) -> &[u8] {
         &self.bytes[self.end..self.room_end]
     }
 
-    /// The bytes of the room.
+    /// Returns the length of the room.
     fn room(&self) -> usize {
         self.room_end - self.start
     }
 
-    /// Whether every line of the text ends so.
+    /// Whether every line of the text has this line end.
     fn ends_only_with(&self, kind: LineEnd) -> bool {
         line_ends_in(self.text()).iter().all(|&end| end == kind)
     }
 
-    /// Whether the header line of the file ends so.
+    /// Whether the header line of the file has this line end.
     fn header_ends_with(&self, kind: LineEnd) -> bool {
         line_end(&self.answers.file) == Some(kind)
     }
@@ -100,19 +100,19 @@ impl<'a> Seen<'a> {
         self.answers.file.blocks().is_empty()
     }
 
-    /// Whether bytes stand between two blocks of a file at such a depth.
+    /// Whether there is a gap between two blocks at a depth that is `wanted`.
     fn has_gap(&self, wanted: impl Fn(u8) -> bool) -> bool {
         let gaps = gaps(self.bytes, &self.answers.file);
         gaps.iter().any(|gap| wanted(gap.after.depth))
     }
 
-    /// Whether a block of the file or of one inside is such.
+    /// Whether a block of the file or of an inner file is `wanted`.
     fn has_record(&self, wanted: impl Fn(&Record) -> bool) -> bool {
         self.answers.file.records().iter().any(wanted)
     }
 }
 
-/// A goal that an edit reaches.
+/// Makes a goal that an edit reaches at the start of its tree.
 fn goal(name: impl Into<String>, reached: impl Fn(&Seen) -> bool + 'static) -> EditGoal {
     EditGoal::new(name, move |bytes, answers| {
         let seen = Seen::new(bytes, answers);
@@ -121,21 +121,21 @@ fn goal(name: impl Into<String>, reached: impl Fn(&Seen) -> bool + 'static) -> E
     })
 }
 
-/// A goal that an accepted edit reaches.
+/// Makes a goal that only an accepted edit reaches.
 fn edited(name: impl Into<String>, reached: impl Fn(&Seen) -> bool + 'static) -> EditGoal {
     goal(name, move |seen| {
         seen.answers.outcome.is_ok() && reached(seen)
     })
 }
 
-/// A goal that an edit reaches that is refused with this number.
+/// Makes a goal that only an edit refused with this number reaches.
 fn refused(name: &str, number: u8, reached: impl Fn(&Seen) -> bool + 'static) -> EditGoal {
     goal(format!("edit, {name} ({number})"), move |seen| {
         seen.answers.refused_with(number).is_some() && reached(seen)
     })
 }
 
-/// Each number that refuses an edit.
+/// Returns goals for each number with which an edit is refused.
 fn refusals() -> Vec<EditGoal> {
     (1..=TEXT_LONGER_THAN_ROOM)
         .map(|number| {
@@ -146,7 +146,7 @@ fn refusals() -> Vec<EditGoal> {
         .collect()
 }
 
-/// Edits that could be refused for two reasons, of which the first counts.
+/// Returns goals for edits that could be refused for two reasons. The first reason counts.
 fn orders() -> Vec<EditGoal> {
     vec![
         goal("edit, file refused, and no tree as text", |seen| {
@@ -170,7 +170,8 @@ fn orders() -> Vec<EditGoal> {
     ]
 }
 
-/// Lengths of a text beside that of the room and of the old tree.
+/// Returns goals for texts as long as the room or the old tree, and texts that are shorter or
+/// longer.
 fn lengths() -> Vec<EditGoal> {
     let too_long = TEXT_LONGER_THAN_ROOM;
     vec![
@@ -198,7 +199,7 @@ fn lengths() -> Vec<EditGoal> {
     ]
 }
 
-/// Rooms of exactly the tree, and up to the end of the file.
+/// Returns goals for rooms without free space, and rooms that reach to the end of the file.
 fn rooms() -> Vec<EditGoal> {
     let too_long = TEXT_LONGER_THAN_ROOM;
     vec![
@@ -227,7 +228,7 @@ fn rooms() -> Vec<EditGoal> {
     ]
 }
 
-/// Texts that are accepted.
+/// Returns goals for the kinds of texts that are accepted.
 fn texts() -> Vec<EditGoal> {
     vec![
         edited("edited, equal text", |seen| seen.text() == seen.old()),
@@ -252,12 +253,12 @@ fn texts() -> Vec<EditGoal> {
     ]
 }
 
-/// Whether a mark stands in a text.
+/// Whether a text contains a mark.
 fn has_mark(text: &[u8]) -> bool {
     !places_of(text, MARK).is_empty()
 }
 
-/// Files that are edited.
+/// Returns goals for the kinds of files that are edited.
 fn files() -> Vec<EditGoal> {
     vec![
         edited("edited, comments", |seen| {
@@ -300,7 +301,8 @@ fn files() -> Vec<EditGoal> {
     ]
 }
 
-/// Each verdict on the index of an edited file, and those on an index with dashes.
+/// Returns goals for each verdict on the index of an edited file, and each verdict on an index with
+/// dashes.
 fn verdicts() -> Vec<EditGoal> {
     let any = VERDICTS.map(|verdict| {
         edited(format!("edited, index {verdict}"), move |seen| {
@@ -319,14 +321,14 @@ fn verdicts() -> Vec<EditGoal> {
     any.into_iter().chain(with_dashes).collect()
 }
 
-/// A goal that a text reaches that is not exactly one tree.
+/// Makes a goal that is reached only by an edit whose text is not exactly one tree.
 fn wrong_text(name: &str, reached: impl Fn(&[u8], &EditAnswers) -> bool + 'static) -> EditGoal {
     refused(name, TEXT_NOT_ONE_TREE, move |seen| {
         reached(seen.text(), seen.answers)
     })
 }
 
-/// Texts that do not begin with the first line of a tree.
+/// Returns goals for texts that do not begin with the first line of a tree.
 fn beginnings() -> Vec<EditGoal> {
     vec![
         wrong_text("empty text", |text, _| text.is_empty()),
@@ -348,7 +350,7 @@ fn beginnings() -> Vec<EditGoal> {
     ]
 }
 
-/// Texts that go on after a tree, or end too early.
+/// Returns goals for texts that continue after a tree, or end too early.
 fn ends() -> Vec<EditGoal> {
     vec![
         wrong_text("last 0A missing", |text, _| {
@@ -382,7 +384,7 @@ fn ends() -> Vec<EditGoal> {
     ]
 }
 
-/// Texts with a wrong line, or without one that they need.
+/// Returns goals for texts with a wrong line, or without a line that they need.
 fn lines() -> Vec<EditGoal> {
     vec![
         wrong_text("wrong line before the start line", |_, answers| {
@@ -403,7 +405,7 @@ fn lines() -> Vec<EditGoal> {
     ]
 }
 
-/// Whether a line without its 0A is a start line.
+/// Whether a line is a start line. The line is given without its 0A.
 fn is_start(line: &[u8]) -> bool {
     line == b"---" || line == b"---\r" || line.starts_with(b"--- ")
 }

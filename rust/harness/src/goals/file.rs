@@ -1,4 +1,4 @@
-//! What a run has to reach of a file: each refusal, each verdict, and the parts that it may have or not.
+//! The goals for a file as a whole: each refusal, each verdict, and the optional parts.
 
 use super::goal::Goal;
 use super::searches::BLOCK;
@@ -6,7 +6,7 @@ use crate::answers::file::Answers;
 use crate::format::text::{places_of, MARK};
 use asdf_second::Verdict;
 
-/// All verdicts.
+/// All verdicts on an index.
 pub const VERDICTS: [Verdict; 4] = [
     Verdict::Absent,
     Verdict::Good,
@@ -14,7 +14,7 @@ pub const VERDICTS: [Verdict; 4] = [
     Verdict::IgnoredList,
 ];
 
-/// All of them.
+/// Returns all goals for a file as a whole.
 pub fn goals() -> Vec<Goal> {
     [refusals(), verdicts(), parts()]
         .into_iter()
@@ -22,14 +22,14 @@ pub fn goals() -> Vec<Goal> {
         .collect()
 }
 
-/// Each number that refuses a file.
+/// Returns goals for each number with which a file is refused.
 fn refusals() -> Vec<Goal> {
     (1..=17)
         .map(|number| Goal::of_refusal(format!("refused {number}"), number, |_, _| true))
         .collect()
 }
 
-/// Each verdict.
+/// Returns goals for each verdict on an index.
 fn verdicts() -> Vec<Goal> {
     VERDICTS
         .map(|verdict| {
@@ -40,7 +40,7 @@ fn verdicts() -> Vec<Goal> {
         .into()
 }
 
-/// The parts that a file may have or not.
+/// Returns goals for the optional parts of a file.
 fn parts() -> Vec<Goal> {
     vec![
         Goal::of_file("no comments", |_, answers| !has_comments(answers)),
@@ -69,13 +69,13 @@ fn parts() -> Vec<Goal> {
     ]
 }
 
-/// The length of the free space after a tree.
+/// Returns the length of the free space after the tree, if there is a tree.
 fn free_space(answers: &Answers) -> Option<usize> {
     let tree = answers.tree()?;
     Some((tree.room_end.0 - tree.end.0) as usize)
 }
 
-/// Whether an accepted file has comments.
+/// Whether the file is accepted and has comments.
 fn has_comments(answers: &Answers) -> bool {
     answers
         .layout

@@ -1,4 +1,4 @@
-//! What a run has to reach of gaps: bytes between two blocks that belong to neither.
+//! The goals for gaps: bytes between two blocks that belong to neither.
 
 use super::goal::Goal;
 use super::index::{index, numbers_in};
@@ -13,10 +13,10 @@ use crate::format::text::{places_of, INDEX_LINE, MARK};
 use asdf_second::{read, Block, Record, Verdict};
 use std::ops::RangeInclusive;
 
-/// The numbers that refuse a file for one of its blocks.
+/// The numbers with which a file is refused for one of its blocks.
 const OF_BLOCK: RangeInclusive<u8> = 11..=15;
 
-/// All of them.
+/// Returns all goals for gaps.
 pub fn goals() -> Vec<Goal> {
     [
         kinds("gap", |depth| depth == 0),
@@ -35,7 +35,8 @@ pub fn goals() -> Vec<Goal> {
 }
 
 impl Goal {
-    /// A goal that gaps of accepted files reach, each at the mark after it.
+    /// Makes a goal that the gaps of accepted files reach. The place is that of the mark after the
+    /// gap.
     fn of_gap(name: impl Into<String>, reached: impl Fn(&Gap) -> bool + 'static) -> Goal {
         Goal::at(name, move |file, answers| {
             let gaps = gaps(file, answers);
@@ -45,7 +46,7 @@ impl Goal {
     }
 }
 
-/// Each kind of gap between blocks of such a depth.
+/// Returns goals for each kind of gap between blocks at a depth that is `wanted`.
 fn kinds(what: &str, wanted: fn(u8) -> bool) -> Vec<Goal> {
     let of_kind = |kind: &str, is_kind: fn(&[u8]) -> bool| {
         Goal::of_gap(format!("{what} {kind}"), move |gap| {
@@ -80,7 +81,7 @@ fn kinds(what: &str, wanted: fn(u8) -> bool) -> Vec<Goal> {
     goals
 }
 
-/// Whether bytes begin like a block, but for one byte of its mark.
+/// Whether these bytes begin like a block, except for one byte of its mark.
 fn is_old_block(bytes: &[u8]) -> bool {
     let differing = bytes.iter().zip(MARK).filter(|(byte, mark)| byte != mark);
     let header_size = HEADER_SIZE.number(bytes, 0);
@@ -89,7 +90,7 @@ fn is_old_block(bytes: &[u8]) -> bool {
         && header_size >= Some(LEAST_HEADER_SIZE.into())
 }
 
-/// Gaps at every depth.
+/// Returns goals for gaps at every depth.
 fn depths() -> Vec<Goal> {
     (0..=DEEPEST)
         .map(|depth| {
@@ -100,7 +101,7 @@ fn depths() -> Vec<Goal> {
         .collect()
 }
 
-/// Blocks before and after a gap.
+/// Returns goals for the kinds of blocks before and after a gap.
 fn blocks_around() -> Vec<Goal> {
     vec![
         Goal::of_gap("streamed block after a gap", |gap| {
@@ -126,7 +127,8 @@ fn blocks_around() -> Vec<Goal> {
     ]
 }
 
-/// The four bytes of a mark where no block is searched: wholly or partly inside a block that another one follows.
+/// Returns goals for the four bytes of a mark at places where no block is searched for: wholly or
+/// partly inside a block that is not the last.
 fn no_marks() -> Vec<Goal> {
     vec![
         of_followed("mark as a block's content", |file, record| {
@@ -141,7 +143,7 @@ fn no_marks() -> Vec<Goal> {
     ]
 }
 
-/// A goal that a block of an accepted file reaches, if another follows it.
+/// Makes a goal that the blocks of an accepted file reach, except its last block.
 fn of_followed(name: &str, reached: fn(&[u8], &Record) -> bool) -> Goal {
     Goal::at(name, move |file, answers| {
         let last = answers.blocks().last().map(|block| block.ordinal);
@@ -153,7 +155,8 @@ fn of_followed(name: &str, reached: fn(&[u8], &Record) -> bool) -> Goal {
     })
 }
 
-/// Files that are refused for a block, or for a 65th mark, found after a gap.
+/// Returns goals for files that are refused for a block after a gap, and for a 65th mark with or
+/// without a gap before it.
 fn refusals() -> Vec<Goal> {
     let mut goals: Vec<Goal> = OF_BLOCK
         .map(|number| {
@@ -172,12 +175,12 @@ fn refusals() -> Vec<Goal> {
     goals
 }
 
-/// Whether the mark for which a file is refused stands after a gap.
+/// Whether there is a gap before the mark for which the file is refused.
 fn is_after_gap(file: &[u8], mark: usize) -> bool {
     !gap_before(file, mark).is_empty()
 }
 
-/// The same refusals of inner files.
+/// Returns goals for inner files that are refused for a block or a 65th mark after a gap.
 fn inner_refusals() -> Vec<Goal> {
     OF_BLOCK
         .chain([TOO_MANY_BLOCKS])
@@ -191,7 +194,7 @@ fn inner_refusals() -> Vec<Goal> {
         .collect()
 }
 
-/// Tails in which no mark follows.
+/// Returns goals for tails for which a file is refused, because they contain no mark.
 fn stray_tails() -> Vec<Goal> {
     vec![
         Goal::of_refusal("index after one byte (17)", STRAY_TAIL, |file, end| {
@@ -216,18 +219,18 @@ fn stray_tails() -> Vec<Goal> {
     ]
 }
 
-/// The blocks of a file that is cut where its last block ends.
+/// Returns the blocks of the file that is cut at `end`, where its last block ends.
 fn blocks_up_to(file: &[u8], end: usize) -> Vec<Block> {
     read(&file[..end]).map_or(Vec::new(), |layout| layout.blocks)
 }
 
-/// Whether bytes stand between two of these blocks.
+/// Whether there is a gap between two of these blocks.
 fn have_gaps(blocks: &[Block]) -> bool {
     let mut pairs = blocks.windows(2);
     pairs.any(|pair| block_end(&pair[0]) < pair[1].offset.0 as usize)
 }
 
-/// Indexes after gaps, and indexes with a mark after their first 17 bytes.
+/// Returns goals for indexes after gaps, and indexes with a mark after their first 17 bytes.
 fn indexes() -> Vec<Goal> {
     vec![
         Goal::of_file("good index after gaps", |_, answers| {
@@ -255,14 +258,15 @@ fn indexes() -> Vec<Goal> {
     ]
 }
 
-/// Where the first mark stands in an index, which then has not the form.
+/// Returns where the first mark is in an index that is ignored for its form.
 fn mark_in_index(file: &[u8], answers: &Answers) -> Option<usize> {
     let ignored = answers.verdict() == Some(Verdict::IgnoredForm);
     let index = index(file, answers).filter(|_| ignored)?;
     places_of(index, MARK).first().copied()
 }
 
-/// Whether an index has the end of the block before in the place of each mark but the first.
+/// Whether an index lists the first mark and then, instead of each further mark, the end of the
+/// block before it.
 fn lists_ends(file: &[u8], answers: &Answers) -> bool {
     let blocks = answers.blocks();
     let first = blocks.iter().take(1).map(|block| block.offset.0 as usize);

@@ -1,19 +1,19 @@
-//! Something that a run has to reach.
+//! A goal: something that a run has to reach.
 
 use crate::answers::file::Answers;
 use asdf_second::{Block, Record};
 
-/// The places at which a file, of which this is said, reaches something.
+/// Finds the places at which a file reaches a goal, given the answers to this file.
 type Places<A> = dyn Fn(&[u8], &A) -> Vec<usize>;
 
-/// Something to be reached.
+/// Something that a run has to reach at least once.
 pub struct Goal<A = Answers> {
     pub name: String,
     pub places: Box<Places<A>>,
 }
 
 impl<A> Goal<A> {
-    /// A goal that is reached at places.
+    /// Makes a goal that is reached at these places.
     pub fn new(
         name: impl Into<String>,
         places: impl Fn(&[u8], &A) -> Vec<usize> + 'static,
@@ -26,7 +26,7 @@ impl<A> Goal<A> {
 }
 
 impl Goal {
-    /// A goal that a file reaches at places.
+    /// Makes a goal that a file reaches at these places.
     pub fn at(
         name: impl Into<String>,
         places: impl Fn(&[u8], &Answers) -> Vec<usize> + 'static,
@@ -34,7 +34,7 @@ impl Goal {
         Goal::new(name, places)
     }
 
-    /// A goal that an accepted file reaches as a whole, so at place 0.
+    /// Makes a goal that an accepted file reaches as a whole. Its place is 0.
     pub fn of_file(
         name: impl Into<String>,
         reached: impl Fn(&[u8], &Answers) -> bool + 'static,
@@ -45,7 +45,8 @@ impl Goal {
         })
     }
 
-    /// A goal that a refused file reaches, if more holds at the refusal's place.
+    /// Makes a goal that a file reaches if it is refused with this number and `reached` holds for
+    /// the refusal's place.
     pub fn of_refusal(
         name: impl Into<String>,
         number: u8,
@@ -60,12 +61,12 @@ impl Goal {
         })
     }
 
-    /// A goal that records reach.
+    /// Makes a goal that records reach.
     pub fn of_record(name: impl Into<String>, reached: impl Fn(&Record) -> bool + 'static) -> Goal {
         Goal::of_record_in(name, move |_, record| reached(record))
     }
 
-    /// A goal that records reach, seen with the bytes of the outermost file.
+    /// Makes a goal that records reach. `reached` also gets the bytes of the outermost file.
     pub fn of_record_in(
         name: impl Into<String>,
         reached: impl Fn(&[u8], &Record) -> bool + 'static,
@@ -77,7 +78,7 @@ impl Goal {
         })
     }
 
-    /// A goal that blocks of the file itself reach.
+    /// Makes a goal that blocks of the file itself reach, not those of inner files.
     pub fn of_block(
         name: impl Into<String>,
         reached: impl Fn(&[u8], &Block) -> bool + 'static,

@@ -1,4 +1,4 @@
-//! What a run has to reach of block indexes, in either style.
+//! The goals for block indexes, in brackets and with dashes.
 
 use super::goal::Goal;
 use crate::answers::file::Answers;
@@ -7,10 +7,10 @@ use crate::format::text::{places_of, DASH_START, END_LINE, INDEX_LINE, YAML_LINE
 use crate::generate::index::{WRONG_DASH_LINES, WRONG_START_LINES};
 use asdf_second::Verdict;
 
-/// The most digits that a number may have.
+/// The most digits that a number in the list may have.
 const MOST_DIGITS: usize = 10;
 
-/// All of them.
+/// Returns all goals for indexes.
 pub fn goals() -> Vec<Goal> {
     [
         style("brackets", |index| !has_dashes(index)),
@@ -26,13 +26,13 @@ pub fn goals() -> Vec<Goal> {
     .collect()
 }
 
-/// What begins as an index directly after the last block.
+/// Returns the tail after the last block, if it begins like an index.
 pub fn index<'a>(file: &'a [u8], answers: &Answers) -> Option<&'a [u8]> {
     let tail = &file[answers.chain_end()?..];
     tail.starts_with(INDEX_LINE).then_some(tail)
 }
 
-/// The numbers in the list of an index, from its start line up to its end line.
+/// Returns the numbers in the list of an index, from its start line up to its end line.
 pub fn numbers_in(index: &[u8]) -> Vec<u64> {
     let lines = lines(index).skip(2).take_while(|line| *line != END_LINE);
     let digits = lines.flat_map(|line| line.split(|byte| !byte.is_ascii_digit()));
@@ -40,35 +40,35 @@ pub fn numbers_in(index: &[u8]) -> Vec<u64> {
     numbers.collect()
 }
 
-/// The lines of an index, without their line ends.
+/// Returns the lines of an index, without their line ends.
 fn lines(index: &[u8]) -> impl Iterator<Item = &[u8]> {
     let lines = index.split(|&byte| byte == b'\n');
     lines.map(|line| line.strip_suffix(b"\r").unwrap_or(line))
 }
 
-/// What stands after this line, if a text begins with it.
+/// Returns what follows this line, if the text begins with it.
 fn after_line<'a>(text: &'a [u8], line: &[u8]) -> Option<&'a [u8]> {
     let rest = text.strip_prefix(line)?;
     rest.strip_prefix(b"\n")
         .or_else(|| rest.strip_prefix(b"\r\n"))
 }
 
-/// An index from its start line on, if its first two lines are right.
+/// Returns an index from its start line on, if its first two lines are right.
 fn from_start_line(index: &[u8]) -> Option<&[u8]> {
     after_line(after_line(index, INDEX_LINE)?, YAML_LINE)
 }
 
-/// What stands after the start line of an index in the dash style.
+/// Returns what follows the start line, if the index is one with dashes.
 fn dash_lines(index: &[u8]) -> Option<&[u8]> {
     after_line(from_start_line(index)?, DASH_START)
 }
 
-/// Whether an index has the dash style.
+/// Whether an index is one with dashes.
 pub fn has_dashes(index: &[u8]) -> bool {
     dash_lines(index).is_some()
 }
 
-/// How many digits stand together at most in the list of an index.
+/// Returns the length of the longest row of digits in the list of an index.
 fn most_digits(index: &[u8]) -> usize {
     let digits = lines(index)
         .skip(2)
@@ -76,14 +76,14 @@ fn most_digits(index: &[u8]) -> usize {
     digits.map(<[u8]>::len).max().unwrap_or(0)
 }
 
-/// A goal that an index reaches, if it has this verdict and more holds of it.
+/// Makes a goal that a file reaches if its index has this verdict and `reached` holds for it.
 fn of_index(name: String, verdict: Verdict, reached: impl Fn(&[u8]) -> bool + 'static) -> Goal {
     Goal::of_file(name, move |file, answers| {
         answers.verdict() == Some(verdict) && index(file, answers).is_some_and(&reached)
     })
 }
 
-/// Each verdict on an index of this style, and the limits of its form.
+/// Returns goals for each verdict on an index of this style, and the limits of its form.
 fn style(name: &str, is_style: fn(&[u8]) -> bool) -> Vec<Goal> {
     let of_style = |what: &str, verdict: Verdict, reached: fn(&[u8]) -> bool| {
         let name = format!("{name}: {what} ({verdict})");
@@ -126,7 +126,7 @@ fn style(name: &str, is_style: fn(&[u8]) -> bool) -> Vec<Goal> {
     ]
 }
 
-/// Lists without a number.
+/// Returns goals for lists without a number.
 fn empty_lists() -> Vec<Goal> {
     vec![
         ignored("brackets: no number", |index| {
@@ -138,13 +138,14 @@ fn empty_lists() -> Vec<Goal> {
     ]
 }
 
-/// A goal that a text reaches that has not the form, if more holds of it.
+/// Makes a goal that a file reaches if its index is ignored for its form and `reached` holds for
+/// it.
 fn ignored(name: &str, reached: fn(&[u8]) -> bool) -> Goal {
     let name = format!("{name} (ignored-form)");
     of_index(name, Verdict::IgnoredForm, reached)
 }
 
-/// Numbers after dashes with spaces, and then either line end.
+/// Returns goals for indexes with dashes that have spaces before a line end, for either line end.
 fn spaces_before_line_ends() -> Vec<Goal> {
     let with = |line_end: &str, bytes: &'static [u8]| {
         let name = format!("dashes: space before {line_end} (good)");
@@ -155,7 +156,7 @@ fn spaces_before_line_ends() -> Vec<Goal> {
     vec![with("0A", b" \n"), with("0D 0A", b" \r\n")]
 }
 
-/// Lists with lines of both styles.
+/// Returns goals for lists with lines of both styles.
 fn mixed_styles() -> Vec<Goal> {
     vec![
         ignored("list in brackets, then a dash", |index| {
@@ -169,7 +170,7 @@ fn mixed_styles() -> Vec<Goal> {
     ]
 }
 
-/// Each of these lines in the place of the start line, before a dash.
+/// Returns goals for each wrong line in place of the start line, with a dash after it.
 fn wrong_start_lines() -> Vec<Goal> {
     wrong_lines("start", WRONG_START_LINES, |index, wrong| {
         let rest = from_start_line(index).and_then(|list| after_line(list, wrong));
@@ -177,14 +178,14 @@ fn wrong_start_lines() -> Vec<Goal> {
     })
 }
 
-/// Each of these lines after the start line of an index with dashes.
+/// Returns goals for each wrong line after the start line of an index with dashes.
 fn wrong_dash_lines() -> Vec<Goal> {
     wrong_lines("dash", WRONG_DASH_LINES, |index, wrong| {
         dash_lines(index).is_some_and(|lines| has_line(lines, wrong))
     })
 }
 
-/// A goal for each of these lines.
+/// Makes a goal for each of these wrong lines.
 fn wrong_lines(
     what: &str,
     wrong: &'static [&'static [u8]],
@@ -199,7 +200,7 @@ fn wrong_lines(
     wrong.iter().map(goal).collect()
 }
 
-/// Whether a line stands somewhere in a text.
+/// Whether a text has this line anywhere.
 fn has_line(text: &[u8], line: &[u8]) -> bool {
     let line_ends = places_of(text, b"\n");
     let mut starts = line_ends.iter().map(|end| end + 1).chain([0]);

@@ -1,4 +1,4 @@
-//! Both sides of each limit, as goals.
+//! The goals for both sides of each limit.
 
 use super::goal::Goal;
 use crate::answers::file::content_start;
@@ -8,7 +8,7 @@ use crate::format::block::{
 use crate::format::text::{FILE_BEGIN, INDEX_LINE, MARK, YAML_LINE};
 use asdf_second::{Block, Inner, Verdict};
 
-/// All of them.
+/// Returns all goals for limits.
 pub fn goals() -> Vec<Goal> {
     [
         block_counts(),
@@ -24,7 +24,7 @@ pub fn goals() -> Vec<Goal> {
     .collect()
 }
 
-/// Few blocks, and as many as a file may have.
+/// Returns goals for files with few blocks, with as many as a file may have, and with one more.
 fn block_counts() -> Vec<Goal> {
     let mut goals: Vec<Goal> = [0, 1, 2, 62, 63, 64]
         .map(|count| {
@@ -50,7 +50,7 @@ fn block_counts() -> Vec<Goal> {
     goals
 }
 
-/// Lines that end, or do not, at the end of the file.
+/// Returns goals for texts that the end of the file cuts short.
 fn text_limits() -> Vec<Goal> {
     vec![
         Goal::of_refusal("unended version line (3)", 3, |file, _| {
@@ -77,7 +77,7 @@ fn text_limits() -> Vec<Goal> {
     ]
 }
 
-/// Both sides of the limits on H.
+/// Returns goals for both sides of the limits on the header size `H`.
 fn header_size_limits() -> Vec<Goal> {
     vec![
         Goal::of_block("header size 48", |_, block| block.header_size == 48),
@@ -112,18 +112,19 @@ fn header_size_limits() -> Vec<Goal> {
     ]
 }
 
-/// Where a block's content begins by its stored header size.
+/// Returns where the content of a block begins according to its stored header size.
 fn stored_content_start(file: &[u8], block: usize) -> Option<u128> {
     let header_size = HEADER_SIZE.number(file, block)?;
     Some((block + HEADER_SIZE_COUNTS_FROM) as u128 + header_size)
 }
 
-/// Where a block's allocated space ends by its stored sizes.
+/// Returns where the allocated space of a block ends according to its stored sizes.
 fn stored_end(file: &[u8], block: usize) -> Option<u128> {
     Some(stored_content_start(file, block)? + ALLOCATED.number(file, block)?)
 }
 
-/// Both sides of the limits on the three sizes.
+/// Returns goals for both sides of the limits on the allocated size, the used size and the data
+/// size.
 fn size_limits() -> Vec<Goal> {
     vec![
         Goal::of_block("used equals allocated", |_, block| {
@@ -165,12 +166,13 @@ fn size_limits() -> Vec<Goal> {
     ]
 }
 
-/// Whether one stored size is one above another.
+/// Whether one stored size is one larger than another.
 fn is_one_above(file: &[u8], block: usize, above: Field, below: Field) -> bool {
     above.number(file, block) == below.number(file, block).map(|size| size + 1)
 }
 
-/// Whether the end of the allocated space, cut to so many bits, falls into the file.
+/// Whether the end of the allocated space overflows this many bits, and the low bits that are left
+/// give an offset inside the file.
 fn wraps(file: &[u8], block: usize, bits: u32) -> bool {
     stored_end(file, block).is_some_and(|end| {
         let range_end = 1 << bits;
@@ -178,7 +180,7 @@ fn wraps(file: &[u8], block: usize, bits: u32) -> bool {
     })
 }
 
-/// Kinds of streamed blocks.
+/// Returns goals for the kinds of streamed blocks.
 fn streamed_blocks() -> Vec<Goal> {
     vec![
         Goal::of_record("streamed block", |record| record.block.is_streamed()),
@@ -201,7 +203,7 @@ fn streamed_blocks() -> Vec<Goal> {
     ]
 }
 
-/// Contents that begin like a file, and almost.
+/// Returns goals for contents that begin like a file, or almost do.
 fn content_limits() -> Vec<Goal> {
     vec![
         Goal::of_block("content of five bytes like a file's", |file, block| {
@@ -216,12 +218,13 @@ fn content_limits() -> Vec<Goal> {
     ]
 }
 
-/// Whether a block's content is these first bytes of a file and no more.
+/// Whether the content of a block is the first `length` bytes of a file and no more.
 fn begins_like_file(file: &[u8], block: &Block, length: usize) -> bool {
     block.used as usize == length && file[content_start(block)..].starts_with(&FILE_BEGIN[..length])
 }
 
-/// Lengths around what the program takes, and the greatest.
+/// Returns goals for lengths around the longest input of the program `list`, and the largest length
+/// of a file.
 fn length_limits() -> Vec<Goal> {
     [65_535, 65_536, 65_537, 4_294_967_295]
         .map(|length| {

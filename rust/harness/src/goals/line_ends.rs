@@ -1,4 +1,5 @@
-//! What a run has to reach of line ends: of the header, of the index that is written, and of lines that end otherwise.
+//! The goals for line ends: the line end of the header, the line end of the index that is written,
+//! and lines with the other line end.
 
 use super::goal::Goal;
 use crate::answers::file::Answers;
@@ -6,10 +7,11 @@ use crate::format::block::HEADER_SIZE_COUNTS_FROM;
 use crate::format::limits::MOST_BLOCKS;
 use asdf_second::{Inner, LineEnd, Record};
 
-/// The length of the index of one block at an offset of two digits, with 0D 0A. It is also asked for with one byte less.
+/// The length of the index of one block at an offset of two digits, with 0D 0A. The index is also
+/// requested with a buffer that is one byte shorter.
 const SHORT_INDEX: usize = 45;
 
-/// All of them.
+/// Returns all goals for line ends.
 pub fn goals() -> Vec<Goal> {
     let kinds = [(LineEnd::Lf, "0A"), (LineEnd::Crlf, "0D 0A")];
     let mut goals: Vec<Goal> = kinds
@@ -22,7 +24,7 @@ pub fn goals() -> Vec<Goal> {
     goals
 }
 
-/// What files have to reach whose header line ends so.
+/// Makes the goals for files whose header line has this line end. `words` is its name.
 fn header_goals(kind: LineEnd, words: &str) -> Vec<Goal> {
     let header = |what: &str, reached: fn(&[u8], &Answers) -> bool| {
         let name = format!("header ended by {words}{what}");
@@ -46,17 +48,17 @@ fn header_goals(kind: LineEnd, words: &str) -> Vec<Goal> {
     ]
 }
 
-/// How the header line of an accepted file ends.
+/// Returns the line end of the header line, if the file is accepted.
 pub fn line_end(answers: &Answers) -> Option<LineEnd> {
     Some(answers.layout.as_ref().ok()?.line_end)
 }
 
-/// The length of the index that is written.
+/// Returns the length of the index that is written, if there is one.
 fn index_length(answers: &Answers) -> Option<usize> {
     answers.index.as_ref().ok().map(Vec::len)
 }
 
-/// The line ends in a text.
+/// Returns the line ends in a text.
 pub fn line_ends_in(text: &[u8]) -> Vec<LineEnd> {
     let mut lines: Vec<&[u8]> = text.split(|&byte| byte == b'\n').collect();
     lines.pop();
@@ -67,7 +69,7 @@ pub fn line_ends_in(text: &[u8]) -> Vec<LineEnd> {
     ends.collect()
 }
 
-/// Whether a line of the comments or the tree ends otherwise than the header line.
+/// Whether a line of the comments or the tree has another line end than the header line.
 fn has_other_lines(file: &[u8], answers: &Answers) -> bool {
     let comments = answers.layout.as_ref().ok().map(|layout| layout.comments);
     let comments = comments.map(|comments| comments.start..comments.end);
@@ -80,7 +82,8 @@ fn has_other_lines(file: &[u8], answers: &Answers) -> bool {
     })
 }
 
-/// Whether the header line of an opened inner file ends otherwise than that of the outermost.
+/// Whether the header line of an opened inner file has another line end than that of the outermost
+/// file.
 fn has_other_header(file: &[u8], answers: &Answers) -> bool {
     let content_start = |record: &Record| {
         let header_size = usize::from(record.block.header_size);

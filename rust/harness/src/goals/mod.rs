@@ -1,4 +1,5 @@
-//! What a run has to reach, and how often it did.
+//! What a run has to reach at least once, and how often it did. In the name of a goal, parentheses
+//! hold the number of a refusal or the verdict on an index.
 
 pub mod coverage;
 pub mod edits;
@@ -14,7 +15,7 @@ pub mod stored;
 
 use goal::Goal;
 
-/// All goals of files.
+/// Returns all goals for files.
 pub fn of_files() -> Vec<Goal> {
     [
         file::goals(),

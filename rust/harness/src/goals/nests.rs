@@ -1,4 +1,4 @@
-//! What a run has to reach of files inside blocks.
+//! The goals for files inside blocks.
 
 use super::goal::Goal;
 use crate::answers::file::{content_start, Answers};
@@ -14,7 +14,7 @@ const INNER_STATES: [(InnerKind, &str); 4] = [
     (InnerKind::TooDeep, "too deep"),
 ];
 
-/// All of them.
+/// Returns all goals for files inside blocks.
 pub fn goals() -> Vec<Goal> {
     [
         inner_states(),
@@ -30,7 +30,7 @@ pub fn goals() -> Vec<Goal> {
     .collect()
 }
 
-/// Each inner state at each depth where it can be.
+/// Returns goals for each inner state at each depth at which it is possible.
 fn inner_states() -> Vec<Goal> {
     let depths = 0..=DEEPEST;
     let pairs = depths.flat_map(|depth| INNER_STATES.map(|state| (depth, state)));
@@ -53,8 +53,9 @@ fn is_possible(depth: u8, kind: InnerKind) -> bool {
     }
 }
 
-/// Each number that refuses a file in a block of at least this depth. What does not begin like a
-/// file is plain and what is longer than a file may be stands in none, so 1 and 2 never come.
+/// Returns goals for each number with which a file is refused that is inside a block of at least
+/// this depth. The numbers 1 and 2 never occur: no file can contain one that is too long to be a
+/// file, and a content that does not begin like a file is plain.
 fn inner_refusals(what: &'static str, least_depth: u8) -> Vec<Goal> {
     (3..=17)
         .map(|number| {
@@ -65,7 +66,8 @@ fn inner_refusals(what: &'static str, least_depth: u8) -> Vec<Goal> {
         .collect()
 }
 
-/// Where inner files are refused with this number, counted from their own first bytes.
+/// Returns where inner files are refused with this number. Each place is counted from the first
+/// byte of its own inner file.
 fn inner_places(answers: &Answers, least_depth: u8, number: u8) -> Vec<usize> {
     let records = answers.records().iter();
     records
@@ -74,7 +76,8 @@ fn inner_places(answers: &Answers, least_depth: u8, number: u8) -> Vec<usize> {
         .collect()
 }
 
-/// Where the file in a block is refused with this number, counted from its own first byte.
+/// Returns where the file in a block is refused with this number. The place is counted from the
+/// first byte of that inner file.
 pub fn refused_inside(record: &Record, number: u8) -> Option<usize> {
     match record.inner {
         Inner::Refused(refusal) if refusal.number == number => Some(refusal.place as usize),
@@ -82,7 +85,7 @@ pub fn refused_inside(record: &Record, number: u8) -> Option<usize> {
     }
 }
 
-/// Ways in which the walk goes on after an inner file.
+/// Returns goals for the ways in which the walk continues after an inner file.
 fn branches() -> Vec<Goal> {
     let mut goals: Vec<Goal> = (1..=DEEPEST)
         .map(|up| {
@@ -121,7 +124,7 @@ fn branches() -> Vec<Goal> {
     goals
 }
 
-/// How many blocks of this depth hold an opened file.
+/// Counts the blocks at this depth that hold an opened file.
 fn opened_at(answers: &Answers, depth: u8) -> usize {
     let records = answers.records().iter();
     records
@@ -135,7 +138,7 @@ pub fn is_opened(record: &Record) -> bool {
 }
 
 impl Goal {
-    /// A goal that a record and the next one reach.
+    /// Makes a goal that a record reaches together with the next record.
     fn of_pair(
         name: impl Into<String>,
         reached: impl Fn(&Record, &Record) -> bool + 'static,
@@ -147,13 +150,13 @@ impl Goal {
         })
     }
 
-    /// A goal that records of inner files reach.
+    /// Makes a goal that records of inner files reach.
     fn of_inner(name: &str, reached: impl Fn(&Record) -> bool + 'static) -> Goal {
         Goal::of_record(name, move |record| record.depth > 0 && reached(record))
     }
 }
 
-/// Kinds of blocks in inner files.
+/// Returns goals for the kinds of blocks in inner files.
 fn kinds_of_inner_blocks() -> Vec<Goal> {
     vec![
         Goal::of_inner("inner block, streamed", |record| record.block.is_streamed()),
@@ -181,7 +184,8 @@ fn kinds_of_inner_blocks() -> Vec<Goal> {
     ]
 }
 
-/// Contents that begin like a file, or would if more or less of the block were looked at.
+/// Returns goals for contents that begin like a file, or would do so if more or less of the block
+/// were read.
 fn contents() -> Vec<Goal> {
     vec![
         Goal::of_record("content of exactly the six bytes", |record| {
@@ -207,7 +211,7 @@ fn contents() -> Vec<Goal> {
     ]
 }
 
-/// What stands in files that are too deep to be read.
+/// Returns goals for what is inside files that are too deep to be read.
 fn unread_files() -> Vec<Goal> {
     vec![
         too_deep("too deep and broken", |content| records(content).is_err()),
@@ -217,14 +221,15 @@ fn unread_files() -> Vec<Goal> {
     ]
 }
 
-/// A goal that the content of a block that is too deep reaches.
+/// Makes a goal that a block reaches if its content is a file that is too deep and `reached` holds
+/// for it.
 fn too_deep(name: &str, reached: fn(&[u8]) -> bool) -> Goal {
     Goal::of_record_in(name, move |file, record| {
         record.inner == Inner::TooDeep && reached(content(file, record))
     })
 }
 
-/// Whether a file holds another one, so many levels further in.
+/// Whether a file holds another file, `levels` levels further in.
 fn holds_file_at(file: &[u8], levels: u8) -> bool {
     let records = records(file).unwrap_or_default();
     records
@@ -237,17 +242,17 @@ fn is_refused_at_once(record: &Record) -> bool {
     refused_inside(record, 3).is_some()
 }
 
-/// A block's content, in the outermost file.
+/// Returns the content of a block, as a part of the outermost file.
 pub fn content<'a>(file: &'a [u8], record: &Record) -> &'a [u8] {
     &content_with_unused(file, record)[..record.block.used as usize]
 }
 
-/// The unused space after a block's content.
+/// Returns the unused space after the content of a block.
 pub fn unused<'a>(file: &'a [u8], record: &Record) -> &'a [u8] {
     &content_with_unused(file, record)[record.block.used as usize..]
 }
 
-/// A block's content with the unused space after it, in the outermost file.
+/// Returns the content of a block with the unused space after it, as a part of the outermost file.
 fn content_with_unused<'a>(file: &'a [u8], record: &Record) -> &'a [u8] {
     let header_bytes = content_start(&record.block) - record.block.offset.0 as usize;
     let start = record.offset.0 as usize + header_bytes;

@@ -1,9 +1,9 @@
-//! What a run has to reach of searches for a mark.
+//! The goals for searches for a mark.
 
 use super::goal::Goal;
 use crate::format::text::MARK;
 
-/// So many bytes the search of the core tests at once.
+/// How many bytes the search in the proved core tests together.
 pub const BLOCK: usize = 64;
 
 /// Where a search started, and what it has to find.
@@ -13,7 +13,7 @@ pub struct Search {
 }
 
 impl Search {
-    /// How far the mark, or the end, is from the start.
+    /// Returns how far the mark is from the start, or the end if there is no mark.
     fn distance(&self) -> usize {
         self.found - self.start
     }
@@ -24,7 +24,7 @@ impl Search {
     }
 }
 
-/// What the strings have to reach.
+/// Returns all goals for the searched strings.
 pub fn goals() -> Vec<Goal<Search>> {
     let mut goals = vec![
         goal("search, no bytes", |bytes, _| bytes.is_empty()),
@@ -60,7 +60,7 @@ pub fn goals() -> Vec<Goal<Search>> {
     goals
 }
 
-/// A goal that a search reaches at the distance of what it finds.
+/// Makes a goal that a search reaches. The place is the distance from the start to what is found.
 fn goal(
     name: impl Into<String>,
     reached: impl Fn(&[u8], &Search) -> bool + 'static,

@@ -1,4 +1,4 @@
-//! What a run has to reach of stored outlines.
+//! The goals for stored outlines.
 
 use super::goal::Goal;
 use crate::answers::stored::StoredAnswers;
@@ -6,13 +6,13 @@ use crate::format::refusals::{OUTLINE_LENGTH, OUTLINE_ROW};
 use crate::generate::outline::StoredRow;
 use asdf_second::{Row, ROW_LENGTH};
 
-/// The three bits above the inner state in a row's first byte.
+/// The three bits above the inner state in the first byte of a row.
 const FLAG_BITS: [(u8, &str); 3] = [(16, "streamed"), (8, "compressed"), (4, "checksum")];
 
-/// A goal of stored outlines.
+/// A goal that a stored outline can reach.
 type StoredGoal = Goal<StoredAnswers>;
 
-/// All of them.
+/// Returns all goals for stored outlines.
 pub fn goals() -> Vec<StoredGoal> {
     [
         row_counts(),
@@ -26,7 +26,7 @@ pub fn goals() -> Vec<StoredGoal> {
     .collect()
 }
 
-/// Accepted outlines of few and of many rows.
+/// Returns goals for accepted outlines with few rows and with many.
 fn row_counts() -> Vec<StoredGoal> {
     let mut goals: Vec<StoredGoal> = [0, 1, 2]
         .map(|count| {
@@ -42,13 +42,14 @@ fn row_counts() -> Vec<StoredGoal> {
     goals
 }
 
-/// The number of rows of an accepted outline, if it is as asked.
+/// Returns the number of rows of an accepted outline, if it is `wanted`.
 fn accepted_length(answers: &StoredAnswers, wanted: impl Fn(usize) -> bool) -> Vec<usize> {
     let rows = answers.rows.as_ref().ok().map(Vec::len);
     rows.filter(|&rows| wanted(rows)).into_iter().collect()
 }
 
-/// Each remainder of a length, also after a row against the rules.
+/// Returns goals for each remainder of a wrong length, and a wrong length together with a row that
+/// breaks the rules.
 fn wrong_lengths() -> Vec<StoredGoal> {
     let mut goals: Vec<StoredGoal> = (1..ROW_LENGTH)
         .map(|rest| {
@@ -74,7 +75,7 @@ fn wrong_lengths() -> Vec<StoredGoal> {
     goals
 }
 
-/// Rows one beyond a limit, with every other field as it has to be.
+/// Returns goals for rows that are one beyond a limit, while every other field is right.
 fn wrong_rows() -> Vec<StoredGoal> {
     vec![
         wrong_row("stored, row refused (24)", |_, _| true),
@@ -100,13 +101,14 @@ fn wrong_rows() -> Vec<StoredGoal> {
     ]
 }
 
-/// A stored row and where it begins.
+/// A stored row, and where it begins.
 struct PlacedRow {
     place: usize,
     row: StoredRow,
 }
 
-/// A goal that a refused row reaches; it is given how deep that row may be.
+/// Makes a goal that a refused row reaches. `reached` also gets the highest depth that this row may
+/// have.
 fn wrong_row(name: &str, reached: impl Fn(&PlacedRow, u8) -> bool + 'static) -> StoredGoal {
     StoredGoal::new(name, move |stored, answers| {
         let place = answers.refused_with(OUTLINE_ROW);
@@ -117,7 +119,7 @@ fn wrong_row(name: &str, reached: impl Fn(&PlacedRow, u8) -> bool + 'static) -> 
     })
 }
 
-/// The row that begins at a place.
+/// Returns the row that begins at a place.
 fn row_at(stored: &[u8], place: usize) -> PlacedRow {
     PlacedRow {
         place,
@@ -125,23 +127,23 @@ fn row_at(stored: &[u8], place: usize) -> PlacedRow {
     }
 }
 
-/// How deep the row at a place may be.
+/// Returns the highest depth that the row at a place may have.
 fn deepest_at(stored: &[u8], place: usize) -> u8 {
     let before = place.checked_sub(ROW_LENGTH);
     before.map_or(0, |before| row_at(stored, before).row.depth() + 1)
 }
 
-/// Whether header size and sizes are as they have to be.
+/// Whether the header size and the other sizes of a row are right.
 fn sizes_fit(row: StoredRow) -> bool {
     row.header_size >= 48 && row.used <= row.allocated
 }
 
-/// Whether all but the depth is as it has to be.
+/// Whether everything in a row except its depth is right.
 fn keeps_to_its_limits(row: StoredRow) -> bool {
     row.ordinal < 64 && sizes_fit(row)
 }
 
-/// Rows at a limit, and each bit of kind.
+/// Returns goals for rows at a limit, each inner state and each flag.
 fn accepted_rows() -> Vec<StoredGoal> {
     let mut goals = vec![
         accepted_row("stored, ordinal 63", |row| row.ordinal == 63),
@@ -169,7 +171,7 @@ fn accepted_rows() -> Vec<StoredGoal> {
     goals
 }
 
-/// A goal that a row of an accepted outline reaches.
+/// Makes a goal that a row of an accepted outline reaches.
 fn accepted_row(name: impl Into<String>, reached: impl Fn(&Row) -> bool + 'static) -> StoredGoal {
     StoredGoal::new(name, move |_, answers| {
         let rows = answers.rows().iter().enumerate();
@@ -178,14 +180,14 @@ fn accepted_row(name: impl Into<String>, reached: impl Fn(&Row) -> bool + 'stati
     })
 }
 
-/// The row's flags as the bits that are stored for them.
+/// Returns the flags of a row as the bits that are stored for them.
 fn flag_bits(row: &Row) -> u8 {
     let flags = [row.streamed, row.compressed, row.checksum];
     let set = flags.into_iter().zip(FLAG_BITS).filter(|(set, _)| *set);
     set.map(|(_, (bit, _))| bit).sum()
 }
 
-/// Depths of two rows one after another in an accepted outline.
+/// Returns goals for the depths of two consecutive rows in an accepted outline.
 fn neighbours() -> Vec<StoredGoal> {
     vec![
         pair("stored, next row one deeper", |row, next| {
@@ -203,7 +205,7 @@ fn neighbours() -> Vec<StoredGoal> {
     ]
 }
 
-/// A goal that two rows one after another reach.
+/// Makes a goal that two consecutive rows reach.
 fn pair(name: &str, reached: impl Fn(&Row, &Row) -> bool + 'static) -> StoredGoal {
     StoredGoal::new(name, move |_, answers| {
         let pairs = answers.rows().windows(2).enumerate();
