@@ -52,7 +52,7 @@ impl<A> Coverage<A> {
 impl<A> fmt::Display for Coverage<A> {
     /// Writes a table with one line for each goal.
     fn fmt(&self, f: &mut fmt::Formatter<'_>) -> fmt::Result {
-        writeln!(f, "{:<52}{:>10}{:>10}", "reached", "times", "places")?;
+        writeln!(f, "{:<52}{:>10}{:>10}", "goal", "times", "places")?;
         for reached in &self.reached {
             writeln!(
                 f,

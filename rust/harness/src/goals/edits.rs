@@ -149,22 +149,26 @@ fn refusals() -> Vec<EditGoal> {
 /// Returns goals for edits that could be refused for two reasons. The first reason counts.
 fn orders() -> Vec<EditGoal> {
     vec![
-        goal("edit, file refused, and no tree as text", |seen| {
+        goal("edit, file refused, text is no tree", |seen| {
             seen.answers.file.layout.is_err() && !is_one_tree(seen.text())
         }),
-        goal("edit, file refused, and a tree as text", |seen| {
+        goal("edit, file refused, text is a tree", |seen| {
             seen.answers.file.layout.is_err() && is_one_tree(seen.text())
         }),
-        refused("no tree, and none as text", EDIT_WITHOUT_TREE, |seen| {
-            !is_one_tree(seen.text())
-        }),
-        refused("no tree, and one as text", EDIT_WITHOUT_TREE, |seen| {
-            is_one_tree(seen.text())
-        }),
-        refused("wrong text and too long", TEXT_NOT_ONE_TREE, |seen| {
+        refused(
+            "file has no tree, text is no tree",
+            EDIT_WITHOUT_TREE,
+            |seen| !is_one_tree(seen.text()),
+        ),
+        refused(
+            "file has no tree, text is a tree",
+            EDIT_WITHOUT_TREE,
+            |seen| is_one_tree(seen.text()),
+        ),
+        refused("text wrong and too long", TEXT_NOT_ONE_TREE, |seen| {
             seen.text().len() > seen.room()
         }),
-        refused("wrong text that would fit", TEXT_NOT_ONE_TREE, |seen| {
+        refused("text wrong, but short enough", TEXT_NOT_ONE_TREE, |seen| {
             seen.text().len() <= seen.room()
         }),
     ]
@@ -190,10 +194,10 @@ fn lengths() -> Vec<EditGoal> {
         edited("edited, text shorter than the tree", |seen| {
             seen.text().len() < seen.old().len()
         }),
-        refused("one byte too long", too_long, |seen| {
+        refused("text one byte too long", too_long, |seen| {
             seen.text().len() == seen.room() + 1
         }),
-        refused("two and more bytes too long", too_long, |seen| {
+        refused("text two or more bytes too long", too_long, |seen| {
             seen.text().len() > seen.room() + 1
         }),
     ]
@@ -203,26 +207,28 @@ fn lengths() -> Vec<EditGoal> {
 fn rooms() -> Vec<EditGoal> {
     let too_long = TEXT_LONGER_THAN_ROOM;
     vec![
-        edited("edited, room of exactly the tree", |seen| {
+        edited("edited, no free space after the old tree", |seen| {
             seen.free_space().is_empty()
         }),
-        edited("edited, room of exactly the tree, none left", |seen| {
+        edited("edited, no free space, and no space left", |seen| {
             seen.free_space().is_empty() && seen.text().len() == seen.room()
         }),
-        refused("room of the tree, one too long", too_long, |seen| {
+        refused("no free space, text one byte too long", too_long, |seen| {
             seen.free_space().is_empty() && seen.text().len() == seen.room() + 1
         }),
         edited("edited, room to the end of the file", |seen| seen.is_last()),
         edited("edited, room to the end, no space left", |seen| {
             seen.is_last() && seen.text().len() == seen.room()
         }),
-        refused("room to the end, one too long", too_long, |seen| {
-            seen.is_last() && seen.text().len() == seen.room() + 1
-        }),
+        refused(
+            "room to the end, text one byte too long",
+            too_long,
+            |seen| seen.is_last() && seen.text().len() == seen.room() + 1,
+        ),
         edited("edited, free space before a block", |seen| {
             !seen.is_last() && !seen.free_space().is_empty()
         }),
-        edited("edited, free space with part of a mark", |seen| {
+        edited("edited, part of a mark in the free space", |seen| {
             seen.free_space().contains(&MARK[0])
         }),
     ]
@@ -232,7 +238,7 @@ fn rooms() -> Vec<EditGoal> {
 fn texts() -> Vec<EditGoal> {
     vec![
         edited("edited, equal text", |seen| seen.text() == seen.old()),
-        edited("edited, equal text, free space of others", |seen| {
+        edited("edited, equal text, free space not all spaces", |seen| {
             seen.text() == seen.old() && seen.free_space().iter().any(|&byte| byte != b' ')
         }),
         edited("edited, other text as long as the tree", |seen| {
@@ -283,19 +289,19 @@ fn files() -> Vec<EditGoal> {
         edited("edited, gap between blocks", |seen| {
             seen.has_gap(|depth| depth == 0)
         }),
-        edited("edited, gap in a file inside", |seen| {
+        edited("edited, gap in an inner file", |seen| {
             seen.has_gap(|depth| depth > 0)
         }),
         edited("edited, good index after gaps", |seen| {
             seen.has_gap(|depth| depth == 0) && seen.answers.file.verdict() == Some(Verdict::Good)
         }),
-        edited("edited, opened file inside", |seen| {
+        edited("edited, opened inner file", |seen| {
             seen.has_record(|record| record.inner == Inner::Opened)
         }),
-        edited("edited, refused file inside", |seen| {
+        edited("edited, refused inner file", |seen| {
             seen.has_record(|record| matches!(record.inner, Inner::Refused(_)))
         }),
-        edited("edited, file inside that is too deep", |seen| {
+        edited("edited, inner file that is too deep", |seen| {
             seen.has_record(|record| record.inner == Inner::TooDeep)
         }),
     ]
@@ -356,25 +362,25 @@ fn ends() -> Vec<EditGoal> {
         wrong_text("last 0A missing", |text, _| {
             is_one_tree(&[text, b"\n"].concat())
         }),
-        wrong_text("blank line behind the tree", |_, answers| {
+        wrong_text("blank line after the tree", |_, answers| {
             answers.after_tree() == Some(b"\n")
         }),
-        wrong_text("space behind the tree", |_, answers| {
+        wrong_text("space after the tree", |_, answers| {
             answers.after_tree() == Some(b" ")
         }),
-        wrong_text("zero behind the tree", |_, answers| {
+        wrong_text("zero after the tree", |_, answers| {
             answers.after_tree() == Some(b"\0")
         }),
-        wrong_text("another tree behind it", |_, answers| {
+        wrong_text("another tree after the tree", |_, answers| {
             answers.after_tree().is_some_and(is_one_tree)
         }),
-        wrong_text("mark behind the tree", |text, _| {
+        wrong_text("mark after the tree", |text, _| {
             text.strip_suffix(MARK).is_some_and(is_one_tree)
         }),
         refused("tree with its free space", TEXT_NOT_ONE_TREE, |seen| {
             seen.text() == &seen.bytes[seen.start..seen.room_end]
         }),
-        wrong_text("unended line", |text, answers| {
+        wrong_text("unterminated line", |text, answers| {
             let place = answers.text_refused_with(TREE_NOT_ENDED);
             place.is_some_and(|place| place < text.len())
         }),
@@ -390,7 +396,7 @@ fn lines() -> Vec<EditGoal> {
         wrong_text("wrong line before the start line", |_, answers| {
             answers.text_refused_with(WRONG_LINE_BEFORE_START).is_some()
         }),
-        wrong_text("... before the start line", |text, answers| {
+        wrong_text("`...` before the start line", |text, answers| {
             let place = answers.text_refused_with(WRONG_LINE_BEFORE_START);
             place.is_some_and(|place| text[place..].starts_with(b"...\n"))
         }),

@@ -53,10 +53,10 @@ fn parts() -> Vec<Goal> {
         Goal::of_file("tree with free space", |_, answers| {
             answers.tree().is_some_and(|tree| tree.end < tree.room_end)
         }),
-        Goal::of_file("free space of 64 bytes and more", |_, answers| {
+        Goal::of_file("free space of 64 bytes or more", |_, answers| {
             free_space(answers).is_some_and(|length| length >= BLOCK)
         }),
-        Goal::of_file("first mark over two blocks of 64", |_, answers| {
+        Goal::of_file("first mark across a 64-byte boundary", |_, answers| {
             let over = |length: usize| length % BLOCK > BLOCK - MARK.len();
             !answers.blocks().is_empty() && free_space(answers).is_some_and(over)
         }),

@@ -60,21 +60,21 @@ fn kinds(what: &str, wanted: fn(u8) -> bool) -> Vec<Goal> {
             !gap.iter().any(|byte| b"\0 ".contains(byte))
         }),
         of_kind("of one byte", |gap| gap.len() == 1),
-        of_kind("of 16 of the 17 bytes of an index", |gap| {
+        of_kind("of 16 of an index line's 17 bytes", |gap| {
             gap == &INDEX_LINE[..16]
         }),
         of_kind("with an index line after one byte", |gap| {
             gap[1..].starts_with(INDEX_LINE)
         }),
         of_kind("of an old block's bytes", is_old_block),
-        of_kind("of 64 bytes and more", |gap| gap.len() >= BLOCK),
-        of_kind("before a mark over two blocks of 64", |gap| {
+        of_kind("of 64 bytes or more", |gap| gap.len() >= BLOCK),
+        of_kind("before a mark across a 64-byte boundary", |gap| {
             gap.len() % BLOCK > BLOCK - MARK.len()
         }),
     ];
     goals.extend((1..MARK.len()).map(|length| {
         Goal::of_gap(
-            format!("{what} with {length} of a mark's bytes at its end"),
+            format!("{what} that ends with {length} of a mark's 4 bytes"),
             move |gap| wanted(gap.after.depth) && gap.bytes().ends_with(&MARK[..length]),
         )
     }));
@@ -112,7 +112,7 @@ fn blocks_around() -> Vec<Goal> {
         }),
         Goal::of_gap("opened file after a gap", |gap| is_opened(gap.after)),
         Goal::of_gap("opened file before a gap", |gap| is_opened(gap.before)),
-        Goal::of_gap("file refused with 17 before a gap", |gap| {
+        Goal::of_gap("inner file refused with 17 before a gap", |gap| {
             refused_inside(gap.before, STRAY_TAIL).is_some()
         }),
         Goal::of_gap("unused space before a gap", |gap| {
@@ -131,13 +131,14 @@ fn blocks_around() -> Vec<Goal> {
 /// partly inside a block that is not the last.
 fn no_marks() -> Vec<Goal> {
     vec![
-        of_followed("mark as a block's content", |file, record| {
+        of_followed("mark at the start of a block's content", |file, record| {
             content(file, record).starts_with(MARK)
         }),
-        of_followed("mark in a block's unused space", |file, record| {
-            unused(file, record).starts_with(MARK)
-        }),
-        Goal::of_gap("mark begun in a block, ended in a gap", |gap| {
+        of_followed(
+            "mark at the start of a block's unused space",
+            |file, record| unused(file, record).starts_with(MARK),
+        ),
+        Goal::of_gap("mark that begins in a block and ends in a gap", |gap| {
             gap.ends_a_mark()
         }),
     ]
@@ -197,14 +198,18 @@ fn inner_refusals() -> Vec<Goal> {
 /// Returns goals for tails for which a file is refused, because they contain no mark.
 fn stray_tails() -> Vec<Goal> {
     vec![
-        Goal::of_refusal("index after one byte (17)", STRAY_TAIL, |file, end| {
-            file[end + 1..].starts_with(INDEX_LINE)
-        }),
-        Goal::of_refusal("zeros and another byte (17)", STRAY_TAIL, |file, end| {
-            file[end] == 0
-        }),
         Goal::of_refusal(
-            "stray tail of 64 bytes and more (17)",
+            "index one byte after the last block (17)",
+            STRAY_TAIL,
+            |file, end| file[end + 1..].starts_with(INDEX_LINE),
+        ),
+        Goal::of_refusal(
+            "tail of zeros and another byte (17)",
+            STRAY_TAIL,
+            |file, end| file[end] == 0,
+        ),
+        Goal::of_refusal(
+            "stray tail of 64 bytes or more (17)",
             STRAY_TAIL,
             |file, end| file.len() - end >= BLOCK,
         ),
@@ -237,22 +242,23 @@ fn indexes() -> Vec<Goal> {
             answers.verdict() == Some(Verdict::Good) && have_gaps(answers.blocks())
         }),
         Goal::of_file(
-            "index of ends, not of marks (ignored-list)",
+            "index lists ends, not marks (ignored-list)",
             |file, answers| {
                 answers.verdict() == Some(Verdict::IgnoredList) && lists_ends(file, answers)
             },
         ),
         Goal::of_file(
-            "mark directly after the 17 bytes (ignored-form)",
+            "mark at offset 17 of an index (ignored-form)",
             |file, answers| mark_in_index(file, answers) == Some(INDEX_LINE.len()),
         ),
-        Goal::of_file("mark after an index (ignored-form)", |file, answers| {
-            mark_in_index(file, answers) > Some(INDEX_LINE.len())
-        }),
-        Goal::of_file("mark after an index, after 64 blocks", |file, answers| {
+        Goal::of_file(
+            "mark after offset 17 of an index (ignored-form)",
+            |file, answers| mark_in_index(file, answers) > Some(INDEX_LINE.len()),
+        ),
+        Goal::of_file("mark in an index after 64 blocks", |file, answers| {
             answers.blocks().len() == MOST_BLOCKS && mark_in_index(file, answers).is_some()
         }),
-        Goal::of_file("mark after an index, after gaps", |file, answers| {
+        Goal::of_file("mark in an index after gaps", |file, answers| {
             have_gaps(answers.blocks()) && mark_in_index(file, answers).is_some()
         }),
     ]

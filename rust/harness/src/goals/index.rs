@@ -105,7 +105,7 @@ fn style(name: &str, is_style: fn(&[u8]) -> bool) -> Vec<Goal> {
         of_style("two spaces together", Verdict::Good, |index| {
             !places_of(index, b"  ").is_empty()
         }),
-        of_style("zeros after it", Verdict::Good, |index| {
+        of_style("zeros after the index", Verdict::Good, |index| {
             index.ends_with(b"\0")
         }),
         of_style("one number", Verdict::IgnoredList, |index| {
@@ -159,12 +159,12 @@ fn spaces_before_line_ends() -> Vec<Goal> {
 /// Returns goals for lists with lines of both styles.
 fn mixed_styles() -> Vec<Goal> {
     vec![
-        ignored("list in brackets, then a dash", |index| {
+        ignored("list in brackets, then a dash line", |index| {
             let mut list = lines(index).skip(2);
             list.next().is_some_and(|line| line.starts_with(b"--- ["))
                 && list.next().is_some_and(|line| line.starts_with(b"- "))
         }),
-        ignored("list in brackets after a dash", |index| {
+        ignored("list in brackets after a dash line", |index| {
             has_dashes(index) && lines(index).skip(4).any(|line| line.starts_with(b"["))
         }),
     ]

@@ -43,9 +43,11 @@ fn block_counts() -> Vec<Goal> {
         Goal::of_refusal("65 blocks (16)", 16, |file, place| {
             file.len() - place >= FIELD_BYTES
         }),
-        Goal::of_refusal("65 marks and nothing behind (16)", 16, |file, place| {
-            file.len() - place == MARK.len()
-        }),
+        Goal::of_refusal(
+            "65th mark at the end of the file (16)",
+            16,
+            |file, place| file.len() - place == MARK.len(),
+        ),
     ]);
     goals
 }
@@ -53,25 +55,27 @@ fn block_counts() -> Vec<Goal> {
 /// Returns goals for texts that the end of the file cuts short.
 fn text_limits() -> Vec<Goal> {
     vec![
-        Goal::of_refusal("unended version line (3)", 3, |file, _| {
+        Goal::of_refusal("unterminated version line (3)", 3, |file, _| {
             !file.contains(&b'\n')
         }),
-        Goal::of_refusal("unended index line among comments (5)", 5, |file, place| {
-            &file[place..] == INDEX_LINE
-        }),
-        Goal::of_refusal("unended first line of a tree (7)", 7, |file, place| {
+        Goal::of_refusal(
+            "unterminated index line among comments (5)",
+            5,
+            |file, place| &file[place..] == INDEX_LINE,
+        ),
+        Goal::of_refusal("unterminated first line of a tree (7)", 7, |file, place| {
             &file[place..] == YAML_LINE
         }),
         Goal::of_refusal("three bytes of a mark (7)", 7, |file, place| {
             file[place..] == MARK[..3]
         }),
-        Goal::of_refusal("unended line in a tree (10)", 10, |file, place| {
+        Goal::of_refusal("unterminated line in a tree (10)", 10, |file, place| {
             place < file.len()
         }),
         Goal::of_refusal("missing line in a tree (10)", 10, |file, place| {
             place == file.len()
         }),
-        Goal::of_refusal("16 of the 17 bytes of an index (17)", 17, |file, place| {
+        Goal::of_refusal("16 of an index line's 17 bytes (17)", 17, |file, place| {
             file[place..] == INDEX_LINE[..16]
         }),
     ]
@@ -94,9 +98,11 @@ fn header_size_limits() -> Vec<Goal> {
         Goal::of_block("header up to the end of the file", |file, block| {
             content_start(block) == file.len()
         }),
-        Goal::of_refusal("header one byte past it (11)", 11, |file, block| {
-            stored_content_start(file, block) == Some(file.len() as u128 + 1)
-        }),
+        Goal::of_refusal(
+            "header one byte past the end of the file (11)",
+            11,
+            |file, block| stored_content_start(file, block) == Some(file.len() as u128 + 1),
+        ),
         Goal::of_refusal("four bytes of a header (11)", 11, |file, block| {
             file.len() - block == 4
         }),
@@ -106,9 +112,11 @@ fn header_size_limits() -> Vec<Goal> {
         Goal::of_refusal("six bytes of a header (11)", 11, |file, block| {
             file.len() - block == 6
         }),
-        Goal::of_refusal("six bytes, H below 48 (12)", 12, |file, block| {
-            file.len() - block == 6
-        }),
+        Goal::of_refusal(
+            "six bytes of a header, H below 48 (12)",
+            12,
+            |file, block| file.len() - block == 6,
+        ),
     ]
 }
 
@@ -142,7 +150,7 @@ fn size_limits() -> Vec<Goal> {
         Goal::of_refusal("data size one below used (14)", 14, |file, block| {
             is_one_above(file, block, USED, DATA_SIZE)
         }),
-        Goal::of_block("data size of all FF", |_, block| {
+        Goal::of_block("data size with all bytes FF", |_, block| {
             block.data_size == u64::MAX
         }),
         Goal::of_file(
@@ -150,13 +158,15 @@ fn size_limits() -> Vec<Goal> {
             |file, answers| answers.chain_end() == Some(file.len()),
         ),
         Goal::of_refusal(
-            "allocated space one byte past it (15)",
+            "allocated space one byte past the end (15)",
             15,
             |file, block| stored_end(file, block) == Some(file.len() as u128 + 1),
         ),
-        Goal::of_refusal("allocated size of all FF (15)", 15, |file, block| {
-            ALLOCATED.number(file, block) == Some(u128::from(u64::MAX))
-        }),
+        Goal::of_refusal(
+            "allocated size with all bytes FF (15)",
+            15,
+            |file, block| ALLOCATED.number(file, block) == Some(u128::from(u64::MAX)),
+        ),
         Goal::of_refusal("end that wraps in 64 bits (15)", 15, |file, block| {
             wraps(file, block, 64)
         }),
@@ -196,25 +206,31 @@ fn streamed_blocks() -> Vec<Goal> {
         Goal::of_record("streamed block in an inner file", |record| {
             record.block.is_streamed() && record.depth > 0
         }),
-        Goal::of_block("streamed block that ignores its sizes", |file, block| {
-            let end = stored_end(file, block.offset.0 as usize);
-            block.is_streamed() && end.is_some_and(|end| end > file.len() as u128)
-        }),
+        Goal::of_block(
+            "streamed block, allocated size past the end",
+            |file, block| {
+                let end = stored_end(file, block.offset.0 as usize);
+                block.is_streamed() && end.is_some_and(|end| end > file.len() as u128)
+            },
+        ),
     ]
 }
 
 /// Returns goals for contents that begin like a file, or almost do.
 fn content_limits() -> Vec<Goal> {
     vec![
-        Goal::of_block("content of five bytes like a file's", |file, block| {
+        Goal::of_block("content of a file's first five bytes", |file, block| {
             begins_like_file(file, block, 5)
         }),
-        Goal::of_block("content of six bytes like a file's", |file, block| {
+        Goal::of_block("content of a file's first six bytes", |file, block| {
             begins_like_file(file, block, 6)
         }),
-        Goal::of_block("compressed content like a file", |file, block| {
-            block.is_compressed() && file[content_start(block)..].starts_with(FILE_BEGIN)
-        }),
+        Goal::of_block(
+            "compressed content that begins like a file",
+            |file, block| {
+                block.is_compressed() && file[content_start(block)..].starts_with(FILE_BEGIN)
+            },
+        ),
     ]
 }
 

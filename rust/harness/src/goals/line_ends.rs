@@ -39,10 +39,10 @@ fn header_goals(kind: LineEnd, words: &str) -> Vec<Goal> {
         header(", index of 64 blocks", |_, answers| {
             answers.index.is_ok() && answers.blocks().len() == MOST_BLOCKS
         }),
-        header(", index, other lines before", |file, answers| {
+        header(", index, other line ends", |file, answers| {
             answers.index.is_ok() && has_other_lines(file, answers)
         }),
-        header(", index, other header inside", |file, answers| {
+        header(", index, other line end inside", |file, answers| {
             answers.index.is_ok() && has_other_header(file, answers)
         }),
     ]

@@ -18,8 +18,8 @@ const INNER_STATES: [(InnerKind, &str); 4] = [
 pub fn goals() -> Vec<Goal> {
     [
         inner_states(),
-        inner_refusals("inner", 0),
-        inner_refusals("inner, in an inner file,", 1),
+        inner_refusals("inner file", 0),
+        inner_refusals("inner file in an inner file", 1),
         branches(),
         kinds_of_inner_blocks(),
         contents(),
@@ -37,9 +37,10 @@ fn inner_states() -> Vec<Goal> {
     pairs
         .filter(|(depth, (kind, _))| is_possible(*depth, *kind))
         .map(|(depth, (kind, name))| {
-            Goal::of_record(format!("depth {depth}, inner {name}"), move |record| {
-                record.depth == depth && InnerKind::from(record.inner) == kind
-            })
+            Goal::of_record(
+                format!("depth {depth}, inner state {name}"),
+                move |record| record.depth == depth && InnerKind::from(record.inner) == kind,
+            )
         })
         .collect()
 }
@@ -89,25 +90,26 @@ pub fn refused_inside(record: &Record, number: u8) -> Option<usize> {
 fn branches() -> Vec<Goal> {
     let mut goals: Vec<Goal> = (1..=DEEPEST)
         .map(|up| {
-            Goal::of_pair(format!("next row {up} up"), move |record, next| {
-                record.depth == next.depth + up
-            })
+            Goal::of_pair(
+                format!("next row less deep by {up}"),
+                move |record, next| record.depth == next.depth + up,
+            )
         })
         .collect();
     goals.extend([
         Goal::of_pair("row of an opened file's first block", |record, next| {
             record.depth + 1 == next.depth
         }),
-        Goal::of_pair("opened without a block inside", |record, next| {
+        Goal::of_pair("opened file without a block", |record, next| {
             record.inner == Inner::Opened && next.depth <= record.depth
         }),
-        Goal::of_file("two files opened in one file", |_, answers| {
+        Goal::of_file("two files opened in the outermost file", |_, answers| {
             opened_at(answers, 0) > 1
         }),
-        Goal::of_file("opened files side by side at depth 6", |_, answers| {
+        Goal::of_file("several files opened in blocks at depth 6", |_, answers| {
             opened_at(answers, 6) > 1
         }),
-        Goal::of_file("refused file before an opened one", |_, answers| {
+        Goal::of_file("refused inner file before an opened one", |_, answers| {
             let records = answers.records();
             let refused = records
                 .iter()
@@ -175,10 +177,10 @@ fn kinds_of_inner_blocks() -> Vec<Goal> {
         Goal::of_inner("inner block with a longer header", |record| {
             record.block.header_size > 48
         }),
-        Goal::of_inner("inner block of ordinal 63", |record| {
+        Goal::of_inner("inner block with ordinal 63", |record| {
             record.block.ordinal == 63
         }),
-        Goal::of_record("streamed block at the greatest depth", |record| {
+        Goal::of_record("streamed block at the highest depth", |record| {
             record.block.is_streamed() && record.depth == DEEPEST
         }),
     ]
@@ -188,19 +190,22 @@ fn kinds_of_inner_blocks() -> Vec<Goal> {
 /// were read.
 fn contents() -> Vec<Goal> {
     vec![
-        Goal::of_record("content of exactly the six bytes", |record| {
+        Goal::of_record("content of exactly six bytes, refused 3", |record| {
             is_refused_at_once(record) && record.block.used as usize == FILE_BEGIN.len()
         }),
-        Goal::of_inner("inner content of exactly the six bytes", |record| {
+        Goal::of_inner("inner content of exactly six bytes, refused 3", |record| {
             is_refused_at_once(record) && record.block.used as usize == FILE_BEGIN.len()
         }),
-        Goal::of_record_in("five bytes used, the sixth unused", |file, record| {
-            record.block.used == 5 && content_with_unused(file, record).starts_with(FILE_BEGIN)
-        }),
+        Goal::of_record_in(
+            "first five bytes of a file used, sixth unused",
+            |file, record| {
+                record.block.used == 5 && content_with_unused(file, record).starts_with(FILE_BEGIN)
+            },
+        ),
         Goal::of_record_in("file in unused space", |file, record| {
             unused(file, record).starts_with(FILE_BEGIN)
         }),
-        Goal::of_record_in("inner file with unused space behind it", |_, record| {
+        Goal::of_record_in("inner file with unused space after it", |_, record| {
             is_opened(record) && record.block.used < record.block.allocated
         }),
         Goal::of_record_in("compressed file in an inner file", |file, record| {
@@ -214,7 +219,9 @@ fn contents() -> Vec<Goal> {
 /// Returns goals for what is inside files that are too deep to be read.
 fn unread_files() -> Vec<Goal> {
     vec![
-        too_deep("too deep and broken", |content| records(content).is_err()),
+        too_deep("file that is too deep and would be refused", |content| {
+            records(content).is_err()
+        }),
         too_deep("file at depth 9", |content| holds_file_at(content, 1)),
         too_deep("file at depth 10", |content| holds_file_at(content, 2)),
         too_deep("file at depth 11", |content| holds_file_at(content, 3)),

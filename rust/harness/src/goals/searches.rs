@@ -28,28 +28,31 @@ impl Search {
 pub fn goals() -> Vec<Goal<Search>> {
     let mut goals = vec![
         goal("search, no bytes", |bytes, _| bytes.is_empty()),
-        goal("search after the end", |bytes, search| {
+        goal("search, start past the end", |bytes, search| {
             search.start > bytes.len()
         }),
         goal("search, no mark", |bytes, search| {
             search.found >= bytes.len()
         }),
-        goal("search, a part of a mark at the end", |bytes, search| {
+        goal("search, part of a mark at the end", |bytes, search| {
             search.found == bytes.len() && bytes.ends_with(&MARK[..3])
         }),
         goal("search, a mark at the start", |bytes, search| {
             search.is_found(bytes) && search.distance() == 0
         }),
-        goal("search, a mark over two blocks of 64", |bytes, search| {
-            search.is_found(bytes) && search.distance() % BLOCK > BLOCK - MARK.len()
-        }),
+        goal(
+            "search, a mark across a 64-byte boundary",
+            |bytes, search| {
+                search.is_found(bytes) && search.distance() % BLOCK > BLOCK - MARK.len()
+            },
+        ),
         goal("search, a mark near the end", |bytes, search| {
             search.is_found(bytes) && bytes.len() - search.found < BLOCK
         }),
     ];
     goals.extend((0..MARK.len()).map(|place| {
         goal(
-            format!("search, a mark at place {place} of a four"),
+            format!("search, a mark at byte {place} of a group of four"),
             move |bytes, search| {
                 search.is_found(bytes)
                     && search.distance() >= BLOCK

@@ -64,7 +64,7 @@ fn wrong_lengths() -> Vec<StoredGoal> {
         })
         .collect();
     goals.push(StoredGoal::new(
-        "stored, a wrong row too (23)",
+        "stored, wrong length and a wrong row (23)",
         |stored, answers| {
             let whole = stored.len() / ROW_LENGTH * ROW_LENGTH;
             let wrong_row = asdf_second::read_outline(&stored[..whole]).is_err();
@@ -95,9 +95,12 @@ fn wrong_rows() -> Vec<StoredGoal> {
         wrong_row("stored, first row at depth 1 (24)", |row, _| {
             row.place == 0 && row.row.depth() == 1 && keeps_to_its_limits(row.row)
         }),
-        wrong_row("stored, row two deeper (24)", |row, deepest| {
-            row.place > 0 && row.row.depth() == deepest + 1 && keeps_to_its_limits(row.row)
-        }),
+        wrong_row(
+            "stored, row two deeper than the row before (24)",
+            |row, deepest| {
+                row.place > 0 && row.row.depth() == deepest + 1 && keeps_to_its_limits(row.row)
+            },
+        ),
     ]
 }
 
@@ -154,12 +157,16 @@ fn accepted_rows() -> Vec<StoredGoal> {
         accepted_row("stored, used equals allocated", |row| {
             row.used > 0 && row.used == row.allocated
         }),
-        accepted_row("stored, sizes of all FF", |row| row.used == u32::MAX),
-        accepted_row("stored, offset of all FF", |row| row.offset.0 == u32::MAX),
+        accepted_row("stored, sizes with all bytes FF", |row| {
+            row.used == u32::MAX
+        }),
+        accepted_row("stored, offset with all bytes FF", |row| {
+            row.offset.0 == u32::MAX
+        }),
         accepted_row("stored, depth 7", |row| row.depth == 7),
     ];
     goals.extend((0..4).map(|inner| {
-        accepted_row(format!("stored, inner {inner}"), move |row| {
+        accepted_row(format!("stored, inner state {inner}"), move |row| {
             row.inner as u8 == inner
         })
     }));
@@ -193,13 +200,13 @@ fn neighbours() -> Vec<StoredGoal> {
         pair("stored, next row one deeper", |row, next| {
             next.depth == row.depth + 1
         }),
-        pair("stored, next row deeper under a plain one", |row, next| {
+        pair("stored, next row deeper after a plain row", |row, next| {
             next.depth == row.depth + 1 && row.inner as u8 == 0
         }),
-        pair("stored, next row as deep", |row, next| {
+        pair("stored, next row at the same depth", |row, next| {
             next.depth == row.depth
         }),
-        pair("stored, next row seven up", |row, next| {
+        pair("stored, next row less deep by seven", |row, next| {
             next.depth + 7 == row.depth
         }),
     ]
