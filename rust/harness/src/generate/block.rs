@@ -1,11 +1,11 @@
-//! A block that keeps the rules.
+//! Makes blocks that keep the rules.
 
 use super::text::part_of_mark;
 use crate::format::block::{block_header, FIELD_BYTES, HEADER_SIZE_COUNTS_FROM, STREAMED};
 use crate::format::text::{HEADER_LINE, MARK};
 use crate::rng::Rng;
 
-/// Compression names, the standard's and others.
+/// Compression names: those of the standard, and others.
 const COMPRESSIONS: &[[u8; 4]] = &[
     *b"zlib",
     *b"bzp2",
@@ -25,11 +25,11 @@ pub struct Block {
     pub used: u64,
     pub data_size: u64,
     checksum: [u8; 16],
-    /// The rest of the header, the content and the unused space.
+    /// The rest of the header after the fields, the content and the unused space.
     after_fields: Vec<u8>,
 }
 
-/// A block with this content, streamed mostly only where the chain may end.
+/// Makes a block with this content. It is rarely streamed unless the chain may end with it.
 pub fn good_block(rng: &mut Rng, content: &[u8], may_end: bool) -> Block {
     let used = content.len() as u64;
     let unused = unused_space(rng);
@@ -53,12 +53,12 @@ pub fn good_block(rng: &mut Rng, content: &[u8], may_end: bool) -> Block {
     block
 }
 
-/// The length of a header with this H.
+/// Returns the length of a header with this header size.
 fn header_bytes(header_size: u16) -> usize {
     HEADER_SIZE_COUNTS_FROM + usize::from(header_size)
 }
 
-/// Space after the content, mostly none.
+/// Makes the unused space after the content, which is mostly empty.
 fn unused_space(rng: &mut Rng) -> Vec<u8> {
     let length = rng.between(1, 30);
     match rng.below(14) {
@@ -72,7 +72,7 @@ fn unused_space(rng: &mut Rng) -> Vec<u8> {
     }
 }
 
-/// H of at least 48, mostly 48.
+/// Makes a header size of at least 48, mostly 48.
 fn header_size(rng: &mut Rng) -> u16 {
     if rng.chance(2_000) {
         u16::MAX
@@ -81,7 +81,8 @@ fn header_size(rng: &mut Rng) -> u16 {
     }
 }
 
-/// Flags; the streamed one mostly only where the chain may end.
+/// Makes the flags. The flag of a streamed block is rarely set unless the chain may end with the
+/// block.
 fn flags(rng: &mut Rng, may_end: bool) -> u32 {
     let others = match rng.below(8) {
         0 => rng.word() as u32,
@@ -92,7 +93,7 @@ fn flags(rng: &mut Rng, may_end: bool) -> u32 {
     others & !STREAMED | u32::from(streamed)
 }
 
-/// A compression name, mostly none.
+/// Makes a compression name, mostly that of an uncompressed block.
 fn compression(rng: &mut Rng) -> [u8; 4] {
     if rng.chance(10) {
         rng.pick(COMPRESSIONS)
@@ -101,7 +102,7 @@ fn compression(rng: &mut Rng) -> [u8; 4] {
     }
 }
 
-/// The data size: of an uncompressed block what is used, of a compressed one anything.
+/// Makes the data size: the used size for an uncompressed block, any number for a compressed one.
 fn data_size(rng: &mut Rng, compression: [u8; 4], used: u64) -> u64 {
     if compression == [0; 4] {
         return used;
@@ -113,7 +114,7 @@ fn data_size(rng: &mut Rng, compression: [u8; 4], used: u64) -> u64 {
     }
 }
 
-/// A checksum: none, one with a single byte that is not zero, or any.
+/// Makes a checksum: none, one with a single byte that is not zero, or any.
 fn checksum(rng: &mut Rng) -> [u8; 16] {
     let mut checksum = [0; 16];
     match rng.below(6) {
@@ -125,19 +126,19 @@ fn checksum(rng: &mut Rng) -> [u8; 16] {
 }
 
 impl Block {
-    /// Gives all three sizes one value.
+    /// Sets all three sizes to one value.
     pub fn fill_sizes(&mut self, size: u64) {
         self.allocated = size;
         self.used = size;
         self.data_size = size;
     }
 
-    /// Where the content begins if the block begins at `at`.
+    /// Returns where the content begins if the block begins at `at`.
     pub fn content_start(&self, at: usize) -> u64 {
         (at + header_bytes(self.header_size)) as u64
     }
 
-    /// The block's bytes.
+    /// Returns the bytes of the block.
     pub fn bytes(&self) -> Vec<u8> {
         let mut bytes = MARK.to_vec();
         bytes.extend(self.header_size.to_be_bytes());

@@ -1,4 +1,4 @@
-//! The chain of blocks.
+//! Makes the chain of blocks.
 
 use super::block::good_block;
 use super::content::{content, MakeFile};
@@ -7,23 +7,24 @@ use super::shape::{Part, Shape};
 use crate::format::limits::MOST_BLOCKS;
 use crate::rng::Rng;
 
-/// Where the blocks of a chain are.
+/// The offsets of a chain.
 pub struct Chain {
-    /// Where each begins.
+    /// Where each block begins.
     pub marks: Vec<u64>,
-    /// Where the mark of each is searched from: the end of the block before. The first is not searched.
+    /// Where the search for each mark begins: at the end of the block before. For the first block
+    /// it is where that block begins.
     pub searched_from: Vec<u64>,
 }
 
 impl Chain {
-    /// Whether bytes stand between two blocks.
+    /// Whether there is a gap between two blocks.
     pub fn has_gaps(&self) -> bool {
         self.searched_from != self.marks
     }
 }
 
-/// Adds the chain of this shape. One in three has gaps, before about half of its blocks. Blocks that hold a file get one that is
-/// made so.
+/// Adds a chain of this shape to `file`. One chain in three has gaps, before about half of its
+/// blocks. Files inside blocks are made with `make_file`.
 pub fn add_chain(rng: &mut Rng, shape: &Shape, file: &mut Vec<u8>, make_file: MakeFile) -> Chain {
     let nesting_block = rng.below(shape.blocks);
     let wrong_block = shape

@@ -1,13 +1,13 @@
-//! The comments after the header.
+//! Makes the comments after the header.
 
 use super::text::{bytes_of_one_line, lines, texts};
 use crate::format::text::INDEX_LINE;
 use crate::rng::Rng;
 
-/// The most comments, the index line not counted.
+/// The most comments of a file, not counting the index line.
 const MOST_COMMENTS: usize = 4;
 
-/// Comments that are none of the index line, though some are almost.
+/// Comments that are not the index line, though some almost are.
 const COMMENTS: &[&[u8]] = &[
     b"#",
     b"##",
@@ -33,8 +33,9 @@ const COMMENTS: &[&[u8]] = &[
     b"#\xD3BL",
 ];
 
-/// Comments, none in half of the files. Wrong are the index line among them (6) and a last one
-/// that is not ended (5 or what its line runs into).
+/// Makes the comments, none for at least half of the files. Wrong comments have the index line
+/// among them (6), or an unterminated comment at their end. Such a comment is refused with 5,
+/// unless its line continues with the bytes that follow.
 pub fn comments(rng: &mut Rng, wrong: bool) -> Vec<u8> {
     if wrong {
         wrong_comments(rng)
@@ -46,7 +47,7 @@ pub fn comments(rng: &mut Rng, wrong: bool) -> Vec<u8> {
     }
 }
 
-/// Comments with the index line, or with an unended one after them.
+/// Makes comments with the index line among them, or with an unterminated comment at their end.
 fn wrong_comments(rng: &mut Rng) -> Vec<u8> {
     let mut comments = texts(rng, MOST_COMMENTS, comment);
     if rng.chance(3) {
@@ -57,7 +58,7 @@ fn wrong_comments(rng: &mut Rng) -> Vec<u8> {
     lines(rng, &comments)
 }
 
-/// The text of a comment.
+/// Makes the text of a comment.
 fn comment(rng: &mut Rng) -> Vec<u8> {
     if rng.chance(5) {
         [b"#", &bytes_of_one_line(rng, 60)[..]].concat()

@@ -1,10 +1,10 @@
-//! The content of a block.
+//! Makes the content of a block.
 
 use super::shape::Shape;
 use crate::format::text::{FILE_BEGIN, MARK};
 use crate::rng::Rng;
 
-/// Contents that begin like a file, or almost.
+/// Contents that begin like a file, or almost do.
 const LIKE_A_FILE: &[&[u8]] = &[
     b"#ASDF",
     b"#ASDF ",
@@ -20,13 +20,15 @@ const LIKE_A_FILE: &[&[u8]] = &[
     b"#ASDF BLOCK INDEX\n%YAML 1.1\n--- [12]\n...\n",
 ];
 
-/// So seldom one of the other blocks holds a file, if the shape asks for branches.
+/// If the shape asks for branches, one in this many of the other blocks holds a file with branches.
 const BRANCH_ONE_IN: usize = 6;
 
-/// Makes a file of a shape. It is handed down, since the parts of a file do not know the whole.
+/// Makes a file of a shape. It is passed down as a function, because the parts of a file do not
+/// know how a whole file is made.
 pub type MakeFile = fn(&mut Rng, &Shape) -> Vec<u8>;
 
-/// The content of a block; one that nests holds a file, if the shape asks for nesting.
+/// Makes the content of a block. If `nests` is set and the shape asks for nesting, the content is a
+/// file.
 pub fn content(rng: &mut Rng, shape: &Shape, nests: bool, make_file: MakeFile) -> Vec<u8> {
     if nests && shape.nesting > 0 {
         nested_file(rng, shape.nesting - 1, shape.branches, make_file)
@@ -40,7 +42,7 @@ pub fn content(rng: &mut Rng, shape: &Shape, nests: bool, make_file: MakeFile) -
     }
 }
 
-/// Nothing, plain bytes, something like a file, or a file.
+/// Makes an empty content, plain bytes, something like a file, or a file.
 fn any_content(rng: &mut Rng, make_file: MakeFile) -> Vec<u8> {
     match rng.below(16) {
         0..=3 => Vec::new(),
@@ -55,13 +57,13 @@ fn any_content(rng: &mut Rng, make_file: MakeFile) -> Vec<u8> {
     }
 }
 
-/// A file with so many more in one another inside it.
+/// Makes a file that holds `nesting` more files, nested in one another.
 fn nested_file(rng: &mut Rng, nesting: usize, branches: bool, make_file: MakeFile) -> Vec<u8> {
     let shape = Shape::inner(rng, nesting, branches);
     make_file(rng, &shape)
 }
 
-/// At most so many bytes of any value.
+/// Makes at most `most` bytes of any value.
 fn plain_bytes(rng: &mut Rng, most: usize) -> Vec<u8> {
     let length = rng.between(0, most);
     rng.bytes(length)

@@ -1,4 +1,4 @@
-//! The files of a run: each is made from the seed and its own number alone.
+//! The files of a run. Each is made only from the seed and its own number.
 
 use super::damage::{damage, damage_in_place};
 use super::file::file;
@@ -10,22 +10,23 @@ use crate::format::text::LEAST_TREE;
 use crate::rng::Rng;
 use asdf_second::{outline, read, row_count, ROW_LENGTH};
 
-/// What sets the files with files inside apart from the others of a seed.
+/// Changes the seed for files with inner files, so that their random numbers differ from those of
+/// the other files.
 const NESTS: u64 = 1 << 62;
-/// What sets the stored outlines apart.
+/// Changes the seed for stored outlines.
 const OUTLINES: u64 = 1 << 63;
 
-/// What sets the edits apart.
+/// Changes the seed for edits.
 const EDITS: u64 = 1 << 61;
 
-/// A file and a text for its tree.
+/// A file, and a text that is to replace its tree.
 #[derive(Debug, PartialEq)]
 pub struct Edit {
     pub file: Vec<u8>,
     pub text: Vec<u8>,
 }
 
-/// The file with this number in the run of a seed; one in three is damaged.
+/// Makes the file with this number in the run of a seed. One file in three is damaged.
 pub fn numbered_file(seed: u64, number: u64) -> Vec<u8> {
     let mut rng = Rng::for_file(seed, number);
     let shape = Shape::outermost(&mut rng);
@@ -36,7 +37,7 @@ pub fn numbered_file(seed: u64, number: u64) -> Vec<u8> {
     bytes
 }
 
-/// The file with files inside that has this number; one in eight is damaged.
+/// Makes the file with inner files that has this number. One file in eight is damaged.
 pub fn numbered_nest(seed: u64, number: u64) -> Vec<u8> {
     let mut rng = Rng::for_file(seed ^ NESTS, number);
     let shape = Shape::nest(&mut rng);
@@ -47,13 +48,13 @@ pub fn numbered_nest(seed: u64, number: u64) -> Vec<u8> {
     bytes
 }
 
-/// The stored outline with this number; some are made from a file's.
+/// Makes the stored outline with this number. Some are made from the outline of a file.
 pub fn numbered_outline(seed: u64, number: u64) -> Vec<u8> {
     let mut rng = Rng::for_file(seed ^ OUTLINES, number);
     stored_outline(&mut rng, || outline_of(&numbered_nest(seed, number)))
 }
 
-/// The edit with this number; one file in ten is damaged.
+/// Makes the edit with this number. One file in ten is damaged.
 pub fn numbered_edit(seed: u64, number: u64) -> Edit {
     let mut rng = Rng::for_file(seed ^ EDITS, number);
     let shape = Shape::edited(&mut rng);
@@ -66,8 +67,8 @@ pub fn numbered_edit(seed: u64, number: u64) -> Edit {
     Edit { file, text }
 }
 
-/// The tree of a file and its whole room by the second program; where there is none, the smallest
-/// tree stands for both.
+/// Returns the tree of a file and its whole room, as the second program finds them. If there is no
+/// tree, it returns the smallest tree for both.
 fn tree_and_room(file: &[u8]) -> (&[u8], &[u8]) {
     let tree = read(file).ok().and_then(|layout| layout.tree);
     tree.map_or((LEAST_TREE, LEAST_TREE), |tree| {
@@ -76,7 +77,8 @@ fn tree_and_room(file: &[u8]) -> (&[u8], &[u8]) {
     })
 }
 
-/// The outline of a file by the second program; an empty one of a refused file.
+/// Returns the outline of a file, as the second program writes it. It is empty if the file is
+/// refused.
 fn outline_of(file: &[u8]) -> Vec<u8> {
     let rows = row_count(file).unwrap_or(0);
     let length = rows * ROW_LENGTH;
@@ -87,7 +89,7 @@ fn outline_of(file: &[u8]) -> Vec<u8> {
 mod tests {
     use super::*;
 
-    /// The first files of a seed, of all kinds.
+    /// Makes the first files and stored outlines of a seed.
     fn first_files(seed: u64) -> Vec<Vec<u8>> {
         let kinds = [numbered_file, numbered_nest, numbered_outline];
         let numbers = 0..500;
@@ -96,7 +98,7 @@ mod tests {
             .collect()
     }
 
-    /// The first edits of a seed.
+    /// Makes the first edits of a seed.
     fn first_edits(seed: u64) -> Vec<Edit> {
         (0..500).map(|number| numbered_edit(seed, number)).collect()
     }

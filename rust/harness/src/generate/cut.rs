@@ -1,4 +1,4 @@
-//! Files that end too early.
+//! Makes files that end too early.
 
 use crate::format::text::{places_of, MARK};
 use crate::rng::Rng;
@@ -13,14 +13,15 @@ pub fn cut(rng: &mut Rng, file: &mut Vec<u8>) {
     file.truncate(length.unwrap_or(rng.below(file.len())));
 }
 
-/// A place before or after a 0A, or before the 0D 0A; the first lines are cut more often.
+/// Returns a place after a 0A, before it, or one byte earlier: before the 0D, if the line ends with
+/// 0D 0A. The 0A is one of the first twelve of the file.
 fn at_line_end(rng: &mut Rng, file: &[u8]) -> Option<usize> {
     let ends = places_of(file, b"\n");
     let end = *ends.get(rng.below(ends.len().min(12)))?;
     Some((end + 1).saturating_sub(rng.below(3)))
 }
 
-/// A place at most as far after a mark as the shortest header reaches.
+/// Returns a place between the start of a mark and the end of the shortest header.
 fn inside_block_header(rng: &mut Rng, file: &[u8]) -> Option<usize> {
     let marks = places_of(file, MARK);
     let mark = *marks.get(rng.below(marks.len()))?;

@@ -1,4 +1,4 @@
-//! Damage to any bytes of a file.
+//! Damages any bytes of a file.
 
 use crate::format::block::FIELDS;
 use crate::format::text::{places_of, MARK};
@@ -15,7 +15,7 @@ pub fn damage(rng: &mut Rng, file: &mut Vec<u8>) {
     }
 }
 
-/// Damages one or two places of a file, and leaves all others where they were.
+/// Damages one or two places of a file. All other bytes stay where they were.
 pub fn damage_in_place(rng: &mut Rng, file: &mut [u8]) {
     for _ in 0..rng.between(1, 2) {
         match rng.below(3) {
@@ -39,7 +39,7 @@ fn damage_once(rng: &mut Rng, file: &mut Vec<u8>) {
     }
 }
 
-/// Turns one bit over.
+/// Flips one bit.
 fn flip_bit(rng: &mut Rng, file: &mut [u8]) {
     let bit = 1 << rng.below(8);
     if let Some(byte) = any_byte(rng, file) {
@@ -47,7 +47,7 @@ fn flip_bit(rng: &mut Rng, file: &mut [u8]) {
     }
 }
 
-/// Sets one byte to a value that means something.
+/// Sets one byte to a value that means something in the format.
 fn set_byte(rng: &mut Rng, file: &mut [u8]) {
     let value = rng.pick(TELLING_BYTES);
     if let Some(byte) = any_byte(rng, file) {
@@ -55,7 +55,7 @@ fn set_byte(rng: &mut Rng, file: &mut [u8]) {
     }
 }
 
-/// One of the bytes, the first ones more often.
+/// Chooses one of the bytes, the first 40 more often.
 fn any_byte<'a>(rng: &mut Rng, file: &'a mut [u8]) -> Option<&'a mut u8> {
     let bound = if rng.chance(3) {
         file.len().min(40)
@@ -65,7 +65,7 @@ fn any_byte<'a>(rng: &mut Rng, file: &'a mut [u8]) -> Option<&'a mut u8> {
     file.get_mut(rng.below(bound))
 }
 
-/// Puts a few bytes in anywhere.
+/// Inserts a few bytes anywhere.
 fn insert(rng: &mut Rng, file: &mut Vec<u8>) {
     let place = rng.between(0, file.len());
     let length = rng.between(1, 8);
@@ -77,19 +77,19 @@ fn insert(rng: &mut Rng, file: &mut Vec<u8>) {
     file.splice(place..place, new);
 }
 
-/// Takes a few bytes out anywhere.
+/// Removes a few bytes anywhere.
 fn delete(rng: &mut Rng, file: &mut Vec<u8>) {
     file.drain(any_stretch(rng, file, 8));
 }
 
-/// Puts a stretch in a second time, directly after itself.
+/// Inserts a copy of a range directly after it.
 fn duplicate(rng: &mut Rng, file: &mut Vec<u8>) {
     let stretch = any_stretch(rng, file, 80);
     let copy = file[stretch.clone()].to_vec();
     file.splice(stretch.end..stretch.end, copy);
 }
 
-/// A stretch of a file, at most so long.
+/// Chooses a range of a file that is at most `most` bytes long.
 fn any_stretch(rng: &mut Rng, file: &[u8], most: usize) -> Range<usize> {
     let start = rng.between(0, file.len());
     let length = rng.between(0, most.min(file.len() - start));
@@ -109,7 +109,7 @@ fn overwrite_field(rng: &mut Rng, file: &mut [u8]) {
     }
 }
 
-/// A big-endian number of so many bytes at the end of a range.
+/// Makes a big-endian number of `length` bytes that is at or near a limit.
 fn extreme_value(rng: &mut Rng, length: usize) -> Vec<u8> {
     let mut value = vec![0; length];
     match rng.below(5) {

@@ -1,11 +1,12 @@
-//! A structured test file of all its parts.
+//! Makes a test file from all its parts.
 
 use super::shape::{Part, Shape};
 use super::{chain, comments, cut, free_space, header, tail, tree};
 use crate::rng::Rng;
 
-/// A file of this shape. It is accepted if no part is wrong and there are 1 to 64 blocks, or none
-/// and no tree. With a tree and no block the tail is free space, in which a mark may stand.
+/// Makes a file of this shape. It is accepted if no part is wrong and it has 1 to 64 blocks, or
+/// neither a block nor a tree. With a tree and no block, the tail is free space and may contain a
+/// mark.
 pub fn file(rng: &mut Rng, shape: &Shape) -> Vec<u8> {
     let mut bytes = header::header(rng, shape.is_wrong(Part::Header));
     bytes.extend(comments::comments(rng, shape.is_wrong(Part::Comments)));
@@ -21,7 +22,7 @@ pub fn file(rng: &mut Rng, shape: &Shape) -> Vec<u8> {
     bytes
 }
 
-/// The tree with the free space after it, or what stands where there is none.
+/// Makes the tree with the free space after it, or what is there instead of a tree.
 fn tree_and_free_space(rng: &mut Rng, shape: &Shape) -> Vec<u8> {
     let wrong = shape.is_wrong(Part::Tree);
     if shape.tree {
@@ -39,12 +40,13 @@ mod tests {
     use super::*;
     use asdf_second::read;
 
-    /// Files of one shape.
+    /// Makes 500 files of one shape.
     fn files_of(shape: &Shape) -> impl Iterator<Item = Vec<u8>> + '_ {
         (0..500).map(|number| file(&mut Rng::for_file(0, number), shape))
     }
 
-    /// The numbers with which files of a shape are refused, 0 for accepted ones.
+    /// Returns the numbers with which files of a shape are refused, each once. An accepted file
+    /// counts as 0.
     fn numbers_of(shape: &Shape) -> Vec<u8> {
         let number = |file: Vec<u8>| read(&file).map_or_else(|refusal| refusal.number, |_| 0);
         let mut numbers: Vec<u8> = files_of(shape).map(number).collect();

@@ -1,10 +1,11 @@
-//! The free space after a tree.
+//! Makes the free space after a tree.
 
 use super::markless::markless;
 use crate::format::text::MARK;
 use crate::rng::Rng;
 
-/// Free space, none in half of the files; wrong one holds a mark that begins no good block.
+/// Makes the free space, which is empty for half of the files. If it is wrong, it holds a mark that
+/// does not begin a good block.
 pub fn free_space(rng: &mut Rng, wrong: bool) -> Vec<u8> {
     let mut space = if rng.chance(2) {
         markless(rng)

@@ -1,13 +1,14 @@
-//! The bytes between two blocks.
+//! Makes gaps: bytes between two blocks.
 
 use super::markless::markless;
 use crate::format::text::{INDEX_LINE, MARK};
 use crate::rng::Rng;
 
-/// Bytes that keep an index from standing directly after a block.
+/// Bytes before an index, so that it does not begin directly after a block.
 const BEFORE_INDEX: &[u8] = &[0, b' ', b'\n', b'#', 0xD3];
 
-/// Bytes after which the next block is still found: no mark, and no index that begins at once.
+/// Makes bytes after which the next block is still found. They contain no mark and do not begin
+/// with an index line.
 pub fn gap(rng: &mut Rng) -> Vec<u8> {
     let bytes = markless(rng);
     if bytes.starts_with(INDEX_LINE) {
@@ -17,8 +18,9 @@ pub fn gap(rng: &mut Rng) -> Vec<u8> {
     }
 }
 
-/// A gap at the end of a file so far. Where that ends with a part of a mark, the gap mostly begins with the rest: such a mark
-/// begins inside the block before, and is none.
+/// Makes a gap at the end of the file so far. If the file ends with a part of a mark, the gap is
+/// mostly the rest of the mark. These four bytes are no mark to the reader, because they begin
+/// inside the block before.
 pub fn gap_after(rng: &mut Rng, file: &[u8]) -> Vec<u8> {
     match rest_of_mark(file) {
         Some(rest) if !rng.chance(4) => rest.to_vec(),
@@ -26,12 +28,13 @@ pub fn gap_after(rng: &mut Rng, file: &[u8]) -> Vec<u8> {
     }
 }
 
-/// An index after one byte more than there may be.
+/// Makes a copy of an index with one byte before it, so that it does not begin directly after a
+/// block.
 pub fn after_one_byte(rng: &mut Rng, index: &[u8]) -> Vec<u8> {
     [&[rng.pick(BEFORE_INDEX)], index].concat()
 }
 
-/// What is missing to the mark of which a part stands at the end.
+/// If the file ends with a part of a mark, returns the rest of the mark.
 fn rest_of_mark(file: &[u8]) -> Option<&'static [u8]> {
     (1..MARK.len())
         .map(|length| MARK.split_at(length))
@@ -44,7 +47,7 @@ mod tests {
     use super::*;
     use crate::format::text::places_of;
 
-    /// Many gaps, and as many after each part of a mark.
+    /// Makes many gaps, and as many after each part of a mark.
     fn gaps() -> impl Iterator<Item = Vec<u8>> {
         (0..1_000).flat_map(|number| {
             let rng = &mut Rng::for_file(0, number);

@@ -1,10 +1,10 @@
-//! The header line.
+//! Makes the header line.
 
 use super::text::line;
 use crate::format::text::FILE_BEGIN;
 use crate::rng::Rng;
 
-/// What may stand wrongly in the place of `#ASDF ` (2).
+/// Wrong bytes in place of `#ASDF ` (2).
 const WRONG_BEGINS: &[&[u8]] = &[
     b"",
     b"#",
@@ -24,7 +24,7 @@ const WRONG_BEGINS: &[&[u8]] = &[
     b"\xD3BLK",
 ];
 
-/// Versions without the right form (3).
+/// Versions that do not have the right form (3).
 const MALFORMED_VERSIONS: &[&[u8]] = &[
     b"",
     b"1",
@@ -77,10 +77,10 @@ const MALFORMED_VERSIONS: &[&[u8]] = &[
     b"02.0.0",
 ];
 
-/// First numbers other than 1 (4).
+/// First numbers of a version other than 1 (4).
 const WRONG_MAJORS: &[usize] = &[0, 2, 3, 9, 10, 11, 100, 257, 1001, 9999];
 
-/// A header line, which is wrong where that is asked for.
+/// Makes a header line, right or wrong.
 pub fn header(rng: &mut Rng, wrong: bool) -> Vec<u8> {
     match rng.below(3) {
         _ if !wrong => header_of_major(rng, 1),
@@ -90,24 +90,24 @@ pub fn header(rng: &mut Rng, wrong: bool) -> Vec<u8> {
     }
 }
 
-/// A header line with a version that has this first number.
+/// Makes a header line with a version that has this first number.
 fn header_of_major(rng: &mut Rng, major: usize) -> Vec<u8> {
     let version = version(rng, major);
     header_line(rng, FILE_BEGIN, &version)
 }
 
-/// A header line of its two parts.
+/// Makes a header line from its two parts.
 fn header_line(rng: &mut Rng, begin: &[u8], version: &[u8]) -> Vec<u8> {
     line(rng, &[begin, version].concat())
 }
 
-/// A version with this first number.
+/// Makes a version with this first number.
 fn version(rng: &mut Rng, major: usize) -> Vec<u8> {
     let (minor, patch) = (version_number(rng), version_number(rng));
     format!("{major}.{minor}.{patch}").into_bytes()
 }
 
-/// A number of 1 to 4 digits, mostly 0.
+/// Makes a number of 1 to 4 digits, mostly 0.
 fn version_number(rng: &mut Rng) -> usize {
     let most = rng.pick(&[0, 0, 0, 9, 99, 999, 9999]);
     if rng.chance(3) {
@@ -117,20 +117,20 @@ fn version_number(rng: &mut Rng) -> usize {
     }
 }
 
-/// A header line that does not begin as one (2).
+/// Makes a header line that does not begin like one (2).
 fn wrong_begin(rng: &mut Rng) -> Vec<u8> {
     let begin = rng.pick(WRONG_BEGINS);
     let version = version(rng, 1);
     header_line(rng, begin, &version)
 }
 
-/// A header line whose version has not the right form (3).
+/// Makes a header line whose version does not have the right form (3).
 fn malformed_version(rng: &mut Rng) -> Vec<u8> {
     let version = rng.pick(MALFORMED_VERSIONS);
     header_line(rng, FILE_BEGIN, version)
 }
 
-/// A header line whose first number is not 1 (4).
+/// Makes a header line with a version whose first number is not 1 (4).
 fn wrong_major(rng: &mut Rng) -> Vec<u8> {
     let major = rng.pick(WRONG_MAJORS);
     header_of_major(rng, major)

@@ -1,10 +1,11 @@
-//! Block indexes, in brackets and with dashes: good ones, lists of other numbers, and texts that have not the form.
+//! Makes block indexes, in brackets and with dashes: good ones, indexes with other numbers, and
+//! texts that do not have the form of an index.
 
 use super::text::lines;
 use crate::format::text::{DASH_START, END_LINE, INDEX_LINE, YAML_LINE};
 use crate::rng::Rng;
 
-/// Where the start line stands among the lines.
+/// The position of the start line among the lines of an index.
 const START: usize = 2;
 
 const WRONG_FIRST_LINES: &[&[u8]] = &[
@@ -30,7 +31,7 @@ const WRONG_SECOND_LINES: &[&[u8]] = &[
     b"#ASDF BLOCK INDEX",
 ];
 
-/// What may stand wrongly in the place of the start line of an index in brackets.
+/// Wrong lines in place of the start line of an index in brackets.
 const WRONG_LIST_LINES: &[&[u8]] = &[
     b"",
     b"---",
@@ -96,7 +97,7 @@ const WRONG_LIST_LINES: &[&[u8]] = &[
     b"--- [12]\0",
 ];
 
-/// What may stand wrongly in the place of the start line of an index with dashes.
+/// Wrong lines in place of the start line of an index with dashes.
 pub const WRONG_START_LINES: &[&[u8]] = &[
     b"",
     b"-",
@@ -126,7 +127,7 @@ pub const WRONG_START_LINES: &[&[u8]] = &[
     b"...\n---",
 ];
 
-/// What may stand wrongly in the place of a line with a dash.
+/// Wrong lines in place of a line with a dash.
 pub const WRONG_DASH_LINES: &[&[u8]] = &[
     b"",
     b" ",
@@ -192,7 +193,7 @@ const WRONG_LAST_LINES: &[&[u8]] = &[
     b"", b".", b"..", b"....", b"... ", b"...\r\r", b"...\0", b" ...", b"---", b"abc", b"\n...",
 ];
 
-/// What may not stand after the last line.
+/// Bytes that are not allowed after the last line of an index.
 const WRONG_AFTER: &[&[u8]] = &[
     b" ",
     b"\n",
@@ -206,27 +207,28 @@ const WRONG_AFTER: &[&[u8]] = &[
     b"#ASDF BLOCK INDEX\n",
 ];
 
-/// Bytes that disturb a list, or only change its numbers.
+/// Bytes that break the form of a list, or only change its numbers.
 const ODD_BYTES: &[u8] = b"00,, \t\r\n+-_.[]x\0\x3A\x2F9";
 
-/// An index as its texts, line by line, and what stands after them.
+/// An index: the texts of its lines, and the bytes after them.
 struct Index {
     texts: Vec<Vec<u8>>,
     after: Vec<u8>,
 }
 
-/// An index that is good for blocks at these offsets.
+/// Makes an index that is good for blocks at these offsets.
 pub fn good_index(rng: &mut Rng, offsets: &[u64]) -> Vec<u8> {
     Index::of(rng, offsets).bytes(rng)
 }
 
-/// An index of the right form whose list is another.
+/// Makes an index of the right form that does not list these offsets.
 pub fn index_of_other_list(rng: &mut Rng, offsets: &[u64]) -> Vec<u8> {
     let numbers = other_numbers(rng, offsets);
     good_index(rng, &numbers)
 }
 
-/// Something that begins with the 17 bytes and mostly has not the form.
+/// Makes bytes that begin with the 17 bytes of the index line, but mostly do not have the form of
+/// an index.
 pub fn index_of_wrong_form(rng: &mut Rng, offsets: &[u64]) -> Vec<u8> {
     let mut index = Index::of(rng, offsets);
     match rng.below(10) {
@@ -244,7 +246,7 @@ pub fn index_of_wrong_form(rng: &mut Rng, offsets: &[u64]) -> Vec<u8> {
 }
 
 impl Index {
-    /// The index of these numbers in either style, sometimes with zeros after it.
+    /// Makes an index of these numbers in either style, sometimes with zeros after it.
     fn of(rng: &mut Rng, numbers: &[u64]) -> Index {
         if rng.chance(2) {
             Index::in_brackets(rng, numbers)
@@ -253,19 +255,19 @@ impl Index {
         }
     }
 
-    /// The index of these numbers in brackets.
+    /// Makes an index of these numbers in brackets.
     fn in_brackets(rng: &mut Rng, numbers: &[u64]) -> Index {
         let list = list_text(rng, numbers);
         Index::with_list(rng, vec![[b"--- [", &list[..], b"]"].concat()])
     }
 
-    /// The index of these numbers with dashes.
+    /// Makes an index of these numbers with dashes.
     fn with_dashes(rng: &mut Rng, numbers: &[u64]) -> Index {
         let list = [vec![DASH_START.to_vec()], dash_lines(rng, numbers)].concat();
         Index::with_list(rng, list)
     }
 
-    /// The index with these lines for its list.
+    /// Makes an index with these lines as its list.
     fn with_list(rng: &mut Rng, list: Vec<Vec<u8>>) -> Index {
         let first = vec![INDEX_LINE.to_vec(), YAML_LINE.to_vec()];
         let zeros = rng.pick(&[0, 0, 0, 1, 16]);
@@ -275,17 +277,17 @@ impl Index {
         }
     }
 
-    /// Where its last line stands among its lines.
+    /// Returns the position of the last line.
     fn last(&self) -> usize {
         self.texts.len() - 1
     }
 
-    /// Whether its start line is that of the dash style.
+    /// Whether the start line is that of an index with dashes.
     fn has_dashes(&self) -> bool {
         self.texts[START] == DASH_START
     }
 
-    /// Puts a wrong line in the place of one of its lines.
+    /// Replaces one of the lines with a wrong line.
     fn replace_line(&mut self, rng: &mut Rng) {
         let last = self.last();
         let (place, wrong) = match rng.below(8) {
@@ -299,14 +301,14 @@ impl Index {
         self.texts[place] = rng.pick(wrong).to_vec();
     }
 
-    /// Puts an odd byte somewhere in a line of the list.
+    /// Inserts an odd byte somewhere in a line of the list.
     fn disturb_list(&mut self, rng: &mut Rng) {
         let place = rng.between(START, self.last() - 1);
         let line = &mut self.texts[place];
         line.insert(rng.between(0, line.len()), rng.pick(ODD_BYTES));
     }
 
-    /// Puts a line of the other style somewhere among its lines, from the list on.
+    /// Inserts a line of the other style somewhere, at the start of the list or later.
     fn mix_styles(&mut self, rng: &mut Rng) {
         let other: &[&[u8]] = if self.has_dashes() {
             &[b"--- [12]", b"[12]", b"- [12]"]
@@ -317,7 +319,7 @@ impl Index {
         self.texts.insert(place, rng.pick(other).to_vec());
     }
 
-    /// The index's first bytes: the 17, and not all.
+    /// Returns the first bytes of the index: at least the 17 of the index line, but not all.
     fn cut(mut self, rng: &mut Rng) -> Vec<u8> {
         self.after.clear();
         let mut bytes = self.bytes(rng);
@@ -325,13 +327,14 @@ impl Index {
         bytes
     }
 
-    /// The index's bytes, each line ended either way.
+    /// Returns the bytes of the index. Each line gets either line end.
     fn bytes(&self, rng: &mut Rng) -> Vec<u8> {
         [lines(rng, &self.texts), self.after.clone()].concat()
     }
 }
 
-/// Numbers with commas between them, as they are written or with spaces around.
+/// Makes a list of numbers with commas between them, in the usual form or with more spaces around
+/// the numbers.
 fn list_text(rng: &mut Rng, numbers: &[u64]) -> Vec<u8> {
     let most_spaces = rng.pick(&[0, 0, 0, 3, 40]);
     let items: Vec<String> = numbers
@@ -345,7 +348,7 @@ fn list_text(rng: &mut Rng, numbers: &[u64]) -> Vec<u8> {
     items.join(rng.pick(&[",", ", "])).into_bytes()
 }
 
-/// Lines with a dash and a number each, some with spaces after the number.
+/// Makes lines with a dash and a number each, some with spaces after the number.
 fn dash_lines(rng: &mut Rng, numbers: &[u64]) -> Vec<Vec<u8>> {
     let most_spaces = rng.pick(&[0, 0, 0, 3, 40]);
     numbers
@@ -354,12 +357,12 @@ fn dash_lines(rng: &mut Rng, numbers: &[u64]) -> Vec<Vec<u8>> {
         .collect()
 }
 
-/// At most so many spaces.
+/// Makes at most `most` spaces.
 fn spaces(rng: &mut Rng, most: usize) -> String {
     " ".repeat(rng.between(0, most))
 }
 
-/// Another list than this one; at least one number.
+/// Makes a list that is not `offsets` and has at least one number.
 fn other_numbers(rng: &mut Rng, offsets: &[u64]) -> Vec<u64> {
     let mut numbers = offsets.to_vec();
     if numbers.is_empty() {
@@ -385,13 +388,13 @@ mod tests {
     use super::*;
     use asdf_second::{read, Verdict};
 
-    /// The verdict on an index after a file with one block.
+    /// Returns the verdict on an index at the end of a file with one block.
     fn verdict(index: &[u8]) -> Verdict {
         let file = [b"#ASDF 1.0.0\n\xD3BLK\0\x30", &[0; 48][..], index].concat();
         read(&file).unwrap().index
     }
 
-    /// The verdicts on many such indexes, each once.
+    /// Returns the verdicts on many indexes made with `index`, each verdict once.
     fn verdicts(index: fn(&mut Rng, &[u64]) -> Vec<u8>) -> Vec<Verdict> {
         let mut found = Vec::new();
         for number in 0..1_000 {
@@ -432,7 +435,8 @@ mod tests {
         assert_wrong(Index::with_dashes, &dashes);
     }
 
-    /// Every one of these lines has to be wrong in its place, in the index of one block, whatever the line ends are.
+    /// Checks that each of these lines is wrong in its place in the index of one block, whatever
+    /// the line ends are.
     fn assert_wrong(index: fn(&mut Rng, &[u64]) -> Index, wrong: &[(usize, &[&[u8]])]) {
         for (place, lines) in wrong {
             for line in *lines {

@@ -1,4 +1,5 @@
-//! Bytes without a mark, as they may stand where the first mark is searched: after a tree and between blocks.
+//! Makes bytes without a mark, for the places where a mark is searched for: after a tree and
+//! between blocks.
 
 use super::block::good_block;
 use super::index::good_index;
@@ -6,7 +7,7 @@ use super::text::part_of_mark;
 use crate::format::text::{places_of, INDEX_LINE, MARK};
 use crate::rng::Rng;
 
-/// Texts that mean something elsewhere.
+/// Texts that mean something only elsewhere in a file.
 const MEANINGLESS: &[&[u8]] = &[
     b"\n",
     b"...\n",
@@ -20,14 +21,16 @@ const MEANINGLESS: &[&[u8]] = &[
     b"BLK",
 ];
 
-/// The most bytes of most of them, and of some.
+/// The most bytes in most cases (`SHORT`), and in the others (`LONG`).
 const SHORT: usize = 40;
 const LONG: usize = 300;
 
-/// The bit that spoils a byte of a mark. No byte of a mark comes of it, so no other mark does.
+/// The bit that spoils a byte of a mark. Flipping it never gives a byte of a mark, so no other mark
+/// results.
 const SPOILING_BIT: u8 = 0x20;
 
-/// At least one byte, and no mark. One in four may be longer than the 64 bytes that a search tests at once.
+/// Makes at least one byte, and no mark. One string in four may be longer than the 64 bytes that a
+/// search tests together.
 pub fn markless(rng: &mut Rng) -> Vec<u8> {
     let longest = if rng.chance(4) { LONG } else { SHORT };
     let length = rng.between(1, longest);
@@ -44,7 +47,7 @@ pub fn markless(rng: &mut Rng) -> Vec<u8> {
     with_marks_spoilt(rng, bytes)
 }
 
-/// What is left of a block that was there before: all of it, or its end.
+/// Makes the remains of an old block: all of it, or its end.
 fn old_block(rng: &mut Rng) -> Vec<u8> {
     let length = rng.between(0, 12);
     let content = rng.bytes(length);
@@ -52,7 +55,7 @@ fn old_block(rng: &mut Rng) -> Vec<u8> {
     block[rng.pick(&[0, 0, 3, 30])..].to_vec()
 }
 
-/// The same bytes, but for one byte of each mark.
+/// Returns the same bytes, except that one byte of each mark is spoilt.
 fn with_marks_spoilt(rng: &mut Rng, mut bytes: Vec<u8>) -> Vec<u8> {
     for mark in places_of(&bytes, MARK) {
         bytes[mark + rng.below(MARK.len())] ^= SPOILING_BIT;

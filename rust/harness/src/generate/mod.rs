@@ -1,5 +1,6 @@
-//! What a run generates: structured files with each part of the layout, right and wrong, and the near misses of both; stored
-//! outlines; and texts for edits.
+//! What a run generates: structured files, stored outlines, and texts for edits. The files have
+//! each part of the layout, right and wrong, and near misses of both. A number in parentheses is
+//! the number with which the file is refused.
 
 mod block;
 mod chain;

@@ -1,14 +1,16 @@
-//! Stored outlines: those of files, rows of any values, and both sides of each rule.
+//! Makes stored outlines: outlines of files, rows with any values, and rows on both sides of each
+//! rule.
 
 use crate::rng::Rng;
 use asdf_second::ROW_LENGTH;
 
-/// The bits of a row's first byte below its depth.
+/// How many bits of a row's first byte are below its depth.
 const BELOW_DEPTH: u32 = 5;
-/// The depth that all three bits give.
+/// The highest depth that the upper three bits can hold.
 const DEEPEST: u8 = 7;
 
-/// Sizes and offsets at the ends of their range, and around a byte's.
+/// Sizes and offsets at the ends of their range, and around the largest number of one byte, of two
+/// bytes and of 31 bits.
 const TELLING_SIZES: &[u32] = &[
     0,
     1,
@@ -25,7 +27,7 @@ const TELLING_SIZES: &[u32] = &[
 /// A row as it is stored.
 #[derive(Debug, Clone, Copy, PartialEq, Eq)]
 pub struct StoredRow {
-    /// The depth above five bits of kind.
+    /// The depth in the upper three bits, and the flags and the inner state in the lower five.
     pub front: u8,
     pub ordinal: u8,
     pub header_size: u16,
@@ -35,7 +37,8 @@ pub struct StoredRow {
 }
 
 impl StoredRow {
-    /// The row in these bytes; all zeros where they are too few.
+    /// Returns the row at the start of these bytes. If there are too few bytes, all its fields are
+    /// zero.
     pub fn from_bytes(bytes: &[u8]) -> StoredRow {
         let mut row = [0; ROW_LENGTH];
         if let Some(stored) = bytes.first_chunk::<ROW_LENGTH>() {
@@ -53,7 +56,7 @@ impl StoredRow {
         }
     }
 
-    /// The row's bytes.
+    /// Returns the bytes of the row.
     pub fn bytes(self) -> Vec<u8> {
         let mut bytes = vec![self.front, self.ordinal];
         bytes.extend(self.header_size.to_be_bytes());
@@ -65,19 +68,19 @@ impl StoredRow {
         bytes
     }
 
-    /// The row's depth.
+    /// Returns the depth of the row.
     pub fn depth(self) -> u8 {
         self.front >> BELOW_DEPTH
     }
 
-    /// Gives the row a depth of three bits.
+    /// Sets the depth of the row. It has to fit into three bits.
     fn set_depth(&mut self, depth: u8) {
         let kind = self.front & ((1 << BELOW_DEPTH) - 1);
         self.front = depth << BELOW_DEPTH | kind;
     }
 }
 
-/// A stored outline, sometimes made from the one of a file.
+/// Makes a stored outline, sometimes from the outline of a file.
 pub fn stored_outline(rng: &mut Rng, of_file: impl FnOnce() -> Vec<u8>) -> Vec<u8> {
     match rng.below(8) {
         0 => of_file(),
@@ -91,7 +94,7 @@ pub fn stored_outline(rng: &mut Rng, of_file: impl FnOnce() -> Vec<u8>) -> Vec<u
     }
 }
 
-/// Rows that keep the rules, mostly few.
+/// Makes rows that keep the rules, mostly few.
 fn right_rows(rng: &mut Rng) -> Vec<u8> {
     let most = rng.pick(&[1, 2, 5, 12, 12, 12, 40]);
     let count = if rng.chance(200) {
@@ -109,7 +112,7 @@ fn right_rows(rng: &mut Rng) -> Vec<u8> {
     bytes
 }
 
-/// A row that keeps the rules, at most so deep and mostly just so deep.
+/// Makes a row that keeps the rules. Its depth is at most `deepest`, and mostly exactly that.
 fn right_row(rng: &mut Rng, deepest: u8) -> StoredRow {
     let allocated = size(rng);
     let used = match rng.below(3) {
@@ -134,7 +137,7 @@ fn right_row(rng: &mut Rng, deepest: u8) -> StoredRow {
     row
 }
 
-/// A size or an offset.
+/// Makes a size or an offset.
 fn size(rng: &mut Rng) -> u32 {
     if rng.chance(2) {
         rng.pick(TELLING_SIZES)
@@ -143,7 +146,8 @@ fn size(rng: &mut Rng) -> u32 {
     }
 }
 
-/// An outline with something changed: a rule at its limit or broken, bits, rows or the length.
+/// Returns an outline with something changed: a row at a limit or beyond it, some bits, the order
+/// or number of the rows, or the length.
 fn changed(rng: &mut Rng, outline: &[u8]) -> Vec<u8> {
     let mut bytes = outline.to_vec();
     match rng.below(8) {
@@ -172,7 +176,7 @@ fn change_row(rng: &mut Rng, bytes: &mut [u8]) {
     }
 }
 
-/// Gives one field of a row a value at its limit, beyond it or far beyond.
+/// Gives a row a value at a limit, beyond it or far beyond it.
 fn put_at_limit(rng: &mut Rng, row: &mut StoredRow, depth_before: Option<u8>) {
     match rng.below(4) {
         0 => row.ordinal = rng.pick(&[63, 64, 64, 65, 127, 128, 192, 255]),
@@ -193,7 +197,7 @@ fn put_at_limit(rng: &mut Rng, row: &mut StoredRow, depth_before: Option<u8>) {
     }
 }
 
-/// Turns one to three bits over.
+/// Flips one to three bits.
 fn flip_bits(rng: &mut Rng, bytes: &mut [u8]) {
     for _ in 0..rng.between(1, 3) {
         let bit = 1 << rng.below(8);
@@ -203,7 +207,7 @@ fn flip_bits(rng: &mut Rng, bytes: &mut [u8]) {
     }
 }
 
-/// Takes a row out and puts it back anywhere, or not at all.
+/// Removes a row, and mostly inserts it again anywhere.
 fn move_row(rng: &mut Rng, bytes: &mut Vec<u8>) {
     let rows = bytes.len() / ROW_LENGTH;
     if rows == 0 {
@@ -217,7 +221,7 @@ fn move_row(rng: &mut Rng, bytes: &mut Vec<u8>) {
     }
 }
 
-/// Cuts or lengthens the outline by less than a row.
+/// Shortens or lengthens the outline by less than a row.
 fn change_length(rng: &mut Rng, bytes: &mut Vec<u8>) {
     let difference = rng.between(1, ROW_LENGTH - 1);
     if rng.chance(2) {
@@ -227,7 +231,7 @@ fn change_length(rng: &mut Rng, bytes: &mut Vec<u8>) {
     }
 }
 
-/// Bytes of any value or of one value, mostly of whole rows.
+/// Makes bytes of any value, or all of one value, mostly whole rows.
 fn any_bytes(rng: &mut Rng) -> Vec<u8> {
     let rows = rng.between(0, 6) * ROW_LENGTH;
     let length = if rng.chance(4) {

@@ -1,4 +1,5 @@
-//! Texts to be put in the place of a tree: right ones of telling lengths, and every kind of wrong one.
+//! Makes texts that are to replace a tree: right ones whose lengths are at or around a limit, and
+//! every kind of wrong one.
 
 use super::cut::cut;
 use super::damage::damage;
@@ -6,7 +7,7 @@ use super::tree::{no_tree, tree};
 use crate::format::text::{after_first_line, LEAST_TREE, MARK};
 use crate::rng::Rng;
 
-/// What may stand wrongly before the tree of a text.
+/// Wrong bytes before the tree of a text.
 const BEFORE: &[&[u8]] = &[
     b"\n",
     b"\r\n",
@@ -22,7 +23,7 @@ const BEFORE: &[&[u8]] = &[
     MARK,
 ];
 
-/// What may stand wrongly after it.
+/// Wrong bytes after the tree of a text.
 const AFTER: &[&[u8]] = &[
     b"\n",
     b"\r\n",
@@ -37,13 +38,13 @@ const AFTER: &[&[u8]] = &[
     MARK,
 ];
 
-/// Bytes of a line that is neither a start line nor an end line.
+/// The bytes of a line that is neither a start line nor an end line.
 const PLAIN_BYTES: &[u8] = b"x \r\0\xD3BLK";
 
-/// So many bytes more than the room a wrong text may have.
+/// How many bytes longer than the room a tree may be when a wrong text is made from it.
 const BEYOND_ROOM: usize = 40;
 
-/// A text for the old tree of a file with its room.
+/// Makes a text that is to replace `old`, the tree of a file. `room` holds the bytes of its room.
 pub fn replacement(rng: &mut Rng, old: &[u8], room: &[u8]) -> Vec<u8> {
     match rng.below(16) {
         0 => old.to_vec(),
@@ -57,13 +58,13 @@ pub fn replacement(rng: &mut Rng, old: &[u8], room: &[u8]) -> Vec<u8> {
     }
 }
 
-/// A tree of at most this length, which is at least that of the smallest one.
+/// Makes a tree of at most `most` bytes. The smallest tree must not be longer than that.
 fn tree_of_most(rng: &mut Rng, most: usize) -> Vec<u8> {
     let length = rng.between(LEAST_TREE.len(), most);
     tree_of_length(rng, length)
 }
 
-/// A tree of this length, which is at least that of the smallest one.
+/// Makes a tree of `length` bytes. The smallest tree must not be longer than that.
 fn tree_of_length(rng: &mut Rng, length: usize) -> Vec<u8> {
     let mut text = tree(rng, false);
     if text.len() > length {
@@ -79,7 +80,7 @@ fn tree_of_length(rng: &mut Rng, length: usize) -> Vec<u8> {
     text
 }
 
-/// Where the end line of a tree begins.
+/// Returns where the end line of a tree begins.
 fn end_line_start(tree: &[u8]) -> usize {
     let end_line: &[u8] = if tree.ends_with(b"\r\n") {
         b"...\r\n"
@@ -89,7 +90,7 @@ fn end_line_start(tree: &[u8]) -> usize {
     tree.len() - end_line.len()
 }
 
-/// A text with the same lines, each ended by 0D 0A.
+/// Returns a text with the same lines, each ended by 0D 0A.
 fn with_0d_0a(text: &[u8]) -> Vec<u8> {
     let mut ended = Vec::new();
     for line in text.split_inclusive(|&byte| byte == b'\n') {
@@ -101,7 +102,7 @@ fn with_0d_0a(text: &[u8]) -> Vec<u8> {
     ended
 }
 
-/// A text that mostly is not exactly one tree, for a room of this length.
+/// Makes a text for a room of `room` bytes. Mostly it is not exactly one tree.
 fn wrong_text(rng: &mut Rng, room: usize) -> Vec<u8> {
     let mut text = tree_of_most(rng, room + BEYOND_ROOM);
     match rng.below(12) {

@@ -1,9 +1,10 @@
-//! What a generated file is to be like.
+//! Describes what a generated file should be like.
 
 use crate::format::limits::MOST_BLOCKS;
 use crate::rng::Rng;
 
-/// The most files in one another; eight are read.
+/// The most files that are nested in one another inside the outermost file. Eight levels are read,
+/// the outermost file included.
 const MOST_NESTED: usize = 11;
 
 /// The parts of a file that can be made wrong.
@@ -19,7 +20,7 @@ pub enum Part {
     End,
 }
 
-/// Each part once, and those with many ways to go wrong more often.
+/// Each part at least once. Parts that can be wrong in many ways come more often.
 const PARTS: &[Part] = &[
     Part::Header,
     Part::Comments,
@@ -34,7 +35,7 @@ const PARTS: &[Part] = &[
     Part::End,
 ];
 
-/// What a generated file is to be like.
+/// What a generated file should be like.
 #[derive(Debug, Clone)]
 pub struct Shape {
     /// The parts that are made wrong.
@@ -43,11 +44,11 @@ pub struct Shape {
     pub tree: bool,
     /// How many blocks there are.
     pub blocks: usize,
-    /// How many files stand in one another inside one of the blocks.
+    /// How many files are nested in one another inside one of the blocks.
     pub nesting: usize,
-    /// Whether others of the blocks hold files too.
+    /// Whether other blocks hold nested files too.
     pub branches: bool,
-    /// The length to which zeros lengthen the file if it is shorter.
+    /// A shorter file is lengthened to this length with zeros.
     pub least_length: usize,
 }
 
@@ -55,7 +56,7 @@ impl Shape {
     /// The most blocks of a file that is not near the limit.
     pub const USUAL_BLOCKS: usize = 5;
 
-    /// The plainest file: a header, at most comments, and nothing else.
+    /// Makes the shape of the plainest file: a header, perhaps comments, and nothing else.
     #[cfg(test)]
     pub fn plain() -> Shape {
         Shape {
@@ -68,7 +69,7 @@ impl Shape {
         }
     }
 
-    /// The shape of an outermost file.
+    /// Makes the shape of an outermost file.
     pub fn outermost(rng: &mut Rng) -> Shape {
         let blocks = block_count(rng, 30);
         let mut wrong = wrong_parts(rng, 2);
@@ -85,7 +86,7 @@ impl Shape {
         }
     }
 
-    /// The shape of an outermost file with files in one another, in several of its blocks.
+    /// Makes the shape of an outermost file with nested files in one or several of its blocks.
     pub fn nest(rng: &mut Rng) -> Shape {
         Shape {
             wrong: Vec::new(),
@@ -97,7 +98,8 @@ impl Shape {
         }
     }
 
-    /// The shape of an outermost file that is to be edited: mostly with a tree and nothing wrong.
+    /// Makes the shape of an outermost file that is to be edited. Mostly it has a tree and nothing
+    /// wrong.
     pub fn edited(rng: &mut Rng) -> Shape {
         Shape {
             wrong: wrong_parts(rng, 8),
@@ -109,7 +111,7 @@ impl Shape {
         }
     }
 
-    /// The shape of a file in a block.
+    /// Makes the shape of a file inside a block.
     pub fn inner(rng: &mut Rng, nesting: usize, branches: bool) -> Shape {
         let one_in = if nesting > 0 { 16 } else { 2 };
         Shape {
@@ -127,13 +129,14 @@ impl Shape {
         self.tree || self.blocks > 0 || self.is_wrong(Part::Tail)
     }
 
-    /// Whether a part is to be wrong.
+    /// Whether a part should be wrong.
     pub fn is_wrong(&self, part: Part) -> bool {
         self.wrong.contains(&part)
     }
 }
 
-/// The parts that are made wrong: none, mostly one, sometimes two.
+/// Chooses the parts that are made wrong, once in `one_in` times: mostly one part, sometimes two.
+/// Otherwise there are none.
 fn wrong_parts(rng: &mut Rng, one_in: usize) -> Vec<Part> {
     if !rng.chance(one_in) {
         return Vec::new();
@@ -142,7 +145,7 @@ fn wrong_parts(rng: &mut Rng, one_in: usize) -> Vec<Part> {
     (0..count).map(|_| rng.pick(PARTS)).collect()
 }
 
-/// A number of blocks, once in so many times near the limit.
+/// Chooses a number of blocks. It is near the limit once in `near_limit_one_in` times.
 fn block_count(rng: &mut Rng, near_limit_one_in: usize) -> usize {
     if rng.chance(near_limit_one_in) {
         rng.pick(&[62, 63, 64, 64, 64, 65, 66])
@@ -151,7 +154,7 @@ fn block_count(rng: &mut Rng, near_limit_one_in: usize) -> usize {
     }
 }
 
-/// A length around the most that the program takes, mostly none.
+/// Chooses a length around the longest input of the program `list`, but mostly 0.
 fn least_length(rng: &mut Rng) -> usize {
     if rng.chance(300) {
         rng.pick(&[65_535, 65_536, 65_537, 70_000])
@@ -160,7 +163,7 @@ fn least_length(rng: &mut Rng) -> usize {
     }
 }
 
-/// How many files stand in one another: mostly none, sometimes more than are read.
+/// Chooses how many files are nested in one another: mostly none, sometimes more than are read.
 fn nesting(rng: &mut Rng) -> usize {
     match rng.below(8) {
         0 => 1,

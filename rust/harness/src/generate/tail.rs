@@ -1,4 +1,4 @@
-//! What stands after the last block: nothing, zeros, an index or something stray.
+//! Makes what follows the last block: nothing, zeros, an index or stray bytes.
 
 use super::chain::Chain;
 use super::gap::{after_one_byte, gap};
@@ -9,7 +9,7 @@ use crate::format::limits::MOST_BLOCKS;
 use crate::format::text::{INDEX_LINE, MARK};
 use crate::rng::Rng;
 
-/// Tails that are refused (17): no mark stands in them.
+/// Stray tails, which contain no mark (17).
 const STRAY: &[&[u8]] = &[
     b"x",
     b"\n",
@@ -36,7 +36,8 @@ const STRAY: &[&[u8]] = &[
     b"\xD2BLK",
 ];
 
-/// A tail after the blocks of a chain; the file is refused for a wrong one.
+/// Makes a tail after the blocks of a chain. The file is refused for a wrong tail, unless its last
+/// block is streamed.
 pub fn tail(rng: &mut Rng, chain: &Chain, wrong: bool) -> Vec<u8> {
     if wrong {
         return wrong_tail(rng, &chain.marks);
@@ -51,7 +52,8 @@ pub fn tail(rng: &mut Rng, chain: &Chain, wrong: bool) -> Vec<u8> {
     }
 }
 
-/// An index of the right form with another list: of a chain with gaps often where the blocks before end.
+/// Makes an index of the right form with another list. If the chain has gaps, the list often has
+/// the end of the block before instead of each mark.
 fn other_list(rng: &mut Rng, chain: &Chain) -> Vec<u8> {
     if chain.has_gaps() && rng.chance(2) {
         good_index(rng, &chain.searched_from)
@@ -60,7 +62,8 @@ fn other_list(rng: &mut Rng, chain: &Chain) -> Vec<u8> {
     }
 }
 
-/// The first line of an index or a whole one, and a block after it, at which nothing looks.
+/// Makes the first line of an index or a whole index, and a block after it. No block is searched
+/// for after an index, so this block is not read.
 fn index_before_block(rng: &mut Rng, marks: &[u64]) -> Vec<u8> {
     let mut tail = if rng.chance(2) {
         INDEX_LINE.to_vec()
@@ -78,7 +81,8 @@ fn index_before_block(rng: &mut Rng, marks: &[u64]) -> Vec<u8> {
     tail
 }
 
-/// A tail for which the file is refused: stray bytes, or one block too many or one cut short.
+/// Makes a tail for which the file is refused: stray bytes, one block too many, or a block that is
+/// cut short.
 fn wrong_tail(rng: &mut Rng, marks: &[u64]) -> Vec<u8> {
     if marks.len() == MOST_BLOCKS && rng.chance(2) {
         return next_begun_block(rng);
@@ -96,14 +100,15 @@ fn wrong_tail(rng: &mut Rng, marks: &[u64]) -> Vec<u8> {
     }
 }
 
-/// The beginning of one more block, every other after a gap (16 after 64 blocks, else mostly 11 or 12).
+/// Makes the beginning of one more block, after a gap in every second case. The file is refused
+/// with 16 after 64 blocks, and otherwise mostly with 11 or 12.
 fn next_begun_block(rng: &mut Rng) -> Vec<u8> {
     let mut tail = if rng.chance(2) { gap(rng) } else { Vec::new() };
     tail.extend(begun_block(rng));
     tail
 }
 
-/// The first bytes of a block, often not more than its mark or its H.
+/// Makes the first bytes of a block, often only its mark, or its mark and header size.
 fn begun_block(rng: &mut Rng) -> Vec<u8> {
     let header_size: u16 = rng.pick(&[0, 47, 48, u16::MAX]);
     let mut block = [MARK, &header_size.to_be_bytes(), &rng.bytes(20)].concat();

@@ -1,10 +1,10 @@
-//! The tree.
+//! Makes the tree of a file, right or wrong.
 
 use super::text::{bytes_of_one_line, line, lines, part_of_mark, texts};
 use crate::format::text::{END_LINE, MARK, YAML_LINE};
 use crate::rng::Rng;
 
-/// Lines that almost are the first of a tree, or almost a block (7).
+/// Bytes that are almost the first line of a tree, or almost a block (7).
 const NO_TREE: &[&[u8]] = &[
     b"%YAML 1.2\n",
     b"%YAML 1.1 \n",
@@ -36,7 +36,7 @@ const NO_TREE: &[&[u8]] = &[
     b" \xD3BLK",
 ];
 
-/// What may stand between the first line and the start line.
+/// Lines that are allowed between the first line and the start line.
 const LINES_BEFORE_START: &[&[u8]] = &[
     b"%TAG ! tag:stsci.edu:asdf/",
     b"%YAML 1.1",
@@ -53,14 +53,14 @@ const LINES_BEFORE_START: &[&[u8]] = &[
     b"#\xD3BL",
 ];
 
-/// What may not stand there (8).
+/// Lines that are not allowed before the start line (8).
 const WRONG_LINES_BEFORE_START: &[&[u8]] = &[
     b"...", b"", b"\r", b" ", b"-", b"--", b"----", b"---x", b"---\t", b"---\r\r", b"---\0",
     b" ---", b"--\r-", b" %TAG", b" #", b"....", b"a: b", b"$", b"&", b"!", b"\"", b"\xD3BLK",
     b"\xD3",
 ];
 
-/// Start lines.
+/// Start lines, most of them with something after the dashes.
 const START_LINES: &[&[u8]] = &[
     b"---",
     b"--- ",
@@ -74,7 +74,7 @@ const START_LINES: &[&[u8]] = &[
     b"--- \xD3BLK",
 ];
 
-/// Lines of content, some of them almost an end line or a start line.
+/// Lines of content. Some are almost an end line or a start line.
 const CONTENT_LINES: &[&[u8]] = &[
     b"",
     b"\r",
@@ -114,7 +114,7 @@ const CONTENT_LINES: &[&[u8]] = &[
     b"a\rb",
 ];
 
-/// The ways in which a tree goes wrong.
+/// The ways in which a tree can be wrong.
 #[derive(Clone, Copy, PartialEq)]
 enum Fault {
     WrongLineBeforeStart,
@@ -123,7 +123,7 @@ enum Fault {
     NoEndLine,
 }
 
-/// A tree, which is wrong where that is asked for.
+/// Makes a tree, right or with one fault.
 pub fn tree(rng: &mut Rng, wrong: bool) -> Vec<u8> {
     let fault = wrong.then(|| {
         rng.pick(&[
@@ -143,12 +143,12 @@ pub fn tree(rng: &mut Rng, wrong: bool) -> Vec<u8> {
     .concat()
 }
 
-/// Bytes that are neither the first line of a tree nor a block (7).
+/// Makes bytes that are neither the first line of a tree nor a block (7).
 pub fn no_tree(rng: &mut Rng) -> Vec<u8> {
     rng.pick(NO_TREE).to_vec()
 }
 
-/// The lines before the start line (8 where they are wrong).
+/// Makes the lines before the start line. If they are wrong, one of them is not allowed there (8).
 fn before_start(rng: &mut Rng, wrong: bool) -> Vec<u8> {
     let mut found = texts(rng, 3, |rng| rng.pick(LINES_BEFORE_START).to_vec());
     if wrong {
@@ -158,7 +158,7 @@ fn before_start(rng: &mut Rng, wrong: bool) -> Vec<u8> {
     lines(rng, &found)
 }
 
-/// The start line, if it is there (8 or 10 where it is not).
+/// Makes the start line, unless it should be missing (8).
 fn start(rng: &mut Rng, missing: bool) -> Vec<u8> {
     if missing {
         return Vec::new();
@@ -167,7 +167,7 @@ fn start(rng: &mut Rng, missing: bool) -> Vec<u8> {
     line(rng, &text)
 }
 
-/// The text of a start line.
+/// Makes the text of a start line.
 fn start_line(rng: &mut Rng) -> Vec<u8> {
     match rng.below(4) {
         0 => rng.pick(START_LINES).to_vec(),
@@ -176,7 +176,8 @@ fn start_line(rng: &mut Rng) -> Vec<u8> {
     }
 }
 
-/// The lines between start line and end line (9 where a start line is among them).
+/// Makes the lines between the start line and the end line, with a second start line among them if
+/// that is asked for (9).
 fn content(rng: &mut Rng, second_start: bool) -> Vec<u8> {
     let most = rng.pick(&[0, 2, 6, 12]);
     let mut found = texts(rng, most, content_line);
@@ -187,7 +188,7 @@ fn content(rng: &mut Rng, second_start: bool) -> Vec<u8> {
     lines(rng, &found)
 }
 
-/// The text of a line that neither starts nor ends a tree.
+/// Makes the text of a line that neither starts nor ends a tree.
 fn content_line(rng: &mut Rng) -> Vec<u8> {
     match rng.below(8) {
         0 => [b"x", &bytes_of_one_line(rng, 50)[..]].concat(),
@@ -197,7 +198,7 @@ fn content_line(rng: &mut Rng) -> Vec<u8> {
     }
 }
 
-/// The end line, if it is there (10 where it is not).
+/// Makes the end line, unless it should be missing (10).
 fn end(rng: &mut Rng, missing: bool) -> Vec<u8> {
     if missing {
         Vec::new()
@@ -211,7 +212,8 @@ mod tests {
     use super::*;
     use asdf_second::{read, Layout, Refusal};
 
-    /// What is said of a header line with something after it, for many of them.
+    /// Returns the answers of the second program to 500 files: a header line, and then generated
+    /// bytes.
     fn answers(rest: impl Fn(&mut Rng) -> Vec<u8>) -> Vec<Result<Layout, Refusal>> {
         (0..500)
             .map(|number| rest(&mut Rng::for_file(0, number)))

@@ -1,12 +1,12 @@
-//! Blocks that break a rule.
+//! Makes blocks that break a rule.
 
 use super::block::Block;
 use crate::rng::Rng;
 
-/// What is added to a size where only its low 32 bits shall be right.
+/// What is added to a size so that only its low 32 bits stay right.
 const BEYOND_32_BITS: u64 = 1 << 32;
 
-/// Sizes that no file of a run has room for.
+/// Sizes that no generated file has room for.
 const EXTREMES: &[u64] = &[
     u64::MAX,
     u64::MAX - 1,
@@ -20,7 +20,8 @@ const EXTREMES: &[u64] = &[
 ];
 
 impl Block {
-    /// Breaks a rule; the block begins at `at`. A streamed one may stay good.
+    /// Changes a field of the block, which begins at `at`, so that it mostly breaks a rule. A
+    /// streamed block may stay good.
     pub fn make_wrong(&mut self, rng: &mut Rng, at: usize) {
         match rng.below(6) {
             0 => self.header_size = rng.pick(&[0, 1, 6, 42, 46, 47, 47, 47]),
@@ -32,7 +33,7 @@ impl Block {
         }
     }
 
-    /// Used above allocated (13).
+    /// Makes the used size larger than the allocated size (13).
     fn use_more_than_allocated(&mut self, rng: &mut Rng) {
         self.used = match rng.below(3) {
             0 => rng.pick(EXTREMES),
@@ -42,7 +43,8 @@ impl Block {
         self.data_size = self.used;
     }
 
-    /// Allocated space after the end of the file, or an end that wraps back into it (15).
+    /// Makes the allocated space end after the end of the file. Cut to 32 or 64 bits, its end may
+    /// be inside the file (15).
     fn allocate_past_the_end(&mut self, rng: &mut Rng, at: usize) {
         let wrapped_end = rng.pick(&[0, 1, at as u64]);
         self.allocated = match rng.below(6) {
@@ -58,7 +60,7 @@ impl Block {
     }
 }
 
-/// A size that is near this one, has its low bits, or is extreme.
+/// Makes a size that is near this one, has the same low bits, or is extreme.
 fn other_size(rng: &mut Rng, size: u64) -> u64 {
     match rng.below(4) {
         0 => size.wrapping_add(1),

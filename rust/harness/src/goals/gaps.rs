@@ -195,7 +195,7 @@ fn inner_refusals() -> Vec<Goal> {
         .collect()
 }
 
-/// Returns goals for tails for which a file is refused, because they contain no mark.
+/// Returns goals for stray tails, which contain no mark (17).
 fn stray_tails() -> Vec<Goal> {
     vec![
         Goal::of_refusal(

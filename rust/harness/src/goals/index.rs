@@ -68,7 +68,7 @@ pub fn has_dashes(index: &[u8]) -> bool {
     dash_lines(index).is_some()
 }
 
-/// Returns the length of the longest row of digits in the list of an index.
+/// Returns the length of the longest run of digits in the list of an index.
 fn most_digits(index: &[u8]) -> usize {
     let digits = lines(index)
         .skip(2)
