@@ -23,7 +23,7 @@ const LIKE_A_FILE: &[&[u8]] = &[
 /// If the shape asks for branches, one in this many of the other blocks holds a file with branches.
 const BRANCH_ONE_IN: usize = 6;
 
-/// Makes a file of a shape. It is passed down as a function, because the parts of a file do not
+/// A function that makes a file of a shape. It is passed down, because the parts of a file do not
 /// know how a whole file is made.
 pub type MakeFile = fn(&mut Rng, &Shape) -> Vec<u8>;
 

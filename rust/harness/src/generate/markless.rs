@@ -21,7 +21,7 @@ const MEANINGLESS: &[&[u8]] = &[
     b"BLK",
 ];
 
-/// The most bytes in most cases (`SHORT`), and in the others (`LONG`).
+/// The maximum length in most cases (`SHORT`) and in the others (`LONG`).
 const SHORT: usize = 40;
 const LONG: usize = 300;
 

@@ -135,7 +135,7 @@ fn refused(name: &str, number: u8, reached: impl Fn(&Seen) -> bool + 'static) ->
     })
 }
 
-/// Returns goals for each number with which an edit is refused.
+/// Returns a goal for each number with which an edit is refused.
 fn refusals() -> Vec<EditGoal> {
     (1..=TEXT_LONGER_THAN_ROOM)
         .map(|number| {
@@ -307,8 +307,8 @@ fn files() -> Vec<EditGoal> {
     ]
 }
 
-/// Returns goals for each verdict on the index of an edited file, and each verdict on an index with
-/// dashes.
+/// Returns a goal for each verdict on the index of an edited file, and for each verdict on an index
+/// with dashes.
 fn verdicts() -> Vec<EditGoal> {
     let any = VERDICTS.map(|verdict| {
         edited(format!("edited, index {verdict}"), move |seen| {

@@ -22,14 +22,14 @@ pub fn goals() -> Vec<Goal> {
         .collect()
 }
 
-/// Returns goals for each number with which a file is refused.
+/// Returns a goal for each number with which a file is refused.
 fn refusals() -> Vec<Goal> {
     (1..=17)
         .map(|number| Goal::of_refusal(format!("refused {number}"), number, |_, _| true))
         .collect()
 }
 
-/// Returns goals for each verdict on an index.
+/// Returns a goal for each verdict on an index.
 fn verdicts() -> Vec<Goal> {
     VERDICTS
         .map(|verdict| {

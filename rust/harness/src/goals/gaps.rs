@@ -46,7 +46,7 @@ impl Goal {
     }
 }
 
-/// Returns goals for each kind of gap between blocks at a depth that is `wanted`.
+/// Returns a goal for each kind of gap between blocks at a depth that is `wanted`.
 fn kinds(what: &str, wanted: fn(u8) -> bool) -> Vec<Goal> {
     let of_kind = |kind: &str, is_kind: fn(&[u8]) -> bool| {
         Goal::of_gap(format!("{what} {kind}"), move |gap| {

@@ -3,7 +3,7 @@
 use crate::answers::file::Answers;
 use asdf_second::{Block, Record};
 
-/// Finds the places at which a file reaches a goal, given the answers to this file.
+/// A function that finds the places at which a file reaches a goal, given the answers to this file.
 type Places<A> = dyn Fn(&[u8], &A) -> Vec<usize>;
 
 /// Something that a run has to reach at least once.

@@ -83,7 +83,7 @@ fn of_index(name: String, verdict: Verdict, reached: impl Fn(&[u8]) -> bool + 's
     })
 }
 
-/// Returns goals for each verdict on an index of this style, and the limits of its form.
+/// Returns goals for each verdict on an index of this style, and for the limits of its form.
 fn style(name: &str, is_style: fn(&[u8]) -> bool) -> Vec<Goal> {
     let of_style = |what: &str, verdict: Verdict, reached: fn(&[u8]) -> bool| {
         let name = format!("{name}: {what} ({verdict})");
@@ -170,7 +170,7 @@ fn mixed_styles() -> Vec<Goal> {
     ]
 }
 
-/// Returns goals for each wrong line in place of the start line, with a dash after it.
+/// Returns a goal for each wrong line in place of the start line, with a dash after it.
 fn wrong_start_lines() -> Vec<Goal> {
     wrong_lines("start", WRONG_START_LINES, |index, wrong| {
         let rest = from_start_line(index).and_then(|list| after_line(list, wrong));
@@ -178,7 +178,7 @@ fn wrong_start_lines() -> Vec<Goal> {
     })
 }
 
-/// Returns goals for each wrong line after the start line of an index with dashes.
+/// Returns a goal for each wrong line after the start line of an index with dashes.
 fn wrong_dash_lines() -> Vec<Goal> {
     wrong_lines("dash", WRONG_DASH_LINES, |index, wrong| {
         dash_lines(index).is_some_and(|lines| has_line(lines, wrong))

@@ -30,7 +30,7 @@ pub fn goals() -> Vec<Goal> {
     .collect()
 }
 
-/// Returns goals for each inner state at each depth at which it is possible.
+/// Returns a goal for each inner state at each depth at which it is possible.
 fn inner_states() -> Vec<Goal> {
     let depths = 0..=DEEPEST;
     let pairs = depths.flat_map(|depth| INNER_STATES.map(|state| (depth, state)));
@@ -54,7 +54,7 @@ fn is_possible(depth: u8, kind: InnerKind) -> bool {
     }
 }
 
-/// Returns goals for each number with which a file is refused that is inside a block of at least
+/// Returns a goal for each number with which a file is refused that is inside a block of at least
 /// this depth. The numbers 1 and 2 never occur: no file can contain one that is too long to be a
 /// file, and a content that does not begin like a file is plain.
 fn inner_refusals(what: &'static str, least_depth: u8) -> Vec<Goal> {

@@ -48,8 +48,8 @@ fn accepted_length(answers: &StoredAnswers, wanted: impl Fn(usize) -> bool) -> V
     rows.filter(|&rows| wanted(rows)).into_iter().collect()
 }
 
-/// Returns goals for each remainder of a wrong length, and a wrong length together with a row that
-/// breaks the rules.
+/// Returns a goal for each remainder of a wrong length, and one for a wrong length together with a
+/// row that breaks the rules.
 fn wrong_lengths() -> Vec<StoredGoal> {
     let mut goals: Vec<StoredGoal> = (1..ROW_LENGTH)
         .map(|rest| {
