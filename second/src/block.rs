@@ -1,5 +1,5 @@
-//! Blocks: the header of one, the chain of them with the space between, and
-//! the tail after the last.
+//! Reads the blocks of a file: the header of each block, the chain with the space between blocks,
+//! and the tail after the last block.
 
 use crate::index_form::INDEX_LINE;
 use crate::offset::InFile;
@@ -8,42 +8,42 @@ use crate::zeros::only_zeros;
 
 /// The four bytes with which every block begins.
 const MARK: [u8; 4] = [0xD3, 0x42, 0x4C, 0x4B];
-/// H counts from this offset in the block.
+/// The offset in a block from which the header size H counts.
 const HEADER_SIZE_COUNTS_FROM: usize = 6;
-/// The smallest H.
+/// The smallest header size H.
 pub(crate) const LEAST_HEADER_SIZE: u16 = 48;
-/// The bytes of a block header with the smallest H: all named fields.
+/// The number of bytes in a block header with the smallest H. They hold all named fields.
 pub(crate) const LEAST_HEADER_BYTES: usize = HEADER_SIZE_COUNTS_FROM + LEAST_HEADER_SIZE as usize;
-/// The most blocks a file may have.
+/// The highest number of blocks that a file may have.
 pub(crate) const MOST_BLOCKS: usize = 64;
 const STREAMED_FLAG: u32 = 1;
 const NO_COMPRESSION: [u8; 4] = [0; 4];
 const NO_CHECKSUM: [u8; 16] = [0; 16];
 
-/// All that is reported of a block in its own file, except its inner state.
+/// Everything that is reported about a block in its own file, except its inner state.
 #[derive(Debug, Clone, Copy, PartialEq, Eq)]
 pub struct Block {
-    /// Its place in the file's chain, from 0.
+    /// The block's number in the file's chain, counted from 0.
     pub ordinal: u8,
-    /// Where its mark stands in its own file.
+    /// The offset of its mark in its own file.
     pub offset: InFile,
-    /// H, counted from offset 6 of the block.
+    /// The header size H, counted from offset 6 of the block.
     pub header_size: u16,
     pub flags: u32,
-    /// The compression name, four zeros for none.
+    /// The compression name, or four zeros for none.
     pub compression: [u8; 4],
-    /// The allocated size; of a streamed block the length of its content.
+    /// The allocated size, or the length of the content if the block is streamed.
     pub allocated: u32,
-    /// The used size; of a streamed block the length of its content.
+    /// The used size, or the length of the content if the block is streamed.
     pub used: u32,
-    /// The data size, with all its 64 bits; of a streamed block the length of its content.
+    /// The data size with all its 64 bits, or the length of the content if the block is streamed.
     pub data_size: u64,
-    /// The checksum, sixteen zeros for none.
+    /// The checksum, or sixteen zeros for none.
     pub checksum: [u8; 16],
 }
 
 impl Block {
-    /// Whether the block's content is everything to the end of its file.
+    /// Whether the block is streamed, so that its content is everything to the end of its file.
     pub fn is_streamed(&self) -> bool {
         is_streamed(self.flags)
     }
@@ -58,28 +58,29 @@ impl Block {
         self.checksum != NO_CHECKSUM
     }
 
-    /// Where the content begins.
+    /// Returns where the content begins.
     pub(crate) fn content_start(&self) -> InFile {
         let header_bytes = HEADER_SIZE_COUNTS_FROM + usize::from(self.header_size);
         InFile::at(self.offset.position() + header_bytes)
     }
 
-    /// Where the allocated space ends.
+    /// Returns where the allocated space ends.
     pub(crate) fn end(&self) -> InFile {
         InFile::at(self.content_start().position() + self.allocated as usize)
     }
 
-    /// The used part, as a part of the block's own file.
+    /// Returns the content (the used part) as a part of the block's own file.
     pub(crate) fn content<'a>(&self, file: &'a [u8]) -> &'a [u8] {
         &file[self.content_start().position()..][..self.used as usize]
     }
 }
 
-/// What stands after the last block.
+/// What follows the last block.
 pub(crate) enum Tail {
-    /// No index: nothing, zeros, or a streamed block that leaves no tail.
+    /// There is no index: nothing follows, only zeros follow, or the last block is streamed and
+    /// leaves no tail.
     NoIndex,
-    /// Something from this position that begins as an index.
+    /// The bytes from this position on begin as an index.
     Index(usize),
 }
 
@@ -90,7 +91,7 @@ pub(crate) struct Chain {
 }
 
 impl Chain {
-    /// The chain of a file without blocks.
+    /// Returns the chain of a file without blocks.
     pub(crate) fn empty() -> Chain {
         Chain {
             blocks: Vec::new(),
@@ -104,7 +105,7 @@ pub(crate) fn mark_at(file: &[u8], position: usize) -> bool {
     file[position..].starts_with(&MARK)
 }
 
-/// The first mark at or after a position.
+/// Returns the first mark at or after the position `from`, if there is one.
 pub(crate) fn find_mark(file: &[u8], from: usize) -> Option<usize> {
     let mut at = from;
     loop {
@@ -118,13 +119,13 @@ pub(crate) fn find_mark(file: &[u8], from: usize) -> Option<usize> {
 
 /// What follows a block.
 enum Follower {
-    /// Another block, whose mark stands here.
+    /// Another block follows. Its mark begins at this position.
     Block(usize),
-    /// No more blocks.
+    /// No more blocks follow, so this is the tail.
     Tail(Tail),
 }
 
-/// Walks from the first mark to the last block and judges the tail (11 to 17).
+/// Walks from the first mark to the last block and judges the tail. Refusals: 11 to 17.
 pub(crate) fn walk_chain(file: &[u8], first: usize) -> Result<Chain, Refusal> {
     let mut blocks = Vec::new();
     let mut mark = first;
@@ -141,14 +142,15 @@ pub(crate) fn walk_chain(file: &[u8], first: usize) -> Result<Chain, Refusal> {
     }
 }
 
-/// Looks for the next block, or judges the tail where there is none (17).
-/// Nothing follows a streamed block.
+/// Looks for the next block, or judges the tail if there is none. Nothing follows a streamed block.
+/// Refusal: 17.
 fn what_follows(file: &[u8], block: &Block) -> Result<Follower, Refusal> {
     if block.is_streamed() {
         return Ok(Follower::Tail(Tail::NoIndex));
     }
     let end = block.end().position();
-    // An index is tried before the search, so a mark after its beginning is never a block.
+    // An index is tried before the search for a mark. Hence a mark after the beginning of an index
+    // is never a block.
     if file[end..].starts_with(INDEX_LINE) {
         return Ok(Follower::Tail(Tail::Index(end)));
     }
@@ -159,7 +161,7 @@ fn what_follows(file: &[u8], block: &Block) -> Result<Follower, Refusal> {
     }
 }
 
-/// Reads the block whose mark stands at `start` (11, 12, 11, 13, 14, 15).
+/// Reads the block whose mark begins at `start`. Refusals, in this order: 11, 12, 11, 13, 14, 15.
 fn read_block(file: &[u8], start: usize, ordinal: u8) -> Result<Block, Refusal> {
     let refused = |number| Refusal::at(number, start);
     let bytes = &file[start..];
@@ -171,7 +173,7 @@ fn read_block(file: &[u8], start: usize, ordinal: u8) -> Result<Block, Refusal> 
     let behind_header = bytes
         .get(header_bytes..)
         .ok_or(refused(HEADER_PASSES_END))?;
-    // H is at least 48, so every named field lies in these bytes.
+    // H is at least 48, so these bytes hold every named field.
     let fields = bytes.first_chunk().ok_or(refused(HEADER_PASSES_END))?;
 
     let flags = u32::from_be_bytes(field(fields, 6));
@@ -201,13 +203,13 @@ fn read_block(file: &[u8], start: usize, ordinal: u8) -> Result<Block, Refusal> 
     })
 }
 
-/// H, if the mark and the field are inside the file.
+/// Returns H if the mark and the field of H are inside the file.
 fn header_size(block: &[u8]) -> Option<u16> {
     let field = block.get(MARK.len()..)?.first_chunk()?;
     Some(u16::from_be_bytes(*field))
 }
 
-/// One field of a block header.
+/// Returns the field of a block header that begins at offset `at`.
 fn field<const N: usize>(header: &[u8; LEAST_HEADER_BYTES], at: usize) -> [u8; N] {
     std::array::from_fn(|i| header[at + i])
 }
@@ -216,7 +218,7 @@ fn is_streamed(flags: u32) -> bool {
     flags & STREAMED_FLAG != 0
 }
 
-/// The three sizes as they are reported. Only the data size may pass 32 bits.
+/// The three sizes as they are reported. Only the data size may need more than 32 bits.
 struct Sizes {
     allocated: u32,
     used: u32,
@@ -224,7 +226,8 @@ struct Sizes {
 }
 
 impl Sizes {
-    /// The sizes of a streamed block: its fields are ignored, all three are its content's length.
+    /// Returns the sizes of a streamed block. Its size fields are ignored, and all three sizes are
+    /// the length of its content.
     fn of_streamed(content_length: usize) -> Sizes {
         Sizes {
             allocated: content_length as u32,
@@ -234,7 +237,7 @@ impl Sizes {
     }
 }
 
-/// The three sizes as they are stored, with all their 64 bits.
+/// The three sizes as they are stored, each with all its 64 bits.
 struct StoredSizes {
     allocated: u64,
     used: u64,
@@ -242,8 +245,8 @@ struct StoredSizes {
 }
 
 impl StoredSizes {
-    /// The sizes to report, or the number that refuses them (13, 14, 15).
-    /// A size is compared with the bytes that are left, never added to an offset before.
+    /// Returns the sizes to report, or the number that refuses them: 13, 14 or 15. A size is
+    /// compared with the number of bytes that are left. It is never added to an offset before that.
     fn judge(&self, compression: [u8; 4], left: usize) -> Result<Sizes, u8> {
         if self.used > self.allocated {
             Err(USED_ABOVE_ALLOCATED)

@@ -1,11 +1,11 @@
-//! The tree edit: another tree in the room of the old one.
+//! The tree edit, which puts another tree into the room of the old one.
 
 use crate::layout::judge;
 use crate::refusal::*;
 use crate::tree::tree_end;
 
-/// Puts `text` in the place of the file's tree and fills the room behind it
-/// with spaces (1 to 17, 18, 19, 20). The file's length stays.
+/// Puts `text` in the place of the file's tree and fills the rest of the room with spaces. The
+/// file's length does not change. Refusals, in this order: 1 to 17, 18, 19, 20.
 pub fn edit(file: &mut [u8], text: &[u8]) -> Result<(), Refusal> {
     let tree = judge(file)?
         .tree
@@ -23,7 +23,7 @@ pub fn edit(file: &mut [u8], text: &[u8]) -> Result<(), Refusal> {
     Ok(())
 }
 
-/// Whether a tree begins with the text's first byte and ends with its last.
+/// Whether the text is one tree from its first byte to its last.
 fn is_exactly_one_tree(text: &[u8]) -> bool {
     tree_end(text, 0) == Ok(Some(text.len()))
 }

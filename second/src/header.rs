@@ -1,4 +1,4 @@
-//! The header line and the comments behind it.
+//! Reads the header line and the comments after it.
 
 use crate::index_form::INDEX_LINE;
 use crate::line::{decimal, line_at, LineEnd};
@@ -23,12 +23,12 @@ pub(crate) struct Header {
     pub end: usize,
 }
 
-/// Whether bytes begin as a file does; looks at six bytes at most.
+/// Whether the bytes begin like a file. Looks at six bytes at most.
 pub(crate) fn begins_like_file(bytes: &[u8]) -> bool {
     bytes.starts_with(FILE_BEGIN)
 }
 
-/// Reads the header line (2, 3, 4).
+/// Reads the header line. Refusals, in this order: 2, 3, 4.
 pub(crate) fn read_header(file: &[u8]) -> Result<Header, Refusal> {
     if !begins_like_file(file) {
         return Err(Refusal::of_whole(NOT_ASDF));
@@ -47,7 +47,7 @@ pub(crate) fn read_header(file: &[u8]) -> Result<Header, Refusal> {
     })
 }
 
-/// The version that this text is, from its first byte to its last.
+/// Returns the version if the whole text is one, from its first byte to its last.
 fn version(text: &[u8]) -> Option<Version> {
     let mut numbers = text.split(|&byte| byte == b'.').map(version_number);
     let version = Version {
@@ -58,12 +58,12 @@ fn version(text: &[u8]) -> Option<Version> {
     numbers.next().is_none().then_some(version)
 }
 
-/// One number of a version.
+/// Reads one number of a version.
 fn version_number(digits: &[u8]) -> Option<u16> {
     decimal(digits, MOST_VERSION_DIGITS).map(|value| value as u16)
 }
 
-/// Where the comments that start at `start` end (5, 6).
+/// Returns where the comments that start at `start` end. Refusals: 5, 6.
 pub(crate) fn comments_end(file: &[u8], start: usize) -> Result<usize, Refusal> {
     let mut at = start;
     while file.get(at) == Some(&b'#') {

@@ -1,4 +1,5 @@
-//! The verdict on an index of either style. The blocks are handed in, so this knows no layout.
+//! Gives the verdict on an index of either style. The blocks are passed in, so this module does not
+//! need to know the layout.
 
 use crate::block::Block;
 use crate::index_form::{INDEX_LINE, LIST_BEGIN, LIST_END, MOST_OFFSET_DIGITS};
@@ -7,19 +8,19 @@ use crate::tree::{END_LINE, START_LINE, YAML_LINE};
 use crate::zeros::only_zeros;
 use std::fmt;
 
-/// What stands before each number of the dash style.
+/// The bytes before each number in the dash style.
 const DASH: &[u8] = b"- ";
 
-/// What is said of a file's index. An ignored one never refuses the file.
+/// The verdict on a file's index. An ignored index never refuses the file.
 #[derive(Debug, Clone, Copy, PartialEq, Eq)]
 pub enum Verdict {
-    /// There is none.
+    /// There is no index.
     Absent,
     /// The form is right and the list equals the walked offsets.
     Good,
-    /// The text has the form of neither style.
+    /// The text does not have the form of either style.
     IgnoredForm,
-    /// The form is right, the list is another.
+    /// The form is right, but the list differs from the walked offsets.
     IgnoredList,
 }
 
@@ -34,7 +35,7 @@ impl fmt::Display for Verdict {
     }
 }
 
-/// Judges a tail that begins as an index against the walked blocks of its file.
+/// Judges a tail that begins as an index. Its list is compared with the walked blocks of its file.
 pub(crate) fn judge_index(tail: &[u8], blocks: &[Block]) -> Verdict {
     match list_equals(tail, blocks) {
         None => Verdict::IgnoredForm,
@@ -43,7 +44,7 @@ pub(crate) fn judge_index(tail: &[u8], blocks: &[Block]) -> Verdict {
     }
 }
 
-/// Whether the index's list equals the blocks' offsets; none where the form is not right.
+/// Whether the index's list equals the offsets of the blocks. Returns `None` if the form is wrong.
 fn list_equals(tail: &[u8], blocks: &[Block]) -> Option<bool> {
     let mut offsets = blocks.iter().map(|block| u64::from(block.offset.0));
     let mut equal = true;
@@ -51,12 +52,12 @@ fn list_equals(tail: &[u8], blocks: &[Block]) -> Option<bool> {
     Some(equal && offsets.next().is_none())
 }
 
-/// Hands each number of the index to `take`, in order; none where the form is not right,
-/// which may be seen only after numbers were handed on.
+/// Passes each number of the index to `take`, in order. Returns `None` if the form is wrong. That
+/// may become clear only after some numbers were passed on.
 fn each_number(tail: &[u8], take: &mut impl FnMut(u64)) -> Option<()> {
     let first = exact_line_at(tail, 0, INDEX_LINE)?;
     let second = exact_line_at(tail, first.next, YAML_LINE)?;
-    // The start line tells the style, so no text can mix the two.
+    // The start line decides the style, so no text can mix the two styles.
     let last_of_list = match exact_line_at(tail, second.next, START_LINE) {
         Some(start_line) => dash_lines(tail, start_line.next, take)?,
         None => bracket_line(tail, second.next, take)?,
@@ -65,7 +66,7 @@ fn each_number(tail: &[u8], take: &mut impl FnMut(u64)) -> Option<()> {
     only_zeros(&tail[end_line.next..]).then_some(())
 }
 
-/// The one line that holds the list of the bracket style.
+/// Returns the one line that holds the list in the bracket style.
 fn bracket_line<'a>(tail: &'a [u8], start: usize, take: &mut impl FnMut(u64)) -> Option<Line<'a>> {
     let line = line_at(tail, start)?;
     let list = line.text.strip_prefix(LIST_BEGIN)?.strip_suffix(LIST_END)?;
@@ -75,7 +76,8 @@ fn bracket_line<'a>(tail: &'a [u8], start: usize, take: &mut impl FnMut(u64)) ->
     Some(line)
 }
 
-/// The last of the lines of the dash style, one for each number. There is at least one.
+/// Returns the last line of the list in the dash style. The list has one line for each number, and
+/// at least one line.
 fn dash_lines<'a>(tail: &'a [u8], start: usize, take: &mut impl FnMut(u64)) -> Option<Line<'a>> {
     let mut line = dash_line(tail, start, take)?;
     while tail[line.next..].starts_with(DASH) {
@@ -84,7 +86,7 @@ fn dash_lines<'a>(tail: &'a [u8], start: usize, take: &mut impl FnMut(u64)) -> O
     Some(line)
 }
 
-/// One line of the dash style. Only after its number more spaces may stand.
+/// Returns one line of the dash style. More spaces are allowed only after its number.
 fn dash_line<'a>(tail: &'a [u8], start: usize, take: &mut impl FnMut(u64)) -> Option<Line<'a>> {
     let line = line_at(tail, start)?;
     let item = line.text.strip_prefix(DASH)?;
@@ -92,18 +94,18 @@ fn dash_line<'a>(tail: &'a [u8], start: usize, take: &mut impl FnMut(u64)) -> Op
     Some(line)
 }
 
-/// A number of the list, which is the same in both styles.
+/// Reads a number of the list. Numbers have the same form in both styles.
 fn list_number(digits: &[u8]) -> Option<u64> {
     decimal(digits, MOST_OFFSET_DIGITS)
 }
 
-/// The bytes without the spaces before and after them.
+/// Returns the bytes without the spaces at their beginning and at their end.
 fn without_outer_spaces(bytes: &[u8]) -> &[u8] {
     let spaces = bytes.iter().take_while(|&&byte| byte == b' ').count();
     without_spaces_after(&bytes[spaces..])
 }
 
-/// The bytes without the spaces after them.
+/// Returns the bytes without the spaces at their end.
 fn without_spaces_after(bytes: &[u8]) -> &[u8] {
     let spaces = bytes.iter().rev().take_while(|&&byte| byte == b' ').count();
     &bytes[..bytes.len() - spaces]

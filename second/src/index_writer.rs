@@ -1,4 +1,4 @@
-//! Writing the index of a file, with brackets and the header's line end.
+//! Writes the index of a file, with brackets and the header's line end.
 
 use crate::block::{Block, MOST_BLOCKS};
 use crate::index_form::{INDEX_LINE, LIST_BEGIN, LIST_END, MOST_OFFSET_DIGITS};
@@ -10,7 +10,7 @@ use crate::tree::{END_LINE, YAML_LINE};
 /// What is written between two numbers.
 const BETWEEN_NUMBERS: &str = ", ";
 
-/// The length of the longest index that is written: 64 numbers of 10 digits, and four lines
+/// The length of the longest index that is written. It has 64 numbers of 10 digits, and four lines
 /// that end with 0D 0A.
 pub const LONGEST_INDEX: usize = INDEX_LINE.len()
     + YAML_LINE.len()
@@ -21,7 +21,8 @@ pub const LONGEST_INDEX: usize = INDEX_LINE.len()
     + END_LINE.len()
     + 4 * LineEnd::Crlf.bytes().len();
 
-/// Writes the index of a file into the lent buffer and returns its length (1 to 17, 22, 21).
+/// Writes the index of a file into the lent buffer and returns the length of the index. Refusals,
+/// in this order: 1 to 17, 22, 21.
 pub fn write_index(file: &[u8], out: &mut [u8]) -> Result<usize, Refusal> {
     let judged = judge(file)?;
     let blocks = &judged.chain.blocks;
@@ -36,8 +37,8 @@ pub fn write_index(file: &[u8], out: &mut [u8]) -> Result<usize, Refusal> {
     Ok(text.len())
 }
 
-/// The one text that is written for these blocks: always in the bracket style, and all four
-/// lines with the same line end.
+/// Returns the one text that is written for these blocks. It is always in the bracket style, and
+/// all four lines have the same line end.
 fn index_text(blocks: &[Block], line_end: LineEnd) -> Vec<u8> {
     let offsets: Vec<String> = blocks
         .iter()

@@ -1,4 +1,4 @@
-//! The layout of one file, front to back.
+//! Reads the layout of one file, front to back.
 
 use crate::block::{find_mark, mark_at, walk_chain, Block, Chain, Tail};
 use crate::header::{comments_end, read_header, Version};
@@ -8,30 +8,30 @@ use crate::offset::InFile;
 use crate::refusal::*;
 use crate::tree::tree_end;
 
-/// The longest file.
+/// The length of the longest file.
 const LONGEST_FILE: u64 = 4_294_967_295;
 
-/// A stretch of a file; it is empty where both ends are the same.
+/// A range of a file's bytes. It is empty if both ends are the same.
 #[derive(Debug, Clone, Copy, PartialEq, Eq)]
 pub struct Stretch {
     pub start: InFile,
     pub end: InFile,
 }
 
-/// A tree's extent and where the room for editing it ends.
+/// The extent of a tree, and where the room for editing it ends.
 #[derive(Debug, Clone, Copy, PartialEq, Eq)]
 pub struct Tree {
     pub start: InFile,
     pub end: InFile,
-    /// The first block, or the end of the file.
+    /// The offset of the first block, or the end of the file.
     pub room_end: InFile,
 }
 
-/// All that is reported of one file; its blocks are not opened.
+/// Everything that is reported about one file. Its blocks are not opened.
 #[derive(Debug, Clone, PartialEq, Eq)]
 pub struct Layout {
     pub version: Version,
-    /// The header's line end; the file's other lines may end otherwise.
+    /// The header's line end. The other lines of the file may end differently.
     pub line_end: LineEnd,
     pub header_end: InFile,
     pub comments: Stretch,
@@ -40,7 +40,7 @@ pub struct Layout {
     pub index: Verdict,
 }
 
-/// A file whose layout was accepted; the index is not looked at yet.
+/// A file whose layout was accepted. Its index has not been judged yet.
 pub(crate) struct Judged {
     pub version: Version,
     pub line_end: LineEnd,
@@ -50,7 +50,7 @@ pub(crate) struct Judged {
 }
 
 impl Judged {
-    /// The verdict on the index of this file.
+    /// Returns the verdict on the index of this file.
     pub(crate) fn index_verdict(&self, file: &[u8]) -> Verdict {
         match self.chain.tail {
             Tail::NoIndex => Verdict::Absent,
@@ -59,7 +59,7 @@ impl Judged {
     }
 }
 
-/// Reads a file's own layout (1 to 17).
+/// Reads a file's own layout. Refusals: 1 to 17.
 pub fn read(file: &[u8]) -> Result<Layout, Refusal> {
     let judged = judge(file)?;
     Ok(Layout {
@@ -73,7 +73,7 @@ pub fn read(file: &[u8]) -> Result<Layout, Refusal> {
     })
 }
 
-/// Judges a file's own layout, once and front to back (1 to 17).
+/// Judges a file's own layout, once and front to back. Refusals: 1 to 17.
 pub(crate) fn judge(file: &[u8]) -> Result<Judged, Refusal> {
     refuse_too_long(file.len() as u64)?;
     let header = read_header(file)?;
@@ -100,7 +100,7 @@ pub(crate) fn judge(file: &[u8]) -> Result<Judged, Refusal> {
     })
 }
 
-/// Refuses a length above the limit (1).
+/// Refuses a length above the limit. Refusal: 1.
 fn refuse_too_long(length: u64) -> Result<(), Refusal> {
     if length > LONGEST_FILE {
         return Err(Refusal::of_whole(FILE_TOO_LONG));
@@ -108,8 +108,8 @@ fn refuse_too_long(length: u64) -> Result<(), Refusal> {
     Ok(())
 }
 
-/// The mark of the first block, if there is one: behind a tree the first mark
-/// that is found, without a tree only at the comments' end (7).
+/// Returns the mark of the first block, if there is one. After a tree, this is the first mark that
+/// is found. Without a tree, it can only be at the comments' end. Refusal: 7.
 fn first_block(
     file: &[u8],
     comments_end: usize,

@@ -1,10 +1,10 @@
-//! An independent second reader of the ASDF file layout.
+//! The second program: an independent reader of the ASDF file layout.
 //!
-//! It works on plain slices, keeps nothing between calls and exists to be
-//! compared with the verified implementation. The rules of the order decide,
-//! with requests W-201 (index written with dashes), W-204 (space between blocks)
-//! and W-205 (DOS files stay DOS), and then the ASDF standard 1.1.1 (file
-//! layout). NOTES.md lists what was decided where they leave room.
+//! It works on plain slices, keeps nothing between calls and exists to be compared with the
+//! verified implementation. The rules of the order decide first, with the requests W-201 (index
+//! written with dashes), W-204 (space between blocks) and W-205 (DOS files stay DOS). The ASDF
+//! standard 1.1.1 (file layout) decides next. NOTES.md lists what was decided where these documents
+//! leave room.
 
 #![forbid(unsafe_code)]
 

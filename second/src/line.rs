@@ -1,4 +1,4 @@
-//! Lines and decimal numbers, the text parts of a file.
+//! Reads lines and decimal numbers, the text parts of a file.
 
 /// The two ways in which a line may end.
 #[derive(Debug, Clone, Copy, PartialEq, Eq)]
@@ -10,7 +10,7 @@ pub enum LineEnd {
 }
 
 impl LineEnd {
-    /// The bytes of this line end.
+    /// Returns the bytes of this line end.
     pub(crate) const fn bytes(self) -> &'static [u8] {
         match self {
             LineEnd::Lf => b"\n",
@@ -19,14 +19,14 @@ impl LineEnd {
     }
 }
 
-/// A line that is ended: its text, the line end after it, and where the next line starts.
+/// A line that has a line end: its text, that line end, and where the next line starts.
 pub(crate) struct Line<'a> {
     pub text: &'a [u8],
     pub line_end: LineEnd,
     pub next: usize,
 }
 
-/// The line that starts at `start`, or none where no 0A follows.
+/// Returns the line that starts at `start`, or `None` if no 0A follows.
 pub(crate) fn line_at(bytes: &[u8], start: usize) -> Option<Line<'_>> {
     let rest = &bytes[start..];
     let length = rest.iter().position(|&byte| byte == b'\n')?;
@@ -42,15 +42,15 @@ pub(crate) fn line_at(bytes: &[u8], start: usize) -> Option<Line<'_>> {
     })
 }
 
-/// The line that starts at `start`, if it is exactly `text` and ended.
-/// Looks no further than such a line may reach.
+/// Returns the line that starts at `start` if it is exactly `text` and has a line end. Looks no
+/// further than such a line can reach.
 pub(crate) fn exact_line_at<'a>(bytes: &'a [u8], start: usize, text: &[u8]) -> Option<Line<'a>> {
     let furthest = start + text.len() + LineEnd::Crlf.bytes().len();
     let line = line_at(&bytes[..furthest.min(bytes.len())], start)?;
     (line.text == text).then_some(line)
 }
 
-/// The value of a decimal number of 1 to `most_digits` digits without a leading zero.
+/// Returns the value of a decimal number of 1 to `most_digits` digits without a leading zero.
 pub(crate) fn decimal(digits: &[u8], most_digits: usize) -> Option<u64> {
     let length_fits = (1..=most_digits).contains(&digits.len());
     let leading_zero = digits.len() > 1 && digits[0] == b'0';
@@ -68,7 +68,7 @@ pub(crate) fn decimal(digits: &[u8], most_digits: usize) -> Option<u64> {
 mod tests {
     use super::*;
 
-    /// All that is told of a line.
+    /// Returns everything that a line reports.
     fn told(line: Option<Line<'_>>) -> Option<(&[u8], LineEnd, usize)> {
         line.map(|line| (line.text, line.line_end, line.next))
     }

@@ -1,13 +1,13 @@
-//! What the program of the rules prints.
+//! Makes the listing, which is what the program described in the rules prints.
 
 use crate::layout::{judge, Tree};
 use crate::outline::rows_of;
 
-/// The longest input that the program takes.
+/// The length of the longest input that the program accepts.
 pub const PROGRAM_LIMIT: usize = 65_536;
 
-/// What the program prints for this input. The outline never outgrows the
-/// program's 65,536 bytes: so short an input has at most 1,213 rows.
+/// Returns what the program prints for this input. The outline always fits into the program's
+/// 65,536 bytes, since an input up to the limit has at most 1,213 rows.
 pub fn listing(input: &[u8]) -> Vec<u8> {
     if input.len() > PROGRAM_LIMIT {
         return b"too long for this program\n".to_vec();
@@ -26,7 +26,7 @@ pub fn listing(input: &[u8]) -> Vec<u8> {
     }
 }
 
-/// The line that tells the tree's extent.
+/// Returns the line that states the tree's extent.
 fn tree_text(tree: Option<Tree>) -> String {
     match tree {
         None => "tree none\n".to_string(),

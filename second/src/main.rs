@@ -1,4 +1,5 @@
-//! The program: without arguments as the rules say, with a command the other functions.
+//! The program. Without arguments it does what the rules say. With a command it runs one of the
+//! other functions.
 
 #![forbid(unsafe_code)]
 
@@ -80,7 +81,7 @@ fn run(arguments: &[OsString]) -> io::Result<ExitCode> {
     }
 }
 
-/// Standard input, as far as the program needs it to see that it is too long.
+/// Reads standard input, but only as far as the program needs to see that the input is too long.
 fn program_input() -> io::Result<Vec<u8>> {
     let mut input = Vec::new();
     io::stdin()
@@ -89,7 +90,7 @@ fn program_input() -> io::Result<Vec<u8>> {
     Ok(input)
 }
 
-/// All of standard input.
+/// Reads all of standard input.
 fn whole_input() -> io::Result<Vec<u8>> {
     let mut input = Vec::new();
     io::stdin().read_to_end(&mut input)?;
@@ -107,7 +108,8 @@ fn print_result(result: Result<String, Refusal>) -> io::Result<ExitCode> {
     write_out(text.as_bytes())
 }
 
-/// Writes what a function left in the front of the buffer, or tells the refusal on standard error.
+/// Writes what a function left at the beginning of the buffer, or reports the refusal on standard
+/// error.
 fn write_result(
     mut buffer: Vec<u8>,
     writer: impl FnOnce(&mut [u8]) -> Result<usize, Refusal>,
@@ -156,7 +158,7 @@ fn records_text(records: Vec<Record>) -> String {
     lines_of(&records.iter().map(line).collect::<Vec<String>>())
 }
 
-/// A block's fields from its ordinal on, with the offset that the caller reports.
+/// Returns a block's fields from its ordinal on, with the offset that the caller reports.
 fn block_fields(block: &Block, offset: u32) -> String {
     format!(
         "{} {} {} {:08x} {} {} {} {} {}",

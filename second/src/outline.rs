@@ -1,4 +1,4 @@
-//! The outline: one row of 16 bytes for each block.
+//! Writes and reads outlines. An outline has one row of 16 bytes for each block.
 
 use crate::block::{LEAST_HEADER_BYTES, LEAST_HEADER_SIZE, MOST_BLOCKS};
 use crate::layout::{judge, Judged};
@@ -7,10 +7,10 @@ use crate::records::{each_record, Inner, Record};
 use crate::refusal::*;
 use std::fmt;
 
-/// The bytes of one row.
+/// The number of bytes in one row.
 pub const ROW_LENGTH: usize = 16;
 
-/// The inner state as a row holds it, without a refusal's number and place.
+/// The inner state as a row holds it, without the number and place of a refusal.
 #[derive(Debug, Clone, Copy, PartialEq, Eq)]
 pub enum InnerKind {
     Plain = 0,
@@ -20,7 +20,7 @@ pub enum InnerKind {
 }
 
 impl InnerKind {
-    /// The kind that the low two bits name.
+    /// Returns the kind that the low two bits name.
     fn from_bits(bits: u8) -> InnerKind {
         match bits & 0b11 {
             0 => InnerKind::Plain,
@@ -75,7 +75,7 @@ impl From<Record> for Row {
 }
 
 impl fmt::Display for Row {
-    /// The row as the program prints it.
+    /// Writes the row as the program prints it.
     fn fmt(&self, f: &mut fmt::Formatter<'_>) -> fmt::Result {
         write!(
             f,
@@ -95,7 +95,7 @@ impl fmt::Display for Row {
 }
 
 impl Row {
-    /// The row's 128 bits, most significant first.
+    /// Returns the row's 128 bits, most significant first.
     fn to_bytes(self) -> [u8; ROW_LENGTH] {
         let bits = u128::from(self.depth & 0b111) << 125
             | u128::from(self.streamed) << 124
@@ -110,7 +110,7 @@ impl Row {
         bits.to_be_bytes()
     }
 
-    /// The row that 128 bits hold; every pattern is a row.
+    /// Returns the row that 128 bits hold. Every pattern of bits is a row.
     fn from_bytes(bytes: [u8; ROW_LENGTH]) -> Row {
         let bits = u128::from_be_bytes(bytes);
         Row {
@@ -127,7 +127,7 @@ impl Row {
         }
     }
 
-    /// Whether a stored row is taken, given how deep it may be.
+    /// Whether a stored row is accepted, if `deepest` is the highest depth that it may have.
     fn keeps_the_rules(&self, deepest: u8) -> bool {
         usize::from(self.ordinal) < MOST_BLOCKS
             && self.header_size >= LEAST_HEADER_SIZE
@@ -136,19 +136,19 @@ impl Row {
     }
 }
 
-/// The rows of a file in walking order (1 to 17).
+/// Returns the rows of a file in walking order. Refusals: 1 to 17.
 pub fn rows(file: &[u8]) -> Result<Vec<Row>, Refusal> {
     Ok(rows_of(file, &judge(file)?))
 }
 
-/// The rows of a judged file.
+/// Returns the rows of a judged file.
 pub(crate) fn rows_of(file: &[u8], judged: &Judged) -> Vec<Row> {
     let mut rows = Vec::new();
     each_record(file, judged, &mut |record| rows.push(Row::from(record)));
     rows
 }
 
-/// How many rows a file has (1 to 17).
+/// Returns how many rows a file has. Refusals: 1 to 17.
 pub fn row_count(file: &[u8]) -> Result<usize, Refusal> {
     let judged = judge(file)?;
     let mut count = 0;
@@ -156,17 +156,19 @@ pub fn row_count(file: &[u8]) -> Result<usize, Refusal> {
     Ok(count)
 }
 
-/// A number of rows that no file of this length exceeds: each row has a block header of its own.
+/// Returns a number of rows that no file of this length exceeds. The bound holds because each row
+/// has a block header of its own.
 pub fn most_rows(file_length: usize) -> usize {
     file_length / LEAST_HEADER_BYTES
 }
 
-/// Writes a file's outline into the lent buffer and returns its length (1 to 17, 21).
+/// Writes a file's outline into the lent buffer and returns the length of the outline. Refusals, in
+/// this order: 1 to 17, 21.
 pub fn outline(file: &[u8], out: &mut [u8]) -> Result<usize, Refusal> {
     write_rows(&rows(file)?, out)
 }
 
-/// Reads a stored outline (23, 24).
+/// Reads a stored outline. Refusals, in this order: 23, 24.
 pub fn read_outline(bytes: &[u8]) -> Result<Vec<Row>, Refusal> {
     let (stored_rows, rest) = bytes.as_chunks::<ROW_LENGTH>();
     if !rest.is_empty() {
@@ -185,12 +187,13 @@ pub fn read_outline(bytes: &[u8]) -> Result<Vec<Row>, Refusal> {
     Ok(rows)
 }
 
-/// Reads a stored outline and writes its rows into the lent buffer (23, 24, 21).
+/// Reads a stored outline and writes its rows into the lent buffer. Refusals, in this order: 23,
+/// 24, 21.
 pub fn rewrite_outline(bytes: &[u8], out: &mut [u8]) -> Result<usize, Refusal> {
     write_rows(&read_outline(bytes)?, out)
 }
 
-/// Writes rows one after another; the buffer behind them stays (21).
+/// Writes rows one after another. The buffer after them does not change. Refusal: 21.
 fn write_rows(rows: &[Row], out: &mut [u8]) -> Result<usize, Refusal> {
     let length = rows.len() * ROW_LENGTH;
     let result = out

@@ -1,4 +1,4 @@
-//! All blocks in walking order, those of opened inner files too.
+//! Finds all blocks in walking order, including the blocks of opened inner files.
 
 use crate::block::Block;
 use crate::header::begins_like_file;
@@ -6,35 +6,35 @@ use crate::layout::{judge, Judged};
 use crate::offset::Outermost;
 use crate::refusal::Refusal;
 
-/// The deepest depth a file is read at.
+/// The highest depth at which a file is read.
 const DEEPEST: u8 = 7;
 
-/// What a block's content is, seen as a file of its own.
+/// The inner state of a block: what its content is, seen as a file of its own.
 #[derive(Debug, Clone, Copy, PartialEq, Eq)]
 pub enum Inner {
-    /// Compressed, or does not begin like a file.
+    /// The block is compressed, or its content does not begin like a file.
     Plain,
-    /// A file that was accepted; its blocks follow.
+    /// The content is a file that was accepted. Its blocks follow.
     Opened,
-    /// A file that was refused; the place counts from its own first byte.
+    /// The content is a file that was refused. The place counts from the first byte of that file.
     Refused(Refusal),
-    /// Begins like a file, but is too deep to be read.
+    /// The content begins like a file, but is too deep to be read.
     TooDeep,
 }
 
-/// All that is reported of a block, with where it stands among all files.
+/// Everything that is reported about a block, and where the block is among all files.
 #[derive(Debug, Clone, Copy, PartialEq, Eq)]
 pub struct Record {
-    /// The depth of the block's file, 0 for the outermost.
+    /// The depth of the block's file, which is 0 for the outermost file.
     pub depth: u8,
-    /// Where the block's mark stands in the outermost file.
+    /// The offset of the block's mark in the outermost file.
     pub offset: Outermost,
     /// The block as its own file reports it.
     pub block: Block,
     pub inner: Inner,
 }
 
-/// The records of a file in walking order (1 to 17).
+/// Returns the records of a file in walking order. Refusals: 1 to 17.
 pub fn records(file: &[u8]) -> Result<Vec<Record>, Refusal> {
     let judged = judge(file)?;
     let mut records = Vec::new();
@@ -42,7 +42,7 @@ pub fn records(file: &[u8]) -> Result<Vec<Record>, Refusal> {
     Ok(records)
 }
 
-/// Hands each record of a judged outermost file to `take`, in walking order.
+/// Passes each record of a judged outermost file to `take`, in walking order.
 pub(crate) fn each_record(file: &[u8], judged: &Judged, take: &mut impl FnMut(Record)) {
     let outermost = Place {
         depth: 0,
@@ -51,14 +51,15 @@ pub(crate) fn each_record(file: &[u8], judged: &Judged, take: &mut impl FnMut(Re
     each_record_of(file, &judged.chain.blocks, outermost, take);
 }
 
-/// Where a file stands among the files around it.
+/// Where a file is among the files around it.
 #[derive(Clone, Copy)]
 struct Place {
     depth: u8,
     start: Outermost,
 }
 
-/// Hands on the records of one file's blocks, each followed by those of its inner file.
+/// Passes the records of one file's blocks to `take`. Each record is followed by the records of the
+/// block's inner file.
 fn each_record_of(file: &[u8], blocks: &[Block], place: Place, take: &mut impl FnMut(Record)) {
     for block in blocks {
         let content = block.content(file);
@@ -80,7 +81,7 @@ fn each_record_of(file: &[u8], blocks: &[Block], place: Place, take: &mut impl F
     }
 }
 
-/// A block's inner state, and the blocks of its inner file where that was opened.
+/// Returns a block's inner state, and the blocks of its inner file if that file was opened.
 fn look_inside(block: &Block, content: &[u8], depth: u8) -> (Inner, Vec<Block>) {
     if block.is_compressed() || !begins_like_file(content) {
         return (Inner::Plain, Vec::new());

@@ -1,4 +1,4 @@
-//! What is turned away: a number of the rules' table and a place.
+//! Refusals: a number from the rules' table and a place.
 
 use std::fmt;
 
@@ -27,8 +27,8 @@ pub(crate) const NO_INDEX_POSSIBLE: u8 = 22;
 pub(crate) const OUTLINE_LENGTH: u8 = 23;
 pub(crate) const OUTLINE_ROW: u8 = 24;
 
-/// Why something is turned away: the table's number, and the place counted
-/// from the first byte of the file (or outline) that was judged.
+/// Why something is refused: the number from the table, and the place. The place counts from the
+/// first byte of the file (or outline) that was judged.
 #[derive(Debug, Clone, Copy, PartialEq, Eq)]
 pub struct Refusal {
     pub number: u8,
@@ -36,7 +36,7 @@ pub struct Refusal {
 }
 
 impl Refusal {
-    /// A refusal at a position.
+    /// Returns a refusal at a position.
     pub(crate) fn at(number: u8, position: usize) -> Refusal {
         Refusal {
             number,
@@ -44,7 +44,7 @@ impl Refusal {
         }
     }
 
-    /// A refusal that concerns the whole, so its place is 0.
+    /// Returns a refusal that concerns the whole, so that its place is 0.
     pub(crate) fn of_whole(number: u8) -> Refusal {
         Refusal { number, place: 0 }
     }

@@ -1,16 +1,17 @@
-//! The tree's extent. Its content is not interpreted.
+//! Finds the extent of the tree. Its content is not interpreted.
 
 use crate::line::{exact_line_at, line_at, Line};
 use crate::refusal::*;
 
-/// The first line of a tree, and the second of an index.
+/// The first line of a tree, and the second line of an index.
 pub(crate) const YAML_LINE: &[u8] = b"%YAML 1.1";
-/// A start line with nothing in it but its dashes.
+/// A start line that has nothing but its dashes.
 pub(crate) const START_LINE: &[u8] = b"---";
 /// The last line of a tree and of an index.
 pub(crate) const END_LINE: &[u8] = b"...";
 
-/// Where the tree that starts at `start` ends; none where no tree starts there (8, 9, 10).
+/// Returns where the tree that starts at `start` ends, or `None` if no tree starts there. Refusals:
+/// 8, 9, 10.
 pub(crate) fn tree_end(bytes: &[u8], start: usize) -> Result<Option<usize>, Refusal> {
     match exact_line_at(bytes, start, YAML_LINE) {
         None => Ok(None),
@@ -21,7 +22,7 @@ pub(crate) fn tree_end(bytes: &[u8], start: usize) -> Result<Option<usize>, Refu
     }
 }
 
-/// Passes the lines before the start line and the start line itself.
+/// Passes over the lines before the start line and over the start line itself.
 fn behind_start_line(bytes: &[u8], from: usize) -> Result<usize, Refusal> {
     let mut at = from;
     loop {
@@ -36,7 +37,7 @@ fn behind_start_line(bytes: &[u8], from: usize) -> Result<usize, Refusal> {
     }
 }
 
-/// Passes the content and the end line.
+/// Passes over the content and the end line.
 fn behind_end_line(bytes: &[u8], from: usize) -> Result<usize, Refusal> {
     let mut at = from;
     loop {
@@ -51,12 +52,12 @@ fn behind_end_line(bytes: &[u8], from: usize) -> Result<usize, Refusal> {
     }
 }
 
-/// The next line of a tree, which must be there and be ended.
+/// Returns the next line of a tree, which must exist and have a line end.
 fn tree_line(bytes: &[u8], start: usize) -> Result<Line<'_>, Refusal> {
     line_at(bytes, start).ok_or(Refusal::at(TREE_NOT_ENDED, start))
 }
 
-/// `---` alone, or `---` and a space and anything.
+/// Whether the line is `---` alone, or `---` followed by a space and anything.
 fn is_start_line(text: &[u8]) -> bool {
     text == START_LINE || text.starts_with(b"--- ")
 }

@@ -1,4 +1,5 @@
-//! Blocks, the chain and the tail: refusals 11 to 17. Space between blocks is in gaps.rs.
+//! Tests blocks, the chain and the tail: refusals 11 to 17. Space between blocks is tested in
+//! gaps.rs.
 
 mod common;
 
@@ -9,7 +10,7 @@ fn refused(file: &[u8]) -> Refusal {
     read(file).unwrap_err()
 }
 
-/// The only block of A and this block.
+/// Returns the only block of a file that is A and this block.
 fn only_block(parts: BlockParts) -> Block {
     let blocks = read(&file_with(parts)).unwrap().blocks;
     assert_eq!(blocks.len(), 1);

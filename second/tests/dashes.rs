@@ -1,5 +1,5 @@
-//! Index written with dashes (W-201): the lines of that style, the texts that mix it with the
-//! bracket style, and what stays as it was.
+//! Tests the index written with dashes (W-201): the lines of that style, the texts that mix it with
+//! the bracket style, and what stays as it was.
 
 mod common;
 
@@ -12,12 +12,12 @@ use std::path::Path;
 /// The lines of an index before its start line.
 const BEFORE_START: &str = "#ASDF BLOCK INDEX\n%YAML 1.1\n";
 
-/// An index whose start line is `---` alone, with these lines between it and the end line.
+/// Returns an index whose start line is `---` alone, with these lines between it and the end line.
 fn index_with(lines: &str) -> Vec<u8> {
     format!("{BEFORE_START}---\n{lines}...\n").into_bytes()
 }
 
-/// An index of the dash style with these numbers and no more spaces than it needs.
+/// Returns an index in the dash style with these numbers and no more spaces than it needs.
 fn dashes_of(numbers: &[&str]) -> Vec<u8> {
     let lines: String = numbers
         .iter()
@@ -26,31 +26,31 @@ fn dashes_of(numbers: &[&str]) -> Vec<u8> {
     index_with(&lines)
 }
 
-/// The lines of a text, each with its line end.
+/// Returns the lines of a text, each with its line end.
 fn lines_of(text: &[u8]) -> Vec<Vec<u8>> {
     text.split_inclusive(|&byte| byte == b'\n')
         .map(<[u8]>::to_vec)
         .collect()
 }
 
-/// The verdict on a text set after B, whose only block is at 12.
+/// Returns the verdict on a text put directly after B, whose only block is at 12.
 fn verdict(text: &[u8]) -> Verdict {
     read(&join(&[&b(), text])).unwrap().index
 }
 
-/// The verdict on a text set after a file with blocks at 12 and 66.
+/// Returns the verdict on a text put directly after a file with blocks at 12 and 66.
 fn verdict_on_two(text: &[u8]) -> Verdict {
     read(&join(&[&file_of_blocks(2), text])).unwrap().index
 }
 
-/// Looks that a text has no form, whatever the blocks are.
+/// Checks that a text does not have the form, whatever the blocks are.
 fn assert_no_form(text: &[u8]) {
     let shown = String::from_utf8_lossy(text);
     assert_eq!(verdict(text), Verdict::IgnoredForm, "{shown:?}");
     assert_eq!(verdict_on_two(text), Verdict::IgnoredForm, "{shown:?}");
 }
 
-// The list.
+// The next tests cover the list.
 
 #[test]
 fn good_list() {
@@ -167,7 +167,7 @@ fn form_of_every_line_is_judged_before_the_numbers() {
     assert_no_form(&join(&[&dashes_of(&["13"]), b"x"]));
 }
 
-// One line of the list.
+// The next tests cover one line of the list.
 
 #[test]
 fn exactly_one_space_precedes_a_number() {
@@ -176,7 +176,7 @@ fn exactly_one_space_precedes_a_number() {
         assert_no_form(&index_with(&format!("- 12\n-{before}66\n")));
     }
     assert_eq!(verdict(&index_with("- 12\n")), Verdict::Good);
-    // In brackets any number of spaces may precede it, and none.
+    // In brackets, any number of spaces may precede a number, including none.
     for list in ["12", " 12", "     12"] {
         assert_eq!(verdict(&index_of(list)), Verdict::Good, "{list:?}");
     }
@@ -246,7 +246,7 @@ fn spaces_stand_before_a_0d_that_belongs_to_the_line_end() {
     }
 }
 
-/// Every line that these bytes make, up to a length.
+/// Returns every line that these bytes can form, up to the length `most`.
 fn all_lines(bytes: &[u8], most: usize) -> Vec<Vec<u8>> {
     let mut lines = vec![vec![]];
     let mut from = 0;
@@ -286,7 +286,7 @@ fn every_short_line_is_a_number_s_line_or_has_no_form() {
     }
 }
 
-// The lines around the list.
+// The next tests cover the lines around the list.
 
 #[test]
 fn each_line_may_end_either_way() {
@@ -432,7 +432,7 @@ fn zeros_may_follow_and_nothing_else() {
     assert_no_form(&index_with("- 12\0\n"));
 }
 
-// The two styles.
+// The next tests cover the two styles.
 
 #[test]
 fn text_that_mixes_the_styles_has_no_form() {
@@ -486,7 +486,7 @@ fn bracket_line_takes_no_spaces_from_the_dash_style() {
     }
 }
 
-// Where it stands.
+// The next tests cover where the index is in the file.
 
 #[test]
 fn index_line_among_comments_is_refused_in_either_style() {
@@ -547,7 +547,7 @@ fn verdict_on_an_inner_file_s_index_is_shown_nowhere() {
     let around = |text: &[u8]| file_with(block_of(&join(&[&b(), text])));
     let good = around(&dashes_of(&["12"]));
     assert_eq!(row_count(&good), Ok(2));
-    // The same block's offset in the outermost file, and no number at all.
+    // 78 is the offset of the same block in the outermost file, and `1x` is not a number.
     for number in ["78", "1x"] {
         let file = around(&dashes_of(&[number]));
         assert_eq!(read(&file), read(&good), "{number}");
@@ -556,7 +556,7 @@ fn verdict_on_an_inner_file_s_index_is_shown_nowhere() {
     }
 }
 
-// The writer, the edit and the program.
+// The next tests cover the writer, the edit and the program.
 
 #[test]
 fn written_index_has_brackets_whatever_style_the_file_has() {
@@ -607,9 +607,9 @@ fn listing_names_each_verdict() {
     }
 }
 
-// Real files.
+// The next tests read real files.
 
-/// A file of tests/data, whose index must end with these lines.
+/// Reads a file from tests/data, which must end with an index that has these lines.
 fn real_file(name: &str, lines: &str) -> Layout {
     let folder = Path::new(env!("CARGO_MANIFEST_DIR")).join("../tests/data");
     let file = fs::read(folder.join(name)).unwrap();

@@ -1,5 +1,5 @@
-//! DOS files stay DOS (W-205): the header's line end, the index that is written with it, and
-//! what stays as it was.
+//! Tests that DOS files stay DOS (W-205): the header's line end, the index that is written with it,
+//! and what stays as it was.
 
 mod common;
 
@@ -8,20 +8,20 @@ use common::*;
 use std::fs;
 use std::path::Path;
 
-/// Both kinds of header line, each with the line end that is reported of it.
+/// Both kinds of header line, each with the line end that is reported for it.
 const HEADERS: [(&[u8], LineEnd); 2] = [(A, LineEnd::Lf), (DOS_A, LineEnd::Crlf)];
 
-/// The line end that is reported of a file's header.
+/// Returns the line end that is reported for a file's header.
 fn line_end(file: &[u8]) -> LineEnd {
     read(file).unwrap().line_end
 }
 
-/// The verdict on a file's index.
+/// Returns the verdict on a file's index.
 fn verdict(file: &[u8]) -> Verdict {
     read(file).unwrap().index
 }
 
-/// A text whose lines end with 0A, turned to this line end.
+/// Takes a text whose lines end with 0A and gives its lines this line end.
 fn with_end(line_end: LineEnd, text: &[u8]) -> Vec<u8> {
     match line_end {
         LineEnd::Lf => text.to_vec(),
@@ -29,13 +29,13 @@ fn with_end(line_end: LineEnd, text: &[u8]) -> Vec<u8> {
     }
 }
 
-/// The index that is to be written for these offsets.
+/// Returns the index that must be written for these offsets.
 fn index_for(line_end: LineEnd, offsets: &[usize]) -> Vec<u8> {
     let numbers: Vec<String> = offsets.iter().map(usize::to_string).collect();
     with_end(line_end, &index_of(&numbers.join(", ")))
 }
 
-/// The index that is written, after a look that the buffer after it stays.
+/// Returns the index that is written, after checking that the buffer after it did not change.
 fn written(file: &[u8]) -> Vec<u8> {
     let mut out = vec![7; LONGEST_INDEX + 5];
     let length = write_index(file, &mut out).unwrap();
@@ -44,7 +44,8 @@ fn written(file: &[u8]) -> Vec<u8> {
     out
 }
 
-/// These lines, ended with 0D 0A where the bit of `ends` for the line is set, else with 0A.
+/// Returns these lines, each with a line end. Line `i` ends with 0D 0A if bit `i` of `ends` is set,
+/// and otherwise with 0A.
 fn lines_ended(lines: &[&str], ends: usize) -> Vec<u8> {
     (0..lines.len())
         .map(|i| lines[i].to_string() + ["\n", "\r\n"][ends >> i & 1])
@@ -52,7 +53,7 @@ fn lines_ended(lines: &[&str], ends: usize) -> Vec<u8> {
         .into_bytes()
 }
 
-// The header's line end.
+// The next tests cover the header's line end.
 
 #[test]
 fn header_s_line_end_is_reported_whatever_follows() {
@@ -126,7 +127,7 @@ fn refusals_are_the_same_for_both_kinds() {
     assert_eq!(read(b"#ASDF 2.0.0\r\n"), Err(refusal(4, 6)));
 }
 
-// The index that is written.
+// The next tests cover the index that is written.
 
 #[test]
 fn whole_index_of_a_small_file_of_each_kind() {
@@ -234,7 +235,7 @@ fn refused_dos_file_leaves_the_buffer_alone() {
     assert_eq!(out, [7; LONGEST_INDEX]);
 }
 
-// Lines of both kinds in one file.
+// The next tests cover lines of both kinds in one file.
 
 #[test]
 fn header_alone_decides_whatever_lines_the_file_has() {
@@ -301,7 +302,7 @@ fn index_of_the_other_kind_is_judged_as_before() {
     }
 }
 
-// Files inside blocks.
+// The next tests cover files inside blocks.
 
 #[test]
 fn outer_and_inner_file_have_a_line_end_each() {
@@ -348,7 +349,7 @@ fn inner_header_with_two_0d_is_refused_with_3() {
     assert_eq!(line_end(&file), LineEnd::Crlf);
 }
 
-// The edit.
+// The next tests cover the edit.
 
 #[test]
 fn edit_keeps_the_line_end_and_takes_the_text_as_it_is() {
@@ -377,7 +378,7 @@ fn edit_keeps_the_line_end_and_takes_the_text_as_it_is() {
 
 #[test]
 fn dos_text_is_measured_with_its_0d() {
-    // The smallest tree has 18 bytes, and three more with 0D.
+    // The smallest tree has 18 bytes. With 0D in its line ends it has three more.
     for (spaces, expected) in [(2, Err(refusal(20, 0))), (3, Ok(()))] {
         let before = join(&[DOS_A, TREE, &vec![b' '; spaces], &block().bytes()]);
         let mut after = before.clone();
@@ -387,7 +388,7 @@ fn dos_text_is_measured_with_its_0d() {
     }
 }
 
-// What is not printed, and what holds no line end.
+// The next tests cover what is not printed and what holds no line end.
 
 #[test]
 fn listing_of_a_dos_file() {
@@ -447,7 +448,7 @@ fn row_does_not_show_the_line_end_of_an_inner_file() {
     assert_eq!(read(&unix), read(&dos));
 }
 
-// Real files.
+// The next test reads real files.
 
 #[test]
 fn real_file_with_its_header_made_dos_gets_a_dos_index() {

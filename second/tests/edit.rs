@@ -1,11 +1,11 @@
-//! The tree edit: refusals 18 to 20, and what stays the same.
+//! Tests the tree edit: refusals 18 to 20, and what stays the same.
 
 mod common;
 
 use asdf_second::*;
 use common::*;
 
-/// The edit's result, or its refusal after a look that nothing changed.
+/// Returns the result of the edit, or its refusal after checking that nothing changed.
 fn edited(file: &[u8], text: &[u8]) -> Result<Vec<u8>, Refusal> {
     let mut bytes = file.to_vec();
     match edit(&mut bytes, text) {

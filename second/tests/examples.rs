@@ -1,4 +1,4 @@
-//! The worked examples P1 to P13.
+//! Tests the worked examples P1 to P13.
 
 mod common;
 
@@ -60,7 +60,7 @@ fn p4_one_block_and_its_outline() {
 }
 
 #[test]
-fn p5_index_of_one_block_is_good_behind_it() {
+fn p5_index_of_one_block_is_good_after_it() {
     let file = b();
     let mut out = [0; 41];
     assert_eq!(write_index(&file, &mut out), Ok(41));
@@ -106,7 +106,7 @@ fn p10_file_in_a_block_gives_two_rows() {
 }
 
 #[test]
-fn p11_tree_and_block_behind_free_space() {
+fn p11_tree_and_block_after_free_space() {
     let layout = read(&t()).unwrap();
     let tree = Tree {
         start: InFile(12),

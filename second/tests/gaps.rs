@@ -1,5 +1,5 @@
-//! Space between blocks (W-204): the search for the next mark, the index that is tried before
-//! it, and the tail where no mark follows.
+//! Tests the space between blocks (W-204): the search for the next mark, the index that is tried
+//! before it, and the tail if no mark follows.
 
 mod common;
 
@@ -11,7 +11,7 @@ use std::path::Path;
 /// The 17 bytes with which an index begins.
 const INDEX_BEGINNING: &[u8] = b"#ASDF BLOCK INDEX";
 
-/// Where a file's own blocks stand and what is said of its index, or the refusal.
+/// The offsets of a file's own blocks and the verdict on its index, or the refusal.
 type Chain = Result<(Vec<usize>, Verdict), Refusal>;
 
 fn chain(file: &[u8]) -> Chain {
@@ -31,22 +31,22 @@ fn refused(number: u8, place: usize) -> Chain {
     Err(refusal(number, place as u64))
 }
 
-/// The file and an empty block after it.
+/// Returns the file and an empty block after it.
 fn with_block(file: &[u8]) -> Vec<u8> {
     join(&[file, &block().bytes()])
 }
 
-/// Two blocks with a gap of three bytes between them, at 12 and 69.
+/// Returns a file with two blocks, at 12 and 69, and a gap of three bytes between them.
 fn with_gap() -> Vec<u8> {
     with_block(&join(&[&b(), b"gap"]))
 }
 
-/// Only zeros.
+/// Returns byte strings that are only zeros.
 fn zeros() -> Vec<Vec<u8>> {
     [1, 4, 100].map(|count| vec![0; count]).to_vec()
 }
 
-/// Bytes that are not only zeros, hold no mark and do not begin as an index.
+/// Returns byte strings that are not only zeros, hold no mark and do not begin as an index.
 fn stray_bytes() -> Vec<Vec<u8>> {
     vec![
         b" ".to_vec(),
@@ -64,12 +64,12 @@ fn stray_bytes() -> Vec<Vec<u8>> {
     ]
 }
 
-/// Bytes of both kinds.
+/// Returns byte strings of both kinds.
 fn gaps() -> Vec<Vec<u8>> {
     [zeros(), stray_bytes()].concat()
 }
 
-// The gap.
+// The next tests cover the gap.
 
 #[test]
 fn zeros_are_a_gap_before_a_mark_and_an_absent_index_without_one() {
@@ -120,7 +120,7 @@ fn gap_belongs_to_no_block() {
     assert_eq!((last.offset, last.allocated), (InFile(69), 4));
 }
 
-// Where the search begins.
+// The next tests cover where the search begins.
 
 #[test]
 fn content_and_unused_space_are_not_searched() {
@@ -142,9 +142,13 @@ fn mark_that_begins_inside_allocated_space_is_no_mark() {
         for parts in [allocated.clone(), allocated.used(0).data_size(0)] {
             let first = file_with(parts);
             let file = join(&[&first, &MARK[inside..]]);
-            assert_eq!(chain(&file), refused(17, first.len()), "{inside} inside");
+            assert_eq!(
+                chain(&file),
+                refused(17, first.len()),
+                "{inside} bytes inside"
+            );
             let expected = accepted(&[12, file.len()], Verdict::Absent);
-            assert_eq!(chain(&with_block(&file)), expected, "{inside} inside");
+            assert_eq!(chain(&with_block(&file)), expected, "{inside} bytes inside");
         }
     }
     assert_eq!(chain(&join(&[&b(), MARK])), refused(11, 66));
@@ -175,7 +179,7 @@ fn space_before_the_first_block_needs_a_tree() {
     }
 }
 
-// The index.
+// The next tests cover the index.
 
 #[test]
 fn index_beginning_ends_the_chain_whatever_mark_follows() {
@@ -240,7 +244,7 @@ fn written_index_names_the_blocks_on_both_sides_of_a_gap() {
     assert_eq!(chain(&directly_after), accepted(&[12, 69], Verdict::Good));
 }
 
-// Refusals.
+// The next tests cover refusals.
 
 #[test]
 fn malformed_block_after_a_gap_is_not_passed_over_for_a_later_one() {
@@ -319,7 +323,7 @@ fn blocks_64_with_gaps_are_accepted_and_a_65th_is_refused_with_16() {
     assert_eq!(chain(&one_more), refused(16, 12 + 57 * 64));
 }
 
-// Files inside blocks.
+// The next tests cover files inside blocks.
 
 #[test]
 fn nested_file_and_the_file_around_it_have_gaps_of_their_own() {
@@ -375,7 +379,7 @@ fn refusal_after_a_gap_in_a_nested_file_counts_from_that_file() {
     }
 }
 
-// The edit and the outline.
+// The next tests cover the edit and the outline.
 
 #[test]
 fn edit_keeps_every_gap_and_what_stands_after_it() {
@@ -402,7 +406,7 @@ fn outline_has_no_trace_of_a_gap_but_the_offset_after_it() {
     assert_eq!(out.as_slice(), join(&[&rows, &[7]]));
 }
 
-// A real file.
+// The next test reads a real file.
 
 #[test]
 fn real_file_with_a_gap_has_the_blocks_that_its_own_index_lists() {

@@ -1,4 +1,4 @@
-//! The header and the comments: refusals 2 to 7.
+//! Tests the header and the comments: refusals 2 to 7.
 
 mod common;
 
@@ -124,7 +124,7 @@ fn comments_are_one_stretch() {
 }
 
 #[test]
-fn block_may_stand_directly_behind_comments() {
+fn block_may_begin_directly_after_comments() {
     let layout = read(&join(&[A, b"# one\n", &block().bytes()])).unwrap();
     assert_eq!(
         layout.comments,

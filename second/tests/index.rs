@@ -1,16 +1,16 @@
-//! The index in the bracket style: verdicts, and the writer (21, 22).
+//! Tests the index in the bracket style: the verdicts, and the writer with refusals 21 and 22.
 
 mod common;
 
 use asdf_second::*;
 use common::*;
 
-/// The verdict on a text set behind B, whose only block is at 12.
+/// Returns the verdict on a text put directly after B, whose only block is at 12.
 fn verdict(text: &[u8]) -> Verdict {
     read(&join(&[&b(), text])).unwrap().index
 }
 
-/// The verdict on a list set behind a file with blocks at 12 and 66.
+/// Returns the verdict on a list put directly after a file with blocks at 12 and 66.
 fn verdict_on_two(list: &str) -> Verdict {
     read(&join(&[&file_of_blocks(2), &index_of(list)]))
         .unwrap()

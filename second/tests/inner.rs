@@ -1,4 +1,4 @@
-//! Files inside blocks: inner states, depths, offsets in the outermost file.
+//! Tests files inside blocks: inner states, depths, and offsets in the outermost file.
 
 mod common;
 

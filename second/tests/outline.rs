@@ -1,11 +1,11 @@
-//! The outline: written from files, read when stored (21, 23, 24).
+//! Tests the outline, written from files and read when stored: refusals 21, 23 and 24.
 
 mod common;
 
 use asdf_second::*;
 use common::*;
 
-/// A stored row that is taken anywhere: depth 0, H 48.
+/// Returns a stored row that is accepted anywhere: depth 0, H 48.
 fn plain_row() -> [u8; 16] {
     [0, 0, 0, 48, 0, 0, 0, 0, 0, 0, 0, 0, 0, 0, 0, 0]
 }
@@ -25,7 +25,8 @@ fn written(file: &[u8]) -> Vec<u8> {
     out
 }
 
-/// One file with every inner state, a compressed and a checked block, and a streamed last one.
+/// Returns one file with every inner state, a compressed block, a block with a checksum, and a
+/// streamed last block.
 fn varied_file() -> Vec<u8> {
     join(&[
         A,

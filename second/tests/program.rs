@@ -1,4 +1,4 @@
-//! The program: its listing, and the binary's commands.
+//! Tests the program: its listing, and the commands of the binary.
 
 mod common;
 
@@ -20,7 +20,7 @@ fn run(arguments: &[&str], input: &[u8]) -> Output {
         .stderr(Stdio::piped())
         .spawn()
         .unwrap();
-    // A program that needs no more input may close its end before all is written.
+    // A program that needs no more input may close its end before everything is written.
     let _ = child.stdin.take().unwrap().write_all(input);
     child.wait_with_output().unwrap()
 }

@@ -1,5 +1,5 @@
-//! Places where two careful readers could build different programs:
-//! the reading that was chosen and, where there is one, its other side.
+//! Tests points at which two careful readers could build different programs. Each test shows the
+//! reading that was chosen and, if there is one, its other side.
 
 mod common;
 
@@ -30,22 +30,23 @@ fn tree(start: usize, end: usize, room_end: usize) -> Option<Tree> {
     })
 }
 
-/// The tree found in A and this text.
+/// Returns the tree that is found in A and this text.
 fn tree_in(text: &[u8]) -> Result<Option<Tree>, Refusal> {
     read(&join(&[A, text])).map(|layout| layout.tree)
 }
 
-/// The tree of A and a text that is one tree from its first byte to its last.
+/// Returns the tree of A and a text that is one tree from its first byte to its last.
 fn tree_of_whole(text: &[u8]) -> Option<Tree> {
     tree(12, 12 + text.len(), 12 + text.len())
 }
 
-/// Where a tree may begin: directly behind the header, and behind a comment.
+/// Returns the bytes before the two places where a tree may begin: directly after the header, and
+/// after a comment.
 fn places_of_a_tree() -> [Vec<u8>; 2] {
     [A.to_vec(), join(&[A, b"# one\n"])]
 }
 
-// Lines and header.
+// The next tests cover lines and the header.
 
 #[test]
 fn a_0d_that_is_not_directly_before_a_0a_is_an_ordinary_byte() {
@@ -78,10 +79,10 @@ fn without_comments_both_ends_are_the_header_s_end() {
     }
 }
 
-// Comments.
+// The next tests cover comments.
 
 #[test]
-fn longer_line_is_a_comment_before_the_blocks_and_an_index_behind_them() {
+fn longer_line_is_a_comment_before_the_blocks_and_an_index_after_them() {
     let line = b"#ASDF BLOCK INDEXED\n";
     let before = read(&join(&[A, line, &block().bytes()])).unwrap();
     assert_eq!(before.comments, stretch(12, 32));
@@ -121,7 +122,7 @@ fn unended_comment_runs_to_the_first_0a_inside_a_block() {
     }
 }
 
-// Tree or no tree.
+// The next tests cover files with a tree and files without one.
 
 #[test]
 fn first_tree_line_is_no_tree_if_it_runs_into_a_block() {
@@ -269,7 +270,7 @@ fn malformed_block_at_the_first_mark_is_not_passed_over_for_a_later_one() {
     }
 }
 
-// Blocks.
+// The next tests cover blocks.
 
 #[test]
 fn streamed_is_the_lowest_bit_of_the_last_flag_byte() {
@@ -376,7 +377,7 @@ fn record_of_a_nested_block_tells_every_field() {
 }
 
 #[test]
-fn behind_a_streamed_64th_block_there_is_no_tail() {
+fn after_a_streamed_64th_block_there_is_no_tail() {
     for behind in [
         MARK,
         &block().bytes(),
@@ -425,7 +426,7 @@ fn nested_streamed_block_does_not_reach_into_unused_space() {
     assert_eq!((found[2].depth, found[2].offset), (0, Outermost(66 + 75)));
 }
 
-// Tail and index.
+// The next tests cover the tail and the index.
 
 #[test]
 fn tail_that_begins_as_an_index_is_never_stray_and_never_walked() {
@@ -447,7 +448,7 @@ fn tail_that_begins_as_an_index_is_never_stray_and_never_walked() {
     }
 }
 
-/// The verdict on a text set behind this file.
+/// Returns the verdict on a text put directly after this file.
 fn verdict(file: &[u8], text: &[u8]) -> Verdict {
     read(&join(&[file, text])).unwrap().index
 }
@@ -508,7 +509,8 @@ fn verdict_on_an_inner_file_s_index_is_shown_nowhere() {
         let inner_file = join(&[&b(), &index_of(list)]);
         file_with(block_of(&inner_file))
     };
-    // Its own offset, the same block's offset in the outermost file, and no list at all.
+    // 12 is the block's offset in its own file, 78 is its offset in the outermost file, and `1x` is
+    // no list at all.
     let good = with_inner_index("12");
     let expected = "tree none\n0 0 12 48 107 107 0 0 0 1\n1 0 78 48 0 0 0 0 0 0\nindex absent\n";
     for list in ["12", "78", "1x"] {
@@ -519,7 +521,7 @@ fn verdict_on_an_inner_file_s_index_is_shown_nowhere() {
     }
 }
 
-// Files inside blocks.
+// The next tests cover files inside blocks.
 
 #[test]
 fn file_reads_the_same_whatever_its_blocks_hold() {
@@ -609,7 +611,7 @@ fn content_of_the_first_six_bytes_alone_is_refused_and_an_empty_file_is_opened()
     }
 }
 
-// Stored outlines, writers and the edit.
+// The next tests cover stored outlines, writers and the edit.
 
 #[test]
 fn stored_rows_are_held_to_no_rule_that_is_not_named() {
@@ -625,14 +627,15 @@ fn stored_rows_are_held_to_no_rule_that_is_not_named() {
         allocated: u32::MAX,
         used: 0,
     };
-    // Ordinals repeat, offsets do not rise, and allocated space passes every file's end.
+    // The ordinals repeat, the offsets do not rise, and the allocated space passes the end of every
+    // file.
     let stored_row = |first| {
         [
             first, 63, 0, 48, 255, 255, 255, 255, 255, 255, 255, 255, 0, 0, 0, 0,
         ]
     };
-    // Plain, then deeper; compressed, opened and nothing in it; a streamed one that is not
-    // the last; too deep at depth 0.
+    // The rows are, in order: a plain row; a row one deeper; a compressed row that is opened and
+    // has no rows inside; a streamed row that is not the last; a row that is too deep at depth 0.
     let stored = [0x00, 0x20, 0x09, 0x10, 0x03].map(stored_row).concat();
     let expected = [
         row,
@@ -758,9 +761,9 @@ fn what_is_not_there_is_none_and_no_refusal() {
     }
 }
 
-// The program.
+// The next tests cover the program.
 
-/// The program, waiting for its standard input.
+/// Starts the program, which then waits for its standard input.
 fn start_program() -> Child {
     Command::new(env!("CARGO_BIN_EXE_asdf-second"))
         .stdin(Stdio::piped())
@@ -769,7 +772,8 @@ fn start_program() -> Child {
         .unwrap()
 }
 
-/// What the program prints for this input, given in pieces with pauses; its status must be 0.
+/// Returns what the program prints for this input, which is given in pieces with pauses. The exit
+/// status must be 0.
 fn printed_for(pieces: std::slice::Chunks<u8>) -> String {
     let mut program = start_program();
     let mut input = program.stdin.take().unwrap();

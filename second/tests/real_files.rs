@@ -1,13 +1,13 @@
-//! The real files of tests/data: each has its listing beside it.
+//! Tests the real files in tests/data. Each has its listing beside it.
 
 use asdf_second::listing;
 use std::fs;
 use std::path::{Path, PathBuf};
 
-/// The files that are there; more may come, none may get lost.
+/// The number of files that are there. More may be added, but none may get lost.
 const AT_LEAST: usize = 18;
 
-/// The paths in tests/data with this extension, in the order of their names.
+/// Returns the paths in tests/data with this extension, in the order of their names.
 fn data_files(extension: &str) -> Vec<PathBuf> {
     let folder = Path::new(env!("CARGO_MANIFEST_DIR")).join("../tests/data");
     let mut paths: Vec<PathBuf> = fs::read_dir(folder)

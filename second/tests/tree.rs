@@ -1,11 +1,11 @@
-//! The tree and the free space: refusals 8 to 10.
+//! Tests the tree and the free space: refusals 8 to 10.
 
 mod common;
 
 use asdf_second::*;
 use common::*;
 
-/// The tree found in A and these bytes.
+/// Returns the tree that is found in A and these bytes.
 fn tree_in(rest: &[u8]) -> Result<Option<Tree>, Refusal> {
     read(&join(&[A, rest])).map(|layout| layout.tree)
 }
@@ -19,7 +19,7 @@ fn tree(start: u32, end: u32, room_end: u32) -> Option<Tree> {
 }
 
 #[test]
-fn tree_starts_behind_the_comments() {
+fn tree_starts_after_the_comments() {
     let layout = read(&join(&[A, b"# one\n", TREE])).unwrap();
     assert_eq!(
         layout.comments,
@@ -171,7 +171,7 @@ fn first_mark_in_the_free_space_is_a_block() {
 }
 
 #[test]
-fn index_behind_a_tree_without_block_is_free_space() {
+fn index_after_a_tree_without_block_is_free_space() {
     let file = join(&[A, TREE, &index_of("12")]);
     let layout = read(&file).unwrap();
     assert_eq!(layout.tree, tree(12, 30, file.len() as u32));

@@ -3,18 +3,18 @@
 
 use asdf_second::{records, Inner, Refusal};
 
-/// The worked example A: 12 bytes.
+/// The worked example A, which has 12 bytes.
 pub const A: &[u8] = b"#ASDF 1.0.0\n";
-/// A with a DOS line end: 13 bytes.
+/// The example A with a DOS line end, which has 13 bytes.
 pub const DOS_A: &[u8] = b"#ASDF 1.0.0\r\n";
-/// The four bytes of a block mark.
+/// The mark: the four bytes with which a block begins.
 pub const MARK: &[u8] = &[0xD3, 0x42, 0x4C, 0x4B];
-/// The smallest tree: 18 bytes.
+/// The smallest tree, which has 18 bytes.
 pub const TREE: &[u8] = b"%YAML 1.1\n---\n...\n";
-/// The bytes of a block header with H 48.
+/// The number of bytes in a block header with H 48.
 pub const HEADER_BYTES: usize = 54;
 
-/// A block to be changed field by field and then turned to bytes.
+/// A block that a test changes field by field and then turns into bytes.
 #[derive(Clone)]
 pub struct BlockParts {
     header_size: u16,
@@ -27,7 +27,7 @@ pub struct BlockParts {
     behind_header: Vec<u8>,
 }
 
-/// A block with H 48 and every other field zero.
+/// Returns a block with H 48 in which every other field is zero.
 pub fn block() -> BlockParts {
     BlockParts {
         header_size: 48,
@@ -41,12 +41,12 @@ pub fn block() -> BlockParts {
     }
 }
 
-/// A block that holds this content, all three sizes being its length.
+/// Returns a block that holds this content. All three sizes are the length of the content.
 pub fn block_of(content: &[u8]) -> BlockParts {
     block().sizes(content.len() as u64).behind_header(content)
 }
 
-/// A streamed block with this content and zero sizes.
+/// Returns a streamed block that holds this content and has zeros for its sizes.
 pub fn streamed(content: &[u8]) -> BlockParts {
     block().flags(1).behind_header(content)
 }
@@ -88,7 +88,7 @@ impl BlockParts {
         self
     }
 
-    /// The header, zeros up to 6 + H where H is above 48, and what stands behind.
+    /// Returns the header, zeros up to 6 + H if H is above 48, and the bytes after the header.
     pub fn bytes(&self) -> Vec<u8> {
         let mut bytes = MARK.to_vec();
         bytes.extend(self.header_size.to_be_bytes());
@@ -104,42 +104,43 @@ impl BlockParts {
     }
 }
 
-/// Parts one behind another.
+/// Puts the parts one after another.
 pub fn join(parts: &[&[u8]]) -> Vec<u8> {
     parts.concat()
 }
 
-/// The worked example B: A and one block with every other field zero, 66 bytes.
+/// Returns the worked example B, which has 66 bytes: A and one block with H 48 and every other
+/// field zero.
 pub fn b() -> Vec<u8> {
     join(&[A, &block().bytes()])
 }
 
-/// The worked example T: A, the smallest tree, 10 spaces and that block.
+/// Returns the worked example T: A, the smallest tree, 10 spaces and the block of B.
 pub fn t() -> Vec<u8> {
     join(&[A, TREE, &[b' '; 10], &block().bytes()])
 }
 
-/// A and this one block.
+/// Returns a file that is A and this one block.
 pub fn file_with(block: BlockParts) -> Vec<u8> {
     join(&[A, &block.bytes()])
 }
 
-/// A and this many empty blocks.
+/// Returns a file that is A and `count` empty blocks.
 pub fn file_of_blocks(count: usize) -> Vec<u8> {
     join(&[A, &block().bytes().repeat(count)])
 }
 
-/// A tree whose content is this text.
+/// Returns a tree whose content is this text.
 pub fn tree_of(content: &str) -> Vec<u8> {
     format!("%YAML 1.1\n---\n{content}...\n").into_bytes()
 }
 
-/// An index in the bracket style, as it is written, with this text between the brackets.
+/// Returns an index in the bracket style, as it is written, with this text between the brackets.
 pub fn index_of(list: &str) -> Vec<u8> {
     format!("#ASDF BLOCK INDEX\n%YAML 1.1\n--- [{list}]\n...\n").into_bytes()
 }
 
-/// The same text with every 0A turned to 0D 0A.
+/// Returns the same text with every 0A turned into 0D 0A.
 pub fn with_crlf(text: &[u8]) -> Vec<u8> {
     text.iter()
         .flat_map(|&byte| {
@@ -152,12 +153,12 @@ pub fn with_crlf(text: &[u8]) -> Vec<u8> {
         .collect()
 }
 
-/// A file wrapped `times` over in a file with one block.
+/// Wraps a file `times` times, each time in a file with one block.
 pub fn wrapped(file: &[u8], times: usize) -> Vec<u8> {
     (0..times).fold(file.to_vec(), |inner, _| file_with(block_of(&inner)))
 }
 
-/// The inner state of the only block of A and this block.
+/// Returns the inner state of the only block in a file that is A and this block.
 pub fn inner_of(parts: BlockParts) -> Inner {
     records(&file_with(parts)).unwrap()[0].inner
 }
@@ -166,8 +167,8 @@ pub fn refusal(number: u8, place: u64) -> Refusal {
     Refusal { number, place }
 }
 
-/// A block for each number from 11 to 15, in that order, that stays refused with an empty
-/// block after it.
+/// Returns a malformed block for each number from 11 to 15, in that order. Each stays refused if an
+/// empty block follows it.
 pub fn malformed_blocks() -> Vec<(Vec<u8>, u8)> {
     vec![
         (block().header_size(65_535).bytes()[..54].to_vec(), 11),
@@ -178,7 +179,7 @@ pub fn malformed_blocks() -> Vec<(Vec<u8>, u8)> {
     ]
 }
 
-/// A file for each number from 3 to 17, in that order, with its refusal.
+/// Returns a file for each number from 3 to 17, in that order, with its refusal.
 pub fn refused_files() -> Vec<(Vec<u8>, Refusal)> {
     vec![
         (b"#ASDF x".to_vec(), refusal(3, 6)),
