@@ -71,7 +71,7 @@ enum asdf_refusal {
 #define ASDF_STORED_ROW_BYTES 80
 #define ASDF_LONGEST_INDEX 809
 
-/* The numbers of a layout. Ends are exclusive. If there is no tree, its three places are 0. */
+/* The numbers of a layout. Ends are exclusive. If there is no tree, its three offsets are 0. */
 enum asdf_layout_number {
     ASDF_LAYOUT_MAJOR,
     ASDF_LAYOUT_MINOR,

@@ -73,17 +73,14 @@ fn listings_in_the_documents_are_what_is_printed() {
             shown += 1;
         }
     }
-    assert_eq!(shown, 2);
+    assert_eq!(shown, 3);
 }
 
 #[test]
-fn plain_listing_in_the_readme_is_that_of_one_empty_block() {
-    let file = root().join("crates/cases/data/p04-one-block.asdf");
-    let listing = printed(&["list", "--plain", file.to_str().unwrap()]);
-    let readme = read("README.md");
-    assert!(fenced(&readme)
-        .iter()
-        .any(|part| part.text.trim_end() == listing.trim_end()));
+fn plain_listing_in_the_readme_is_that_of_the_file_above_it() {
+    let listing = read("tests/data/nested-3.listing");
+    let readme = fenced(&read("README.md"));
+    assert!(readme.iter().any(|part| part.text == listing.trim_end()));
 }
 
 #[test]
