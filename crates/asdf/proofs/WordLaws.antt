@@ -1,5 +1,5 @@
--- Laws about answers as one number: of a count, a writer, an outline, a stored outline that is written again, an index
--- and an edit.
+-- Laws about answers that are returned as one number: those of a count, a writer, an outline, a stored outline that is
+-- written again, an index and an edit.
 use Prim.Native.Nat.{ℕ, _+_, _<_}
 use native.Mathlib.Omega.{arith}
 use mathlib.Core.Path.{_≡_, refl, sym, ap, _∙_}

@@ -17,7 +17,7 @@ use format::answer::EditAnswer;
 use format::answer::LayoutAnswer;
 use format::answer::RowAnswer;
 
-// Puts the layout of a file: 96 bytes.
+// Puts the layout of a file into the buffer: 96 bytes.
 #[no_mangle]
 pub extern "C" fn asdf_read(file: &[u8], out: &mut [u8]) -> u64
     ensures { λ r. ⌜ Exported (now (file .entry)) (layoutBytes (now (file .entry))) (now (out .entry)) (now (out .exit)) r ⌝ }
@@ -31,7 +31,7 @@ pub extern "C" fn asdf_read(file: &[u8], out: &mut [u8]) -> u64
     }
 }
 
-// Puts the block with this ordinal in a file: 80 bytes, or none if there is no such block.
+// Puts the block with this ordinal of a file into the buffer: 80 bytes, or none if there is no such block.
 #[no_mangle]
 pub extern "C" fn asdf_block(file: &[u8], ordinal: u64, out: &mut [u8]) -> u64
     ensures { λ r. ⌜ Exported (now (file .entry)) (foundBytes blockFields (blockAt (now (file .entry)) ordinal)) (now (out .entry)) (now (out .exit)) r ⌝ }
@@ -54,7 +54,7 @@ pub extern "C" fn asdf_count(file: &[u8]) -> u64
     word::counted(nest::count(file))
 }
 
-// Puts the outline of a file: 16 bytes for each block, including the blocks of inner files.
+// Puts the outline of a file into the buffer: 16 bytes for each block, including the blocks of inner files.
 #[no_mangle]
 pub extern "C" fn asdf_outline(file: &[u8], out: &mut [u8]) -> u64
     ensures { λ r. ⌜ OutlineExported (now (file .entry)) (now (out .entry)) (now (out .exit)) r ⌝ }
@@ -62,7 +62,7 @@ pub extern "C" fn asdf_outline(file: &[u8], out: &mut [u8]) -> u64
     word::counted(nest::outline(file, out))
 }
 
-// Puts the record of block `k` in walking order: 120 bytes, or none if there is no such block.
+// Puts the record of block `k` in walking order into the buffer: 120 bytes, or none if there is no such block.
 #[no_mangle]
 pub extern "C" fn asdf_record(file: &[u8], k: u64, out: &mut [u8]) -> u64
     ensures { λ r. ⌜ Exported (now (file .entry)) (foundBytes recordFields (recordAt (now (file .entry)) k)) (now (out .entry)) (now (out .exit)) r ⌝ }
@@ -70,7 +70,7 @@ pub extern "C" fn asdf_record(file: &[u8], k: u64, out: &mut [u8]) -> u64
     word::counted(nest::record(file, k, out))
 }
 
-// Puts the records of all blocks in walking order: 120 bytes for each.
+// Puts the records of all blocks in walking order into the buffer: 120 bytes for each.
 #[no_mangle]
 pub extern "C" fn asdf_records(file: &[u8], out: &mut [u8]) -> u64
     ensures { λ r. ⌜ Exported (now (file .entry)) (recordTable (now (file .entry))) (now (out .entry)) (now (out .exit)) r ⌝ }
@@ -78,7 +78,7 @@ pub extern "C" fn asdf_records(file: &[u8], out: &mut [u8]) -> u64
     word::counted(nest::records(file, out))
 }
 
-// Puts the text of a block index for a file: at most 809 bytes.
+// Puts the text of a block index for a file into the buffer: at most 809 bytes.
 #[no_mangle]
 pub extern "C" fn asdf_index(file: &[u8], out: &mut [u8]) -> u64
     ensures { λ r. ⌜ IndexExported (now (file .entry)) (now (out .entry)) (now (out .exit)) r ⌝ }
@@ -94,7 +94,7 @@ pub extern "C" fn asdf_stored_count(stored: &[u8]) -> u64
     word::counted(outline::stored::count(stored))
 }
 
-// Puts row `k` of a stored outline: 80 bytes, or none if there is no such row.
+// Puts row `k` of a stored outline into the buffer: 80 bytes, or none if there is no such row.
 #[no_mangle]
 pub extern "C" fn asdf_stored_row(stored: &[u8], k: u64, out: &mut [u8]) -> u64
     ensures { λ r. ⌜ Exported (now (stored .entry)) (foundBytes rowFields (storedAt (now (stored .entry)) k)) (now (out .entry)) (now (out .exit)) r ⌝ }
@@ -109,7 +109,7 @@ pub extern "C" fn asdf_stored_row(stored: &[u8], k: u64, out: &mut [u8]) -> u64
     }
 }
 
-// Puts the rows of a stored outline as numbers: 80 bytes for each.
+// Puts the rows of a stored outline into the buffer as numbers: 80 bytes for each.
 #[no_mangle]
 pub extern "C" fn asdf_stored_rows(stored: &[u8], out: &mut [u8]) -> u64
     ensures { λ r. ⌜ Exported (now (stored .entry)) (storedRows (now (stored .entry))) (now (out .entry)) (now (out .exit)) r ⌝ }

@@ -64,7 +64,7 @@ streamedAgain t = leb leastBlock (length t) && isStreamed (flags t)
 abbrev pub hasContent : Bytes → Bool
 hasContent t = leb leastBlock (length t) && leb (contentStart t) (length t) && leb (reported t (usedSize t)) (bytesLeft t)
 
--- What stands for content that is not inside: an empty range that counts as compressed.
+-- The answer for content that is not inside the bytes: an empty range that counts as compressed.
 abbrev pub noContent : Content
 noContent = record { from = 0; to = 0; compressed = true }
 

@@ -25,14 +25,14 @@ pub record TailBegins (s : Bytes) (i n : ℕ) (zeros : Bool) : Type 0 where
   pub is : onward s i n ≡ accepted (ended (drop n s))
   pub tail : allZero (drop n s) ≡ zeros
 
--- A block follows from offset `n` on, and its mark is at `m`.
+-- The next block from offset `n` on has its mark at `m`.
 pub record Follows (s : Bytes) (n m : ℕ) : Type 0 where
   pub gap : ℕ
   pub next : nextBlock (drop n s) ≡ some gap
   pub at : m ≡ n + gap
   pub inside : m ≤ length s
 
--- `m` is where the mark of the block that follows from offset `n` on is, or the end of the file if no block follows.
+-- `m` is where the next block from offset `n` on has its mark, or the end of the file if no block follows.
 pub record NextMark (s : Bytes) (n m : ℕ) : Type 0 where
   pub some-block : m < length s → Follows s n m
   pub no-block : length s ≤ m → nextBlock (drop n s) ≡ none
@@ -44,8 +44,8 @@ pub record BlockBegins (s : Bytes) (i n m : ℕ) (o : Outcome Chain) : Type 0 wh
   pub at : first .at .0 ≡ m
   pub few : i < mostBlocks
 
--- What an answer states about the chain from offset `n` on, where block `i` may begin. The chain's first mark is at
--- `m`.
+-- What an answer states about the chain from offset `n` on, where block `i` may begin. `m` is where the next block has
+-- its mark, or the end of the file if no block follows.
 abbrev pub LinkIs : Bytes → ℕ → ℕ → ℕ → LinkStep → Type 0
 LinkIs s i n m (LinkStep·is.Block e) = BlockBegins s i n m (onward s (i + 1) (m + e)) × (m + e ≤ length s)
 LinkIs s i n m LinkStep·is.Streamed = BlockBegins s i n m (accepted (ended []))

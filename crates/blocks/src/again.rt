@@ -1,5 +1,5 @@
 // Reads again the header of a block that was judged before. Nothing is judged here, and every input gets an answer:
-// bytes that are too short for a header give zeros, and content that is not inside is empty.
+// bytes that are too short for a header give zeros, and content that is not inside the bytes is empty.
 ghost use Prim.Native.Nat.{_≤_};
 ghost use mathlib.Core.Path.{_≡_};
 ghost use lib.ListN.{length};
@@ -118,7 +118,7 @@ pub fn content_of(t: &[u8]) -> Content
     }
 }
 
-// Returns what stands for content that is not inside.
+// Returns the answer for content that is not inside the bytes: an empty range that counts as compressed.
 fn no_content() -> Content
     ensures { λ r. ⌜ r ≡ noContent ⌝ }
 {

@@ -15,9 +15,9 @@ use format::refusal::STRAY_TAIL;
 use format::refusal::TOO_MANY_BLOCKS;
 use scan::text;
 
-// Walks the blocks from offset `first` on, and keeps where each begins at the front of the table. The rest of the table
-// stays as it was. A refused chain leaves only zeros in the table: what the walk kept before the refusal is not passed
-// on.
+// Walks the blocks from offset `first` on. The front of the table is filled with the offsets at which they begin, and
+// the rest of the table stays as it was. A refused chain leaves only zeros in the table: what the walk kept before the
+// refusal is not passed on.
 pub fn walk(s: &[u8], first: usize, offsets: &mut [u64; MOST_BLOCKS]) -> ChainStep
     ensures { λ r. ⌜ Walked (now (s .entry)) (chain mostBlocks 0 first (drop first (now (s .entry)))) (now (offsets .entry)) (now (offsets .exit)) r ⌝ }
 {
@@ -79,9 +79,9 @@ fn keep(offsets: &mut [u64], i: usize, at: usize)
     offsets[i] = at as u64;
 }
 
-// Returns where the block that follows from offset `at` on begins, or the end of the file if none follows. Blocks
-// mostly follow immediately, and no index can begin where a mark is, so the mark is tried first. Nothing after the
-// beginning of an index is searched.
+// Returns where the next block from offset `at` on begins, or the end of the file if none follows. Blocks mostly follow
+// immediately, and no index can begin where a mark is, so the mark is tried first. Nothing after the beginning of an
+// index is searched.
 fn next_mark(s: &[u8], at: usize) -> usize
     requires { ⌜ at ≤ length (now s) ⌝ }
     ensures { λ r. ⌜ NextMark (now (s .entry)) at r ⌝ }
@@ -102,8 +102,8 @@ fn is_index(s: &[u8], at: usize) -> bool
     text::begins_at(s, at, b"#ASDF BLOCK INDEX")
 }
 
-// Returns what follows from offset `at` on. At the mark `next` it is block `i`, if a further block is allowed; if there
-// is no mark, it is the tail.
+// Returns what follows from offset `at` on. If `next` is before the end of the file, it is a mark, and block `i`
+// follows there, if a further block is allowed. Otherwise the tail follows.
 fn link(s: &[u8], at: usize, next: usize, i: usize) -> LinkStep
     requires { ⌜ (at ≤ length (now s)) × NextMark (now s) at next ⌝ }
     ensures { λ r. ⌜ LinkIs (now (s .entry)) i at next r ⌝ }

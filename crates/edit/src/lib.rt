@@ -65,7 +65,7 @@ fn fits(text: &[u8], from: usize, to: usize) -> bool
     text.len() <= to - from
 }
 
-// Writes a text into a room, and spaces after it.
+// Writes a text at the start of a room, and fills the rest of the room with spaces.
 fn fill(room: &mut [u8], text: &[u8])
     requires { ⌜ length (now text) ≤ length (now room) ⌝ }
     ensures { λ _. ⌜ now (room .exit) ≡ now (text .entry) ++ replicate (length (now (room .entry)) - length (now (text .entry))) 32 ⌝ }

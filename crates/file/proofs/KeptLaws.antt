@@ -28,7 +28,7 @@ table-kept k before out bs n h = rw h (take-at (offsets bs) (drop (length bs) be
 pub enough-kept : (out : List ℕ) (k : ℕ) (bs : List Block) → length bs ≡ k → take k out ≡ offsets bs → k ≤ length out
 enough-kept out k bs n h = omega (arith, length-take k out, ap length h, length-map bs (λ (b : Block). b .at .0))
 
--- If block `b` is at place `k` of a list, the rest of the list from there begins with `b`.
+-- If block `b` is at position `k` of a list, the rest of the list from there begins with `b`.
 drop-found : (bs : List Block) (k : ℕ) (b : Block) → getElem? bs k ≡ some b → drop k bs ≡ b ∷ drop (suc k) bs
 drop-found [] k b h = cc
 drop-found (a ∷ bs) zero b h = let same : a ≡ b = cc in rw same

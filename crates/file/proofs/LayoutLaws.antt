@@ -223,7 +223,7 @@ module _ (s : Bytes) (h : Header) (n : ℕ) (t : Tree) (first : ℕ) (before out
           chain-judged (w .c) k (w .chained) v (q ∙ rw (part-all s m, verdict, w .zeros, to-begin, w .tail))
 
 module _ (s : Bytes) (before out : List ℕ) (a : LayoutAnswer) (judged : Judged (file s) before out a) where
-  -- An answer that was judged is the layout of the file.
+  -- The right answer for the file states the layout of the file, or its refusal.
   pub layout-judged : layoutAnswer a ≡ layout s
   unfolding layout
   layout-judged = judged .is
@@ -264,7 +264,7 @@ module _ (s : Bytes) (a : LayoutAnswer) (judged : layoutAnswer a ≡ layout s) w
           absurd (omega arith)
 
 module _ (s : Bytes) (before out : List ℕ) (a : LayoutAnswer) (judged : Judged (file s) before out a) where
-  -- If the answer that was judged is passed on, it is the layout of the file.
+  -- If the right answer for the file is passed on, it still states the layout of the file, or its refusal.
   pub layout-again : (x : LayoutAnswer) → a ≡ x → layoutAnswer x ≡ layout s
   layout-again x e = sym (ap layoutAnswer e) ∙ layout-judged s before out a judged
 

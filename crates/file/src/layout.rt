@@ -55,7 +55,7 @@ pub fn read_into(s: &[u8], offsets: &mut [u64; MOST_BLOCKS]) -> LayoutAnswer
     }
 }
 
-// Returns the block of the file with this ordinal, that there is no such block, or the file's refusal.
+// Returns block `ordinal` of the file, `NoSuchBlock` if there is none, or the file's refusal.
 pub fn block(s: &[u8], ordinal: u64) -> BlockAnswer
     ensures { λ r. ⌜ blockAnswer r ≡ blockAt (now (s .entry)) ordinal ⌝ }
 {

@@ -177,7 +177,7 @@ plain-front k i n g t b c next read e f =
     (rw (inner, outer) (next .unindexed)) (rw (inner, outer, gap) (next .free)) (rw inner (next .marked))
     (rw (inner, gap) read) e c (rw gap f))
 
--- If the last of some blocks is not streamed, this remains so with a further block before them.
+-- If the last of some blocks is not streamed, there is a block that can be put before them so that this remains so.
 with-first : (bs : List Block) → mayHaveIndex bs ≡ true → (b : Block) × (mayHaveIndex (b ∷ bs) ≡ true)
 unfolding mayHaveIndex
 with-first [] h = absurd (true≢false (sym h))

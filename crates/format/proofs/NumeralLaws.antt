@@ -112,7 +112,7 @@ by-last P p more t = go [] t p
 pub digit-range : (b : ℕ) → isDigit b ≡ true → (48 ≤ b) × (b ≤ 57)
 digit-range b h = (leb-true 48 b (and-left _ _ h), leb-true b 57 (and-right (leb 48 b) _ h))
 
--- Digits of which the first is not 0 give a number of at least one.
+-- If the first digit is not 0, the digits give a number of at least one.
 value-some : (b : ℕ) (t : Bytes) → isDigit b ≡ true → eqb 48 b ≡ false → 1 ≤ decimalValue (b ∷ t)
 value-some b t h z =
     let r = digit-range b h in

@@ -111,7 +111,7 @@ accepts-line Next reads reader n t e l step = on (reader (afterLine n t e) l)
     on (accepted m) f = front-line Next reads (Ends reader) n t e (joinLines l) m step f
     on (refused r) f = tt
 
--- The content of a tree is a front part of the bytes of its lines.
+-- What `content` reads, the lines of a tree after its start line, is a front part of the bytes of the lines.
 content-lines : (n : ℕ) (l : Lines) → AreLines l → Accepts (Front Any (Ends content) n (joinLines l)) (content n l)
 unfolding content joinLines
 content-lines n (unended t) a = tt
@@ -121,7 +121,7 @@ content-lines n (line t e l) a =
     λ q. accepts-choice _ (isStart t) _ _ (λ r. tt)
     λ r. accepts-line Any (Ends content) content n t e l (λ k z j h. rw (lines-line t e z (a .0), q, content, r) h) (content-lines (afterLine n t e) l (a .1))
 
--- The directives and the content of a tree are a front part of the bytes of its lines.
+-- What `directives` reads, the lines of a tree after its first line, is a front part of the bytes of the lines.
 directives-lines : (n : ℕ) (l : Lines) → AreLines l → Accepts (Front Any (Ends directives) n (joinLines l)) (directives n l)
 unfolding directives joinLines
 directives-lines n (unended t) a = tt

@@ -35,8 +35,8 @@ abbrev pub Kept : ℕ → List Row → Type 0
 Kept most [] = Unit {0}
 Kept most (r ∷ rs) = RowKept most r × Kept (r .depth + 1) rs
 
--- The records `rs` lead: if the rows of further records are kept with every bound from `depth` on, so are the rows of
--- `rs` and those records together.
+-- The records `rs` lead: if `Kept` holds for the rows of further records with every bound from `depth` on, it also
+-- holds, with every such bound, for the rows of `rs` followed by those rows.
 abbrev pub Leads : ℕ → List Record → Type 0
 Leads depth rs =
     (zs : List Record) → ((m : ℕ) → depth ≤ m → Kept m (map rowOf zs)) → (m : ℕ) → depth ≤ m → Kept m (map rowOf (rs ++ zs))
@@ -61,7 +61,7 @@ is-row most r o h u d = simp le-leb
 
 module _ (reads : ℕ → Bytes → Inside) (depth start : ℕ) (s : Bytes) (bytes : IsBytes s) (room : start + length s ≤ mostBytes) (deep : depth ≤ deepest)
     (inner : (n : ℕ) (t : Bytes) → IsBytes t → n + length t ≤ mostBytes → Leads (depth + 1) (reads n t .records)) where
-  -- The row of a block of the file is kept.
+  -- `RowKept` holds for the row of a block of the file, with every bound from `depth` on.
   row-kept : (b : Block) (i : Inner) (m : ℕ) → FileBlock (length s) b → depth ≤ m
       → RowKept m (rowOf (record { depth = depth; at = record { 0 = start + b .at .0 }; block = b; inner = i }))
   unfolding rowOf

@@ -52,7 +52,7 @@ abbrev pub toBytes : ℕ → ℕ → Bytes
 toBytes zero x = []
 toBytes (suc w) x = toBytes w (x / 256) ++ (x % 256 ∷ [])
 
--- The sum of two numbers in 64 bits.
+-- The sum of two numbers modulo 2^64, as addition in 64 bits gives it.
 abbrev pub wrapped : ℕ → ℕ → ℕ
 wrapped a b = (a + b) % 2 ^ 64
 

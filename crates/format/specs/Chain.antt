@@ -64,7 +64,7 @@ linkedAt i n t others = do
   c ← elim (isStreamed (b .flags)) [ true ↦ accepted (ended []) | false ↦ others (n + extent b) (drop (extent b) t) ]
   accepted (linked b c)
 
--- The blocks from offset `n`, each at the next mark; `t` is the rest of the file from there. The first argument is how
+-- The blocks from offset `n`, each at the next mark; `t` is the rest of the file from `n`. The first argument is how
 -- many blocks are allowed, and `i` is the ordinal of the first of them.
 unfoldable pub chain : ℕ → ℕ → ℕ → Bytes → Outcome Chain
 chain zero i n t = elim (nextBlock t) [ none ↦ tail n t | some g ↦ refused (refusal 16 (n + g)) ]

@@ -39,8 +39,9 @@ tailStart f = blocksEnd (firstBlock (f .commentsEnd) (f .tree)) (f .blocks)
 abbrev pub judgedAs : Verdict → File → File
 judgedAs v f = record { header = f .header; commentsEnd = f .commentsEnd; tree = f .tree; blocks = f .blocks; verdict = v }
 
--- The file `s` is accepted, and `t` is a good index of it. Cut `s` after its last block and put `t` there, with nothing
--- after it: if the result is within the size limit, it reads the same, with the verdict good.
+-- The file `s` is accepted, and `t` is a good index of it in this sense: cut `s` after its last block and put `t`
+-- there, with nothing after it. If the result is within the size limit, it reads as `s` does, except that the verdict
+-- is good.
 pub record GoodAfter (s t : Bytes) : Type 0 where
   pub found : File
   pub is : file s ≡ accepted found

@@ -1,5 +1,5 @@
--- What a hasty reader would get wrong, as a second table of the same form. proofs/Examples.antt proves that all of it
--- holds.
+-- Cases that a hasty reader would get wrong, with their right answers, as a second table of the same form.
+-- proofs/Examples.antt proves that all these answers hold.
 use Prim.Native.Nat.{ℕ, zero, suc}
 use mathlib.Core.List.{List, [], _∷_, _++_}
 use lib.ListN.{length, replicate}
@@ -57,7 +57,7 @@ misreadings =
     -- Files are read eight deep. The ninth is too deep.
     ∷ States (nested 7) (accepted (replicate 7 Opened ++ (Plain ∷ [])))
     ∷ States (nested 8) (accepted (replicate 7 Opened ++ (TooDeep ∷ [])))
-    -- The listing of the nine files: too deep is 3.
+    -- The listing of these nine files. The inner state too deep is printed as 3.
     ∷ Lists (nested 8)
     (text "tree none\n"
     ++ text "0 0 12 48 528 528 0 0 0 1\n"
@@ -71,8 +71,8 @@ misreadings =
     ++ text "index absent\n")
     -- An index line among the comments is not a comment.
     ∷ Reads (fileA ++ text "#ASDF BLOCK INDEX\n%YAML 1.1\n--- [12]\n...\n") (refused (refusal 6 12))
-    -- An index without a number does not have the form. With a number above 2^32 it has the form, and its list is
-    -- another one.
+    -- An index without a number does not have the form. An index with a number above 2^32 has the form, but its list is
+    -- not the list of the blocks' offsets.
     ∷ Reads (fileB ++ indexWith []) (layoutOfA NoTree 1 IgnoredForm)
     ∷ Reads (fileB ++ indexWith (text "4294967308")) (layoutOfA NoTree 1 IgnoredList)
     -- In an index with dashes, extra spaces may come only after a number, also before a line end of two bytes. Zero
@@ -98,7 +98,8 @@ misreadings =
     -- A file may have 64 blocks. At the mark of one more it is refused.
     ∷ Reads (fileA ++ copies 64 emptyBlock) (layoutOfA NoTree 64 Absent)
     ∷ Reads (fileA ++ copies 64 emptyBlock ++ mark) (refused (refusal 16 3468))
-    -- The next block is at the first mark. Zeros, a part of a mark or the end of the preceding block belong to no mark.
+    -- The next block is at the first mark after the preceding block. Zeros and a part of a mark are passed over, and
+    -- bytes at the end of the preceding block do not count as part of a mark.
     ∷ Lists (fileB ++ (0 ∷ []) ++ emptyBlock) (text "tree none\n0 0 12 48 0 0 0 0 0 0\n0 1 67 48 0 0 0 0 0 0\nindex absent\n")
     ∷ Lists (fileB ++ (0xD3 ∷ 0x42 ∷ 0x4C ∷ []) ++ emptyBlock) (text "tree none\n0 0 12 48 0 0 0 0 0 0\n0 1 69 48 0 0 0 0 0 0\nindex absent\n")
     ∷ Lists (fileA ++ blockHolding (0xD3 ∷ 0x42 ∷ []) ++ (0x4C ∷ 0x4B ∷ []) ++ emptyBlock)

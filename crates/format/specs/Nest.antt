@@ -67,8 +67,8 @@ walkFile reads depth start s = do
   f ← file s
   accepted (walk reads depth start s (f .blocks))
 
--- The same. The first argument is for how many further levels inner files are read. An inner file beyond them is too
--- deep.
+-- The same with a limit: the first argument is for how many further levels inner files are read. An inner file beyond
+-- them is too deep.
 unfoldable pub recordsFrom : ℕ → ℕ → ℕ → Bytes → Outcome (List Record)
 recordsFrom zero depth = walkFile (λ n t. closed TooDeep) depth
 recordsFrom (suc levels) depth = walkFile (λ n t. opened (recordsFrom levels (depth + 1) n t)) depth

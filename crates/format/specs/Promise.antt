@@ -21,8 +21,8 @@ use Rattle.format.specs.Edit.{isOneTree, edit, editLeaves}
 use Rattle.format.specs.Listing.{outlineFor, lentBytes, listing}
 use Rattle.format.specs.Export.{leastRefusal, word, said}
 
--- `r` is the answer of a writer of this result, which was lent a buffer. `before` is what the buffer held, and `after`
--- is what the writer left there.
+-- `r` is the answer of a writer that has `result` to write and was lent a buffer. `before` is what the buffer held, and
+-- `after` is what the writer left there.
 pub record Written (result : Outcome Bytes) (before after : Bytes) (r : CountAnswer) : Type 0 where
   pub answer : countAnswer r ≡ writes result before
   pub buffer : after ≡ leaves result before
@@ -127,8 +127,8 @@ pub record Returned (answer : Outcome ℕ) (lent r : ℕ) : Type 0 where
   pub is : r ≡ word answer
   pub says : lent < leastRefusal → said r ≡ answer
 
--- `r` is returned by a writer of this result, which was lent the bytes `s` to read and a buffer. `before` is what the
--- buffer held, and `after` is what the writer left there.
+-- `r` is returned by a writer that has `result` to write. It was lent the bytes `s` to read, and a buffer. `before` is
+-- what the buffer held, and `after` is what the writer left there.
 pub record Exported (s : Bytes) (result : Outcome Bytes) (before after : Bytes) (r : ℕ) : Type 0 where
   pub answer : Returned (writes result before) (length s + length before) r
   pub buffer : after ≡ leaves result before

@@ -63,8 +63,8 @@ freeSpace (b ∷ s) = elim (begins mark (b ∷ s)) [ true ↦ 0 | false ↦ suc 
 abbrev pub treeAt : ℕ → ℕ → ℕ → Tree
 treeAt n e m = Found (record { 0 = n }) (record { 0 = e }) (record { 0 = m })
 
--- The tree of the file `s` that begins at offset `n` and ends at offset `m`, with its room. If it has no end, there is
--- no tree.
+-- The tree of the file `s` from offset `n` to the offset that is given, with its room. `none` means that no tree begins
+-- at `n`.
 unfoldable pub withRoom : ℕ → Bytes → Option ℕ → Tree
 withRoom n s none = NoTree
 withRoom n s (some m) = Found (record { 0 = n }) (record { 0 = m }) (record { 0 = m + freeSpace (drop m s) })

@@ -26,7 +26,7 @@ pub enum RowAnswer {
     Refused(Refusal),
 }
 
-// The answer to a question for a number. A writer answers how many bytes it wrote.
+// The answer if a number is asked for. From a writer, the number is how many bytes it wrote.
 pub enum CountAnswer {
     Counted(u64),
     Refused(Refusal),

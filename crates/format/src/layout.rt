@@ -32,9 +32,9 @@ pub enum Tree {
 pub enum Verdict {
     Absent,
     Good,
-    // The text is not an index.
+    // The tail begins like an index but does not have the form of one.
     IgnoredForm,
-    // The text is an index of other offsets.
+    // The tail has the form of an index, but its list is not the list of the blocks' offsets.
     IgnoredList,
 }
 

@@ -65,13 +65,13 @@ module _ (s : Bytes) (at : ℕ) (r : Line) (read : LineRead s at r) (x : Outcome
         unfolding endOutcome content
         content-start y z q = ap refused q ∙ rw (first .cut, content, sym h ∙ p, sym k ∙ z) at left
 
-        -- Otherwise the line is content, and the outcome is the same from the next line.
+        -- Otherwise the tree goes on, and the outcome is the same from the next line.
         pub content-step : d ≡ false → content next (lines (drop next s)) ≡ x
         unfolding content
         content-step z = rw (first .cut, content, sym h ∙ p, sym k ∙ z, ← first .next-is) at left
 
     module _ (left : directives at (lines (drop at s)) ≡ x) (b : Bool) (h : b ≡ isStart (take (m - at) (drop at s))) where
-      -- If the line is a start line, then the outcome is that of the content after it.
+      -- If the line is a start line, then the outcome is that of the lines after it.
       pub directives-done : (y : EndStep) → b ≡ true → endOutcome y ≡ content next (lines (drop next s)) → endOutcome y ≡ x
       unfolding directives
       directives-done y p q = q ∙ rw (first .cut, directives, sym h ∙ p, ← first .next-is) at left

@@ -14,18 +14,22 @@ use Rattle.front.specs.declared.step.EndStep.the-variants as EndStep·is
 use Rattle.front.specs.declared.step.TreeStep.{TreeStep}
 use Rattle.front.specs.declared.step.TreeStep.the-variants as TreeStep·is
 
+-- The version that was read, or none if it is malformed.
 unfoldable pub versionFound : VersionStep → Option Version
 versionFound (VersionStep·is.Read v) = some v
 versionFound VersionStep·is.Malformed = none
 
+-- The header that was read, or its refusal.
 unfoldable pub headerOutcome : HeaderStep → Outcome Header
 headerOutcome (HeaderStep·is.Read h) = accepted h
 headerOutcome (HeaderStep·is.Refused r) = refused r
 
+-- Where the comments or the tree end, or the refusal.
 unfoldable pub endOutcome : EndStep → Outcome ℕ
 endOutcome (EndStep·is.At n) = accepted n
 endOutcome (EndStep·is.Refused r) = refused r
 
+-- The tree that was read, which may be none, or its refusal.
 unfoldable pub treeOutcome : TreeStep → Outcome Tree
 treeOutcome (TreeStep·is.Read t) = accepted t
 treeOutcome (TreeStep·is.Refused r) = refused r

@@ -62,7 +62,7 @@ module _ (c : Bytes) where
     closes e =
         rw (without-begins opening c, h, last, reverse-append u (b ∷ []), eq-eqb 93 b (sym e), inBrackets, without) (ap some (reverse-reverse u))
 
--- If there are no numbers, then the list is nowhere.
+-- If there are no numbers, then the answer is `Nowhere`.
 pub nowhere : (t : Bytes) (numbers : Option (List ℕ)) → numbers ≡ none → ListRead t numbers Nowhere
 nowhere t numbers h = record { is = h; inside = tt }
 

@@ -67,7 +67,7 @@ abbrev IndexRead : Bytes → ListStep → Type 0
 IndexRead t r = ListRead t (indexed (lines t)) r
 
 module _ (t : Bytes) (a : Exact) (first : ExactRead t indexLine 0 a) where
-  -- If the first line is not that of an index, then the list is nowhere.
+  -- If the first line is not that of an index, then the answer is `Nowhere`.
   pub index-other : a ≡ Other → IndexRead t Nowhere
   unfolding indexed
   index-other h = nowhere t _ (word-other t 0 indexLine a first _ h)
@@ -78,7 +78,7 @@ module _ (t : Bytes) (a : Exact) (first : ExactRead t indexLine 0 a) where
     unfolding indexed
     index-after = word-after t 0 indexLine a first _ second ending p
 
-    -- If the second line is not that of an index, then the list is nowhere.
+    -- If the second line is not that of an index, then the answer is `Nowhere`.
     pub yaml-other : b ≡ Other → IndexRead t Nowhere
     yaml-other h = nowhere t _ (index-after ∙ word-other t second yamlLine b then _ h)
 
@@ -102,7 +102,7 @@ abbrev StyledRead : Bytes → ℕ → ListStep → Type 0
 StyledRead t at r = ListRead t (styled (lines (drop at t))) r
 
 module _ (t : Bytes) (at : ℕ) (c : Line) (read : LineRead t at c) where
-  -- If there is no start line, then the list is nowhere.
+  -- If there is no start line, then the answer is `Nowhere`.
   pub start-unended : c ≡ Unended → StyledRead t at Nowhere
   unfolding styled
   start-unended h = nowhere t _ (ap styled (unended-lines t at c read h))
@@ -127,7 +127,7 @@ module _ (t : Bytes) (at : ℕ) (c : Line) (read : LineRead t at c) where
       start-after : styled (lines (drop at t)) ≡ elim z [ true ↦ numbers | false ↦ none ]
       start-after = rw h at start-read ∙ last .is numbers
 
-      -- If the index does not end after the start line, then the list is nowhere.
+      -- If the index does not end after the start line, then the answer is `Nowhere`.
       pub start-other : not z ≡ true → StyledRead t at Nowhere
       start-other o = nowhere t _ (rw (not-true z o) at start-after)
 
@@ -137,7 +137,7 @@ module _ (t : Bytes) (at : ℕ) (c : Line) (read : LineRead t at c) where
       start-brackets o r found = rw (rw (not-false z o) at start-after) found
 
 module _ (t : Bytes) (numbers : Option (List ℕ)) (r : ListStep) (read : ListRead t numbers r) where
-  -- If the list is nowhere, then the index is ignored for its form.
+  -- If the answer for the list is `Nowhere`, then the index is ignored for its form.
   pub verdict-nowhere : (offsets : List ℕ) → r ≡ Nowhere → IgnoredForm ≡ judged offsets numbers
   unfolding judged
   verdict-nowhere offsets e = rw (read .is, e)

@@ -36,7 +36,8 @@ use Rattle.listing.specs.Listing.{mostOutline, Outlined, BothShort, Shor
 use Rattle.listing.specs.Text.{mostShort, fileText, mostFile}
 use Rattle.format.proofs.FewLaws.{rows-few}
 
--- A line that was put into a buffer of its own, and is written from there, is short.
+-- If a line was put into a buffer of its own and is written from there, then the line itself is written, and it is
+-- short.
 pub line-written : (t own after : Bytes) (n : ℕ) → PutAt own after 0 t mostShort n → length own ≡ mostShort → (out out-after : Bytes) (x : CountAnswer)
     → Written (accepted (take n after)) out out-after x → Short t out out-after x
 line-written t own after n put room out out-after x w =
@@ -263,7 +264,7 @@ module _ (s rows out rows-after out-after : Bytes) (x : CountAnswer) (h : Listed
       text = let same = text-taken .is in cc;
     }
 
-  -- Buffers as long as the program's are never refused.
+  -- With buffers as long as the program's, the answer is never a refusal.
   pub never-refused : (r : Refusal) → x ≡ Refused r → length rows ≡ lentBytes → length out ≡ lentBytes → ⊥
   unfolding countAnswer
   never-refused r e p q =

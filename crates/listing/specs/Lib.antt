@@ -1,3 +1,3 @@
--- Definitions that the conditions and promises of the listing cite.
+-- The definitions that the contracts of the listing use.
 pub mod Text
 pub mod Listing

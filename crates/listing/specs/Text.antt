@@ -11,7 +11,7 @@ use Rattle.format.specs.Listing.{sentence, treeText, rowText, verdictWord}
 use Rattle.outline.specs.Row.{rowsIn}
 use Rattle.put.specs.Put.{mostDecimals}
 
--- The text `start`, followed by a line of numbers.
+-- One line: the text `start`, the numbers with a space between each two, and a line end.
 abbrev pub lineText : Bytes → List ℕ → Bytes
 lineText start ns = start ++ sentence (map decimal ns)
 

@@ -21,7 +21,7 @@ use put::text::write_text;
 // The longest file that is listed, in bytes.
 pub const MOST_INPUT: usize = 65536;
 
-// The bytes of a buffer that is long enough for every listing and for every outline of a listed file.
+// The length of a buffer, in bytes, that is long enough for every listing and for every outline of a listed file.
 pub const LENT_BYTES: usize = 65536;
 
 // The maximum number of bytes in the outline of a listed file.
@@ -30,7 +30,7 @@ const MOST_OUTLINE: usize = MOST_INPUT / LEAST_BLOCK * ROW_BYTES;
 // A bound for every line except a row's, in bytes: each of these lines is shorter.
 const MOST_SHORT: usize = 64;
 
-// Writes the listing of a file at the start of `out` and the file's outline at the start of `rows`, and answers how
+// Writes the listing of a file at the start of `out` and the file's outline at the start of `rows`, and returns how
 // many bytes the listing has. If one of the buffers is too short, the answer is refusal 21 and neither buffer changes.
 // A file that is refused or too long has one line as its listing, and no outline.
 pub fn list(s: &[u8], rows: &mut [u8], out: &mut [u8]) -> CountAnswer

@@ -1,4 +1,4 @@
-// Puts the parts of the text at an offset of a buffer. Each function answers where its part ends, even if the buffer is
+// Puts the parts of the text at an offset of a buffer. Each function returns where its part ends, even if the buffer is
 // too short: to measure a part, it is put into a buffer that is too short for it. Each promise states the maximum
 // number of bytes in the part.
 ghost use Prim.Native.Nat.{_+_, _*_, _/_, _≤_};
@@ -18,7 +18,7 @@ use outline::row;
 use put::decimal::put_decimals;
 use put::text::put_text;
 
-// Puts a text and a line of numbers after it.
+// Puts one line: a text, the numbers with a space between each two, and a line end.
 fn put_line(out: &mut [u8], at: usize, start: &[u8], numbers: &[u64]) -> usize
     ensures { λ r. ⌜ PutAt (now (out .entry)) (now (out .exit)) at (lineText (now (start .entry)) (now (numbers .entry))) (mostLine (length (now (start .entry))) (length (now (numbers .entry)))) r ⌝ }
 {

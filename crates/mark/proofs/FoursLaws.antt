@@ -22,7 +22,7 @@ use Rattle.mark.specs.Mark.{Skipped}
 use Rattle.mark.specs.Fours.{FirstIn, FourthsUpTo, IsOfMark, Told, InMark, fourthOfMark, beginsMark}
 use Rattle.mark.proofs.MarkLaws.{mark-none-here, skip-none}
 
--- What holds for places 0, 1, 2 and 3 holds for every place in a mark.
+-- What holds for positions 0, 1, 2 and 3 holds for every position in a mark.
 four-places : (p : ℕ → Type 0) → p 0 → p 1 → p 2 → p 3 → (j : ℕ) → j < 4 → p j
 four-places p a b c d zero q = a
 four-places p a b c d (suc zero) q = b
@@ -34,7 +34,7 @@ four-places p a b c d (suc (suc (suc (suc j)))) q = absurd (omega arith)
 mark-high : (j : ℕ) → j < 4 → 0x42 ≤ getD mark j 0
 mark-high = four-places (λ j. 0x42 ≤ getD mark j 0) (omega arith) (omega arith) (omega arith) (omega arith)
 
--- Each byte of a mark is at only one place in it.
+-- Each byte of a mark is at only one position in it.
 mark-place : (j : ℕ) → j < 4 → indexOf (getD mark j 0) mark ≡ j
 unfolding indexOf indexAfter
 mark-place = four-places (λ j. indexOf (getD mark j 0) mark ≡ j) refl refl refl refl
@@ -93,9 +93,9 @@ module _ (t : Bytes) (from i : ℕ) (before : Skipped t from i) where
       let all : length t ≤ i + (length t - i) = omega arith in
       omega (arith, e, none .is, ap freeSpace (drop-of-length-le t all))
 
--- The search block by block. The bytes before `i` are skipped.
+-- The search along blocks of 64 bytes. The bytes before `i` are skipped.
 module _ (t : Bytes) (i : ℕ) (before : Skipped t 0 i) where
-  -- If no mark begins in the block at `i`, its 64 bytes are skipped.
+  -- If no mark begins in the 64 bytes at `i`, they are skipped.
   pub block-on : (x : Bool) → Told (beginsMark t i) 64 x → 67 ≤ length t - i → x ≡ false → Skipped t 0 (i + 64)
   block-on x told room none = skip-on t 0 i 64 before (omega arith) λ p a b m.
       let there : i + (p - i) ≡ p = omega arith in
@@ -105,7 +105,7 @@ module _ (t : Bytes) (i : ℕ) (before : Skipped t 0 i) where
   pub block-rest : (r : ℕ) → r ≡ i + freeSpace (drop i t) → r ≡ freeSpace t
   block-rest r e = omega (arith, before .is)
 
--- `back` is the place in a mark of the last of four bytes, or 4 if this byte belongs to no mark.
+-- `back` is the position in a mark of the last of four bytes, or 4 if this byte belongs to no mark.
 module _ (t : Bytes) (i back : ℕ) (room : i + 4 ≤ length t) (is : back ≡ 0 + indexOf (getD t (i + 3) 0) (slice 0 4 mark)) where
   place : back ≡ indexOf (getD t (i + 3) 0) mark
   unfolding slice

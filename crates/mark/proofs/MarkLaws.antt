@@ -53,7 +53,7 @@ either-way a b = go (eqb a b) refl
     go true e = rw (eqb-true a b e)
     go false e = e ∙ sym (ne-eqb b a (λ q. eqb-false a b e (sym q)))
 
--- Four bytes are a mark exactly if each is the byte at its place in a mark.
+-- Four bytes are a mark exactly if each is the byte at its position in a mark.
 pub mark-at : (s : Bytes) (at : ℕ) → at + 4 ≤ length s
     → (eqb (getD s at 0) 0xD3 && eqb (getD s (at + 1) 0) 0x42 && eqb (getD s (at + 2) 0) 0x4C && eqb (getD s (at + 3) 0) 0x4B) ≡ begins mark (drop at s)
 mark-at s at h =

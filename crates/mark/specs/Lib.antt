@@ -1,3 +1,3 @@
--- What the promises of the searches cite.
+-- The definitions that the contracts of the searches use.
 pub mod Mark
 pub mod Fours

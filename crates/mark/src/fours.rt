@@ -106,7 +106,7 @@ fn four_by_four(t: &[u8], from: usize) -> usize
 }
 
 // Returns where a mark begins among the next four bytes, or the offset after them. The bytes of a mark differ, so the
-// last of the four tells the only place where a mark can begin: how far to step back.
+// last of the four determines the only offset at which a mark can begin: how far to step back.
 fn in_four(t: &[u8], i: usize) -> usize
     requires { ⌜ i + 4 ≤ length (now t) ⌝ }
     ensures { λ r. ⌜ FirstIn (now (t .entry)) i r ⌝ }

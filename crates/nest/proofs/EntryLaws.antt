@@ -109,13 +109,13 @@ put-one w n out (r ∷ rs) few h = by-test (eqb w n) refl (λ out. put-one w (wr
         let next : w - n ≡ suc (w - wrapped n 1) = omega arith in
         rw (mul-zero n, delivery, e, ← placed-nothing out 0 (omega arith), next) (rest out (omega arith) (omega arith))
 
--- After the last record there is no record.
+-- If `k` is not below the number of records, there is no record `k`.
 no-record : (rs : List Record) (k : ℕ) → length rs ≤ k → getElem? rs k ≡ none
 no-record [] k h = refl
 no-record (r ∷ rs) zero h = absurd (omega arith)
 no-record (r ∷ rs) (suc k) h = no-record rs k (omega arith)
 
--- Up to the last record there is a record, and it takes `recordBytes` bytes.
+-- If `k` is below the number of records, there is a record `k`, and it takes `recordBytes` bytes.
 record-there : (rs : List Record) (k : ℕ) → k < length rs → length (foundNumbers recordFields (getElem? rs k)) ≡ recordBytes
 unfolding foundNumbers encodeRecord
 record-there [] k h = absurd (omega arith)

@@ -23,7 +23,8 @@ use Rattle.nest.specs.declared.sink.Place.the-variants.{Nowhere, Row, Nu
 abbrev pub blockRecord : ℕ → OutermostOffset → ℕ → ℕ → Bytes → Inner → Record
 blockRecord depth here i n t inner = record { depth = depth; at = here; block = soundBlock i n t; inner = inner }
 
--- What is put for a record, and (`width`) how many bytes that is.
+-- What is put for every record, and (`width`) how many bytes that is. In the form `One` these are no bytes: `delivery`
+-- states what is put for the wanted record.
 abbrev pub encoded : Form → Record → Bytes
 encoded Rows r = encodeRow (rowOf r)
 encoded Table r = encodeRecord r
@@ -44,7 +45,7 @@ delivery Rows n r = encoded Rows r
 delivery Table n r = encoded Table r
 delivery (One w) n r = elim (eqb w n) [ true ↦ encodeRecord r | false ↦ [] ]
 
--- The number that comes after the numbers of the records, of which the first is `n`.
+-- The number of the next record after these, if the first of them has number `n`.
 unfoldable pub numberAfter : ℕ → List Record → ℕ
 numberAfter n [] = n
 numberAfter n (r ∷ rs) = numberAfter (wrapped n 1) rs

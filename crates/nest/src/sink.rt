@@ -36,7 +36,8 @@ pub(crate) enum Place {
     Numbers(usize),
 }
 
-// Returns how many bytes are put for each block.
+// Returns how many bytes each block takes in the buffer. In the form `One` this is 0, because only one record is put,
+// at the start.
 pub(crate) fn width_of(form: Form) -> u64
     ensures { λ r. ⌜ r ≡ width form ⌝ }
 {

@@ -74,7 +74,8 @@ fn walk_blocks(
 }
 
 // Takes the block that `t` begins with, and after it the blocks inside. The block is at `here` of the outermost file
-// and at offset `at` of its own file. The record is made in one place only, so that the compiler can build it in place.
+// and at offset `at` of its own file. The record is made at one point of the code only, so that the compiler can build
+// it in place.
 fn walk_content(
     t: &[u8],
     ordinal: u8,

@@ -9,11 +9,12 @@ use Rattle.format.specs.Outline.{encodeRow, rowBytes, stored}
 use Rattle.outline.specs.declared.stored.RowForm.{RowForm}
 use Rattle.outline.specs.declared.stored.RowForm.the-variants.{AsStored, AsNumbers}
 
--- A row in a form, and how many bytes that is.
+-- The bytes of a row in a form.
 abbrev pub formed : RowForm → Row → Bytes
 formed AsStored = encodeRow
 formed AsNumbers = encodeStoredRow
 
+-- How many bytes a row takes in a form.
 abbrev pub formBytes : RowForm → ℕ
 formBytes AsStored = rowBytes
 formBytes AsNumbers = storedRowBytes

@@ -1,3 +1,3 @@
--- What the promises of the writers cite.
+-- The definitions that the contracts of the writers use.
 pub mod Put
 pub mod Decimal

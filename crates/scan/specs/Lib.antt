@@ -1,4 +1,4 @@
--- What the promises of the leaf functions cite: the meaning of each result, and its bounds.
+-- The definitions that the contracts of the leaf functions use: the meaning of each result, and its bounds.
 pub mod Find
 pub mod Line
 pub mod Number

@@ -26,8 +26,8 @@ pub fn counted(a: CountAnswer) -> u64
     }
 }
 
-// Puts numbers at the start of the buffer, each in eight bytes, and answers how many bytes that is. A buffer that is
-// too short is refused.
+// Puts numbers at the start of the buffer, each in eight bytes, and returns how many bytes that is. If the buffer is
+// too short, the answer is a refusal.
 pub fn put_numbers(out: &mut [u8], numbers: &[u64]) -> CountAnswer
     ensures { λ r. ⌜ Written (accepted (numberBytes (now (numbers .entry)))) (now (out .entry)) (now (out .exit)) r ⌝ }
 {

@@ -1,5 +1,5 @@
--- `edit::put_spaces` meets its contract. The loop's invariant: putting the spaces that are left gives what putting all
--- of them at the start would give.
+-- `edit::put_spaces` meets its contract. The loop's invariant: putting the spaces that are left gives the same room as
+-- putting all of them before the loop.
 use Prim.Native.Nat.{_-_}
 use mathlib.Core.Path.{_≡_}
 use lib.ListN.{length, replicate}

@@ -1,4 +1,4 @@
--- Buffers of this length are never refused.
+-- With buffers of this length, the answer is never a refusal.
 use borrow.Author.Needs.{needs}
 use Rattle.listing.proofs.ListLaws.{never-refused, shown}
 use Rattle.listing.proofs.list_lent.Statement.{statement}

@@ -1,4 +1,4 @@
--- `mark::find` keeps its promise: it finds a mark at the offset itself, or the first mark in the part from the offset
+-- `mark::find` meets its contract: it finds a mark at the offset itself, or the first mark in the part from the offset
 -- on.
 use borrow.Author.Needs.{needs}
 use Rattle.mark.proofs.MarkLaws.{found-after, found-at-once, found-fits, found-part}

@@ -1,4 +1,4 @@
--- `mark::find_plain` keeps its promise: it finds the first mark in the part from the offset on.
+-- `mark::find_plain` meets its contract: it finds the first mark in the part from the offset on.
 use borrow.Author.Needs.{needs}
 use Rattle.mark.proofs.MarkLaws.{found-after, found-fits, found-part}
 use Rattle.mark.proofs.find_plain.Statement.{statement}

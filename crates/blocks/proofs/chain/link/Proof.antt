@@ -1,4 +1,4 @@
--- `blocks::chain::link` meets its contract: if there is no mark, the tail begins.
+-- `blocks::chain::link` meets its contract: if no block follows, the tail begins.
 use borrow.Author.Needs.{needs}
 use Rattle.blocks.proofs.ChainLaws.{link-follows, link-index, link-zeros, link-other}
 use Rattle.blocks.proofs.chain.link.Statement.{statement}

@@ -1,4 +1,4 @@
--- `file::layout::read` meets its contract: the answer that was judged is the layout.
+-- `file::layout::read` meets its contract: the right answer for the file states its layout, or its refusal.
 use borrow.Author.Needs.{needs}
 use Rattle.file.proofs.LayoutLaws.{layout-judged}
 use Rattle.file.proofs.layout.read.Statement.{statement}

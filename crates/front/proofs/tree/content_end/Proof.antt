@@ -1,4 +1,4 @@
--- The invariant: the content from the current offset ends where the content from the first offset ends.
+-- The invariant: read from the current offset, the tree ends where it ends when read from the first offset.
 use Prim.Native.Nat.{_-_}
 use mathlib.Core.Path.{_≡_}
 use lib.ListN.{length, drop}

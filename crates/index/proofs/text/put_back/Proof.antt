@@ -1,4 +1,4 @@
--- The text with this line end is put.
+-- The text after the list is put, with the line end that is given.
 use borrow.Author.Needs.{needs}
 use Rattle.index.proofs.TextLaws.{back-put}
 use Rattle.index.proofs.text.put_back.Statement.{statement}

@@ -1,4 +1,4 @@
--- The text with this line end is put.
+-- The text before the list is put, with the line end that is given.
 use borrow.Author.Needs.{needs}
 use Rattle.index.proofs.TextLaws.{front-put}
 use Rattle.index.proofs.text.put_front.Statement.{statement}

@@ -1,4 +1,4 @@
--- The last of the four bytes tells the only place where a mark may begin.
+-- The last of the four bytes determines the only offset at which a mark may begin.
 use borrow.Author.Needs.{needs}
 use Rattle.mark.proofs.FoursLaws.{four-none, four-here, four-other}
 use Rattle.mark.proofs.fours.in_four.Statement.{statement}

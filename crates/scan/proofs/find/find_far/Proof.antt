@@ -1,4 +1,4 @@
--- The first `b` after the blocks that were passed over is the first `b` of all.
+-- The first `b` after the blocks of bytes that were passed over is the first `b` of all.
 use borrow.Author.Needs.{needs}
 use Rattle.scan.proofs.FindLaws.{first-skipped}
 use Rattle.scan.proofs.find.find_far.Statement.{statement}
