@@ -27,10 +27,11 @@ abbrev pub backText : LineEnd → Bytes
 backText Lf = text "]\n...\n"
 backText Crlf = text "]\r\n...\r\n"
 
--- The maximum number of bytes in each of these two texts.
+-- The maximum number of bytes in the text before the list.
 abbrev pub mostFront : ℕ
 mostFront = 35
 
+-- The maximum number of bytes in the text after the list.
 abbrev pub mostBack : ℕ
 mostBack = 8
 

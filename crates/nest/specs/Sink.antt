@@ -23,13 +23,14 @@ use Rattle.nest.specs.declared.sink.Place.the-variants.{Nowhere, Row, Nu
 abbrev pub blockRecord : ℕ → OutermostOffset → ℕ → ℕ → Bytes → Inner → Record
 blockRecord depth here i n t inner = record { depth = depth; at = here; block = soundBlock i n t; inner = inner }
 
--- What is put for every record, and (`width`) how many bytes that is. In the form `One` these are no bytes: `delivery`
--- states what is put for the wanted record.
+-- What is put for every record. In the form `One` these are no bytes: `delivery` states what is put for the wanted
+-- record.
 abbrev pub encoded : Form → Record → Bytes
 encoded Rows r = encodeRow (rowOf r)
 encoded Table r = encodeRecord r
 encoded (One w) r = []
 
+-- How many bytes are put for every record.
 abbrev pub width : Form → ℕ
 width Rows = rowBytes
 width Table = recordBytes

@@ -1,8 +1,8 @@
 //! The layout of ASDF files: where everything is, also in the files inside blocks.
 //!
 //! Every answer comes from a function that is proved to give it. This crate lends bytes to these
-//! functions and gives names to their numbers. What they refuse is returned as a [`Refusal`], which
-//! prints as a sentence.
+//! functions and gives names to their numbers. If they refuse something, the crate returns a
+//! [`Refusal`], which prints as a sentence.
 //!
 //! ```
 //! use asdf_layout::{Layout, Records, Verdict};

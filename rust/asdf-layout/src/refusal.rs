@@ -17,8 +17,9 @@ use std::fmt;
 pub struct Refusal {
     /// The reason: one of the constants of this type.
     pub number: u8,
-    /// The place, counted from the first byte of what was lent. It is 0 if the reason is about the
-    /// whole.
+    /// The place, counted from the first byte of what was lent. In
+    /// [`Inner::Refused`](crate::Inner::Refused) it counts from the first byte of the inner file.
+    /// It is 0 if the reason is about the whole.
     pub place: u64,
 }
 

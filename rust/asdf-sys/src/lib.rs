@@ -5,8 +5,10 @@
 //! a refusal: [`answer`] tells them apart. A refusal changes no byte. The bytes of `out` after a
 //! result are unchanged. A buffer that is too short is refused with 21.
 //!
-//! Every call fulfils the caller's duties of `include/asdf_layout.h`: a slice is no longer than
-//! `isize::MAX` and is never null, and a slice that can be changed overlaps no other.
+//! Every call fulfils the duties about pointers and buffers that `include/asdf_layout.h` lists: a
+//! slice is no longer than `isize::MAX` and is never null, and a slice that can be changed overlaps
+//! no other. Whoever makes a slice of a mapped file has to make sure that nobody changes the file
+//! during a call.
 
 /// The bytes of one number in a buffer, the most significant first.
 pub const NUMBER_BYTES: usize = 8;
@@ -20,7 +22,7 @@ pub const RECORD_NUMBERS: usize = 15;
 pub const ROW_NUMBERS: usize = 10;
 /// How many bytes a row of an outline has.
 pub const ROW_BYTES: usize = 16;
-/// The maximum length of an index, in bytes.
+/// The maximum length of an index that is written, in bytes. An index that is read may be longer.
 pub const LONGEST_INDEX: usize = 809;
 /// How many low bits of a returned number hold the place of a refusal. The bits above hold the
 /// refusal's number.

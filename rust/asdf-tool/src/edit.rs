@@ -35,7 +35,7 @@ pub fn restore(path: &Path) -> Result<(), Failure> {
     let target = Target::open(path)?;
     let Some(kept) = Kept::read(&target)? else {
         let path = path.display();
-        let sentence = format!("nothing to restore: no edit of {path} was interrupted");
+        let sentence = format!("nothing to restore: no interrupted edit has changed {path}");
         return Err(Failure::usage(sentence));
     };
     let mut map = target.map()?;

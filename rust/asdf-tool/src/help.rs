@@ -77,8 +77,9 @@ Replaces the tree of FILE by the text in TREE, in place.
 The text has to be exactly one tree and has to fit into the room of the old tree. The rest of the room is filled with
 spaces, and no other byte of FILE changes. If the edit is refused, nothing changes. TREE may be `-`, FILE may not.
 
-The old room is kept in FILE.old-room until the new one is on the disk. If the edit is interrupted, FILE.old-room
-remains: `asdf-layout restore FILE` brings the old tree back, and until then FILE cannot be edited.
+The old room is kept in FILE.old-room until the new one is on the disk. If the edit is interrupted while
+FILE.old-room exists, FILE may be half edited: `asdf-layout restore FILE` brings the old tree back, and until then FILE
+cannot be edited. If it is interrupted before that, FILE has not changed.
 ";
 
 pub const RESTORE: &str = "\
@@ -86,5 +87,6 @@ asdf-layout restore FILE
 
 Brings back the tree that FILE had before an edit that was not finished, from FILE.old-room.
 
-If there is no FILE.old-room, or if it does not fit FILE, nothing changes and the exit status is 2.
+If there is no FILE.old-room, or if it is damaged or does not fit FILE, nothing changes and the exit status is 2. If
+FILE is complete without it, remove FILE.old-room by hand; until then FILE cannot be edited.
 ";

@@ -154,7 +154,8 @@ impl Kept {
                 file_length,
             }),
             None => Err(Failure::usage(format!(
-                "{} is damaged or was not written by an edit; nothing was restored",
+                "{0} is damaged or was not written by an edit; nothing was restored; \
+                 if the file is complete, remove {0} by hand",
                 path.display()
             ))),
         }
@@ -180,7 +181,8 @@ impl Kept {
     pub fn of_another_file(&self, target: &Target) -> Failure {
         let (path, file) = (self.path.display(), target.path.display());
         Failure::usage(format!(
-            "{path} does not fit {file}, which may have changed since the edit; nothing was restored"
+            "{path} does not fit {file}, which may have changed since the edit; \
+             nothing was restored; if {file} is complete, remove {path} by hand"
         ))
     }
 }

@@ -36,7 +36,7 @@ pub struct Source {
 
 /// How the bytes are held.
 enum Bytes {
-    /// They are mapped from a file, which stays locked against edits while it is open.
+    /// They are mapped from a file. `Source::file` locks it against edits while it is open.
     Mapped(Map, File),
     Read(Vec<u8>),
 }

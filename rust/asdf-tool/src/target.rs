@@ -20,7 +20,7 @@ pub struct Target {
 }
 
 impl Target {
-    /// Opens a file, and waits until no other edit of it is running.
+    /// Opens a file, and waits until no other call of this tool is reading or editing it.
     pub fn open(path: &Path) -> Result<Target, Failure> {
         let failed = |error| Failure::at("cannot open", path, error);
         let path = fs::canonicalize(path).map_err(failed)?;

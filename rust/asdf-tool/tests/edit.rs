@@ -237,7 +237,7 @@ fn restore_stopped_at_any_step_leaves_the_old_file_or_a_restorable_one() {
 #[test]
 fn what_is_kept_of_another_file_is_not_restored() {
     let case = Case::new("edit-other");
-    assert!(case.restore().errors.ends_with("was interrupted\n"));
+    assert!(case.restore().errors.contains("no interrupted edit"));
     let first_kept = (1..MOST_STEPS).find(|&step| {
         case.edit_stopped_after(step);
         case.state() == State::KeptOld
@@ -267,7 +267,7 @@ fn what_is_kept_of_another_file_is_not_restored() {
         assert_eq!((ran.status, case.state()), (Some(2), State::KeptOld));
         assert!(ran
             .errors
-            .ends_with("not written by an edit; nothing was restored\n"));
+            .contains("not written by an edit; nothing was restored; "));
     }
 }
 

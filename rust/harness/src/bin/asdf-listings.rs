@@ -34,8 +34,8 @@ const MOST_TOLD: u64 = 20;
 const LEAST_CASES: usize = 67;
 const LEAST_REAL_FILES: usize = 18;
 const STREAMED: u32 = 1;
-/// Of this many generated files, one comes in two parts with a pause between them. Three others are
-/// made as long as the limit, one byte shorter and one byte longer.
+/// Of this many generated files, one comes in two parts with a pause between them. Three others get
+/// the length of the limit, one byte less and one byte more.
 const ONE_IN: u64 = 50;
 
 /// The program, and what it has printed so far.

@@ -143,9 +143,9 @@ fn kind_of_refusal(refusal: Refusal) -> Answer {
     }
 }
 
-/// The numbers that are asked for if there are `count` items. They are the first, the last, the one
-/// after the last, any, and two that are far too high. Cut to 32 bits, one of these two is the
-/// last.
+/// The numbers that are asked for if there are `count` items: the first, the last, the one after
+/// the last, a random one, and two that are far too high. Cut to 32 bits, the first of these two
+/// would be the last number.
 pub fn wanted(count: usize) -> [u64; 6] {
     let next = count as u64;
     let last = next.saturating_sub(1);

@@ -9,8 +9,8 @@ use crate::calls::kinds::{Calls, Function};
 use crate::calls::numbers::{block_numbers, bytes_of, layout_numbers};
 use crate::calls::returned::Expected;
 
-/// Ordinals that no block has. Cut to fewer bits or read as signed numbers, some of them would be
-/// the ordinal of a block.
+/// Ordinals that no block has. Cut to fewer bits, some of them would be the ordinal of a block.
+/// Read as signed numbers, the last two would be below every ordinal.
 const FAR_ORDINALS: [u64; 6] = [64, 1 << 8, 1 << 16, 1 << 32, 1 << 63, u64::MAX];
 
 /// Fails if a proved function answers differently from the second program, and says where.

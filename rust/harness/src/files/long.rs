@@ -17,9 +17,9 @@ const PLAIN: u64 = 0;
 const OPENED: u64 = 1;
 const LINE_END_0A: u64 = 0;
 
-/// The place of the first block.
+/// The offset of the first block.
 const FIRST: usize = HEADER_LINE.len();
-/// The place of the last block, near the end of the longest file.
+/// The offset of the last block, near the end of the longest file.
 const LAST: usize = 4_294_967_000;
 /// The length of a gap before the last block.
 const GAP: usize = 100;

@@ -81,7 +81,7 @@ fn text_limits() -> Vec<Goal> {
     ]
 }
 
-/// Returns goals for both sides of the limits on the header size `H`.
+/// Returns goals for both sides of the limits on the header size.
 fn header_size_limits() -> Vec<Goal> {
     vec![
         Goal::of_block("header size 48", |_, block| block.header_size == 48),
@@ -113,7 +113,7 @@ fn header_size_limits() -> Vec<Goal> {
             file.len() - block == 6
         }),
         Goal::of_refusal(
-            "six bytes of a header, H below 48 (12)",
+            "six bytes of a header, header size below 48 (12)",
             12,
             |file, block| file.len() - block == 6,
         ),

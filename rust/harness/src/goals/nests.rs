@@ -54,9 +54,9 @@ fn is_possible(depth: u8, kind: InnerKind) -> bool {
     }
 }
 
-/// Returns a goal for each number with which a file is refused that is inside a block of at least
-/// this depth. The numbers 1 and 2 never occur: no file can contain one that is too long to be a
-/// file, and a content that does not begin like a file is plain.
+/// Returns a goal for each number with which an inner file is refused. Only inner files in blocks
+/// of at least this depth count. The numbers 1 and 2 never occur: no file can contain one that is
+/// too long to be a file, and a content that does not begin like a file is plain.
 fn inner_refusals(what: &'static str, least_depth: u8) -> Vec<Goal> {
     (3..=17)
         .map(|number| {

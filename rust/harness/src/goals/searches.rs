@@ -13,7 +13,8 @@ pub struct Search {
 }
 
 impl Search {
-    /// Returns how far the mark is from the start, or the end if there is no mark.
+    /// Returns the distance from the start to the mark. If there is no mark, it is the distance to
+    /// the end.
     fn distance(&self) -> usize {
         self.found - self.start
     }
