@@ -170,7 +170,7 @@ fn read_block(file: &[u8], start: usize, ordinal: u8) -> Result<Block, Refusal> 
         return Err(refused(HEADER_TOO_SMALL));
     }
     let header_bytes = HEADER_SIZE_COUNTS_FROM + usize::from(header_size);
-    let behind_header = bytes
+    let after_header = bytes
         .get(header_bytes..)
         .ok_or(refused(HEADER_PASSES_END))?;
     // H is at least 48, so these bytes hold every named field.
@@ -179,7 +179,7 @@ fn read_block(file: &[u8], start: usize, ordinal: u8) -> Result<Block, Refusal> 
     let flags = u32::from_be_bytes(field(fields, 6));
     let compression = field(fields, 10);
     let sizes = if is_streamed(flags) {
-        Sizes::of_streamed(behind_header.len())
+        Sizes::of_streamed(after_header.len())
     } else {
         let stored = StoredSizes {
             allocated: u64::from_be_bytes(field(fields, 14)),
@@ -187,7 +187,7 @@ fn read_block(file: &[u8], start: usize, ordinal: u8) -> Result<Block, Refusal> 
             data: u64::from_be_bytes(field(fields, 30)),
         };
         stored
-            .judge(compression, behind_header.len())
+            .judge(compression, after_header.len())
             .map_err(refused)?
     };
     Ok(Block {

@@ -13,8 +13,10 @@ use std::process::ExitCode;
 
 const USAGE: &str = "\
 usage: asdf-second [COMMAND] < FILE
+       asdf-second --help
 
-Without a command: the listing of the rules, for at most 65,536 bytes.
+Without a command: print the listing of the rules, for at most 65,536 bytes.
+Longer input gives the one line `too long for this program`.
 
 Commands, each for standard input of any length:
   layout         print the file's own layout:
@@ -25,17 +27,25 @@ Commands, each for standard input of any length:
                    tree START END ROOM_END, or tree none
                    block ORDINAL OFFSET H FLAGS COMPRESSION ALLOCATED USED DATA_SIZE CHECKSUM
                    index VERDICT
-  records        print one line for each block, inner files too:
+  records        print one line for each block, including the blocks of inner files:
                    DEPTH ORDINAL OFFSET H FLAGS COMPRESSION ALLOCATED USED DATA_SIZE CHECKSUM
                    and then plain, opened, refused NUMBER PLACE, or too-deep
   outline        write the file's outline, raw bytes
-  read-outline   read a stored outline, print one line for each row
+  read-outline   read a stored outline, print one line for each row as in the listing
   index          write the file's index with the header's line end, raw bytes
   edit TEXTFILE  put the text in the place of the tree, write the whole file, raw bytes
 
-Flags, compression and checksum are hexadecimal, all else is decimal.
-A refusal is `refused NUMBER PLACE`: on standard output with status 0, but for
-the commands that write raw bytes on standard error with status 1.
+H is the block's header size. It counts from offset 6 of the block, so the content
+begins at OFFSET + 6 + H. FLAGS, COMPRESSION and CHECKSUM are hexadecimal. All
+other numbers are decimal.
+
+If the request is refused, the only output is the line `refused NUMBER PLACE`:
+  no command, layout, records, read-outline: on standard output, with status 0
+  outline, index, edit: on standard error, with status 1
+
+Messages about input or output errors go to standard error, with status 1.
+Wrong arguments give this text on standard error, with status 2.
+Otherwise the status is 0.
 ";
 
 fn main() -> ExitCode {

@@ -16,14 +16,14 @@ pub(crate) fn tree_end(bytes: &[u8], start: usize) -> Result<Option<usize>, Refu
     match exact_line_at(bytes, start, YAML_LINE) {
         None => Ok(None),
         Some(line) => {
-            let content_start = behind_start_line(bytes, line.next)?;
-            behind_end_line(bytes, content_start).map(Some)
+            let content_start = after_start_line(bytes, line.next)?;
+            after_end_line(bytes, content_start).map(Some)
         }
     }
 }
 
 /// Passes over the lines before the start line and over the start line itself.
-fn behind_start_line(bytes: &[u8], from: usize) -> Result<usize, Refusal> {
+fn after_start_line(bytes: &[u8], from: usize) -> Result<usize, Refusal> {
     let mut at = from;
     loop {
         let line = tree_line(bytes, at)?;
@@ -38,7 +38,7 @@ fn behind_start_line(bytes: &[u8], from: usize) -> Result<usize, Refusal> {
 }
 
 /// Passes over the content and the end line.
-fn behind_end_line(bytes: &[u8], from: usize) -> Result<usize, Refusal> {
+fn after_end_line(bytes: &[u8], from: usize) -> Result<usize, Refusal> {
     let mut at = from;
     loop {
         let line = tree_line(bytes, at)?;

@@ -28,8 +28,8 @@ fn every_field_is_reported() {
         .used(5)
         .data_size(0x0102_0304_0506_0708)
         .checksum(checksum)
-        .behind_header(b"contents");
-    let found = only_block(BlockParts::clone(&parts).behind_header(b"content"));
+        .after_header(b"contents");
+    let found = only_block(BlockParts::clone(&parts).after_header(b"content"));
     let expected = Block {
         ordinal: 0,
         offset: InFile(12),
@@ -218,10 +218,10 @@ fn streamed_block_can_be_refused_with_11_and_12_only() {
 
 #[test]
 fn streamed_block_takes_marks_indices_and_zeros_as_content() {
-    let behind = join(&[&block().bytes(), &index_of("12"), &[0; 9], b"stray"]);
-    let layout = read(&file_with(streamed(&behind))).unwrap();
+    let content = join(&[&block().bytes(), &index_of("12"), &[0; 9], b"stray"]);
+    let layout = read(&file_with(streamed(&content))).unwrap();
     assert_eq!(layout.blocks.len(), 1);
-    assert_eq!(layout.blocks[0].used as usize, behind.len());
+    assert_eq!(layout.blocks[0].used as usize, content.len());
     assert_eq!(layout.index, Verdict::Absent);
 }
 

@@ -50,11 +50,11 @@ fn zeros_may_follow_and_nothing_else() {
         verdict(&join(&[&index_of("13"), &[0; 100]])),
         Verdict::IgnoredList
     );
-    for behind in [&b" "[..], b"\n", b"\0\0x", b"...\n", MARK] {
+    for rest in [&b" "[..], b"\n", b"\0\0x", b"...\n", MARK] {
         assert_eq!(
-            verdict(&join(&[&index_of("12"), behind])),
+            verdict(&join(&[&index_of("12"), rest])),
             Verdict::IgnoredForm,
-            "{behind:?}"
+            "{rest:?}"
         );
     }
 }

@@ -87,9 +87,9 @@ fn longer_line_is_a_comment_before_the_blocks_and_an_index_after_them() {
     let before = read(&join(&[A, line, &block().bytes()])).unwrap();
     assert_eq!(before.comments, stretch(12, 32));
     assert_eq!(before.blocks[0].offset, InFile(32));
-    let behind = read(&join(&[&b(), line])).unwrap();
-    assert_eq!(behind.comments, stretch(12, 12));
-    assert_eq!(behind.index, Verdict::IgnoredForm);
+    let after = read(&join(&[&b(), line])).unwrap();
+    assert_eq!(after.comments, stretch(12, 12));
+    assert_eq!(after.index, Verdict::IgnoredForm);
 }
 
 #[test]
@@ -117,8 +117,8 @@ fn unended_comment_runs_to_the_first_0a_inside_a_block() {
         assert_eq!(layout.blocks[0].offset, InFile(to_the_end.len() as u32));
 
         let into_content = join(&[A, line, &block_of(b"ab\ncd").bytes()]);
-        let behind_0a = to_the_end.len() as u64;
-        assert_eq!(refused(&into_content), refusal(7, behind_0a));
+        let after_0a = to_the_end.len() as u64;
+        assert_eq!(refused(&into_content), refusal(7, after_0a));
     }
 }
 
@@ -378,17 +378,17 @@ fn record_of_a_nested_block_tells_every_field() {
 
 #[test]
 fn after_a_streamed_64th_block_there_is_no_tail() {
-    for behind in [
+    for content in [
         MARK,
         &block().bytes(),
         &index_of("12"),
         b"stray",
         b"\0\0stray",
     ] {
-        let file = join(&[&file_of_blocks(63), &streamed(behind).bytes()]);
+        let file = join(&[&file_of_blocks(63), &streamed(content).bytes()]);
         let layout = read(&file).unwrap();
         assert_eq!(layout.blocks.len(), 64);
-        assert_eq!(layout.blocks[63].used as usize, behind.len());
+        assert_eq!(layout.blocks[63].used as usize, content.len());
         assert_eq!(layout.index, Verdict::Absent);
     }
 }
@@ -398,7 +398,7 @@ fn nested_streamed_block_does_not_reach_into_unused_space() {
     let inner_file = file_with(streamed(b"abc").sizes(u64::MAX));
     let holder = block_of(&inner_file)
         .allocated(69 + 6)
-        .behind_header(&join(&[&inner_file, b"unused"]));
+        .after_header(&join(&[&inner_file, b"unused"]));
     let file = join(&[A, &holder.bytes(), &block().bytes()]);
     let found = records(&file).unwrap();
     assert_eq!(found.len(), 3);
@@ -431,7 +431,7 @@ fn nested_streamed_block_does_not_reach_into_unused_space() {
 #[test]
 fn tail_that_begins_as_an_index_is_never_stray_and_never_walked() {
     let good_block = block().bytes();
-    for behind in [
+    for rest in [
         &b""[..],
         b"ED\n",
         b" ",
@@ -441,10 +441,10 @@ fn tail_that_begins_as_an_index_is_never_stray_and_never_walked() {
         &good_block,
         &join(&[b"\n", &good_block]),
     ] {
-        let file = join(&[&b(), b"#ASDF BLOCK INDEX", behind]);
+        let file = join(&[&b(), b"#ASDF BLOCK INDEX", rest]);
         let layout = read(&file).unwrap();
-        assert_eq!(layout.index, Verdict::IgnoredForm, "{behind:?}");
-        assert_eq!(layout.blocks, read(&b()).unwrap().blocks, "{behind:?}");
+        assert_eq!(layout.index, Verdict::IgnoredForm, "{rest:?}");
+        assert_eq!(layout.blocks, read(&b()).unwrap().blocks, "{rest:?}");
     }
 }
 

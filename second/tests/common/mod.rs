@@ -24,7 +24,7 @@ pub struct BlockParts {
     used: u64,
     data_size: u64,
     checksum: [u8; 16],
-    behind_header: Vec<u8>,
+    after_header: Vec<u8>,
 }
 
 /// Returns a block with H 48 in which every other field is zero.
@@ -37,18 +37,18 @@ pub fn block() -> BlockParts {
         used: 0,
         data_size: 0,
         checksum: [0; 16],
-        behind_header: Vec::new(),
+        after_header: Vec::new(),
     }
 }
 
 /// Returns a block that holds this content. All three sizes are the length of the content.
 pub fn block_of(content: &[u8]) -> BlockParts {
-    block().sizes(content.len() as u64).behind_header(content)
+    block().sizes(content.len() as u64).after_header(content)
 }
 
 /// Returns a streamed block that holds this content and has zeros for its sizes.
 pub fn streamed(content: &[u8]) -> BlockParts {
-    block().flags(1).behind_header(content)
+    block().flags(1).after_header(content)
 }
 
 impl BlockParts {
@@ -83,8 +83,8 @@ impl BlockParts {
         self.checksum = value;
         self
     }
-    pub fn behind_header(mut self, bytes: &[u8]) -> Self {
-        self.behind_header = bytes.to_vec();
+    pub fn after_header(mut self, bytes: &[u8]) -> Self {
+        self.after_header = bytes.to_vec();
         self
     }
 
@@ -99,7 +99,7 @@ impl BlockParts {
         bytes.extend(self.data_size.to_be_bytes());
         bytes.extend(self.checksum);
         bytes.resize(HEADER_BYTES.max(6 + usize::from(self.header_size)), 0);
-        bytes.extend(&self.behind_header);
+        bytes.extend(&self.after_header);
         bytes
     }
 }
