@@ -1,8 +1,9 @@
 //! Why a command did not do what was asked: one sentence and the exit status.
 
+use crate::names::shown;
 use asdf_layout::Refusal;
 use std::fmt::{self, Display};
-use std::io;
+use std::io::{self, Write};
 use std::path::Path;
 use std::process::ExitCode;
 
@@ -10,6 +11,11 @@ use std::process::ExitCode;
 const REFUSED: u8 = 1;
 /// The status of a wrong call, and of an operation that the system does not carry out.
 const NOT_DONE: u8 = 2;
+
+/// Tells the user something on standard error. If nobody can be told, the command goes on.
+pub fn note(sentence: impl Display) {
+    let _ = writeln!(io::stderr(), "asdf-layout: {sentence}");
+}
 
 /// What a failed command prints, and its exit status.
 #[derive(Debug)]
@@ -42,7 +48,7 @@ impl Failure {
 
     /// Reports that the system did not carry out an operation on a file.
     pub fn at(what: &str, path: &Path, error: io::Error) -> Failure {
-        Failure::system(format_args!("{what} {}", path.display()), error)
+        Failure::system(format_args!("{what} {}", shown(path)), error)
     }
 
     /// Adds what holds now or what to do next.

@@ -6,9 +6,10 @@
 //! final name, it is complete and on the disk.
 
 use crate::failure::Failure;
+use crate::names::{quoted, shown};
 use crate::steps::Steps;
 use crate::target::{sync_folder, write_at, Target};
-use asdf_map::Map;
+use asdf_system::Map;
 use std::fs::{self, File, OpenOptions};
 use std::io::{self, ErrorKind};
 use std::ops::Range;
@@ -31,10 +32,11 @@ pub fn is_beside(path: &Path) -> bool {
 
 /// Returns the sentence that reports an edit that was not finished.
 pub fn unfinished(path: &Path) -> String {
-    let path = path.display();
     format!(
-        "an edit of {path} was not finished, so the file may be half edited; \
-         run `asdf-layout restore {path}` to bring the old tree back"
+        "an edit of {} was not finished, so the file may be half edited; \
+         run `asdf-layout restore {}` to bring the old tree back",
+        shown(path),
+        quoted(path)
     )
 }
 

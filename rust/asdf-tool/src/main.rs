@@ -9,6 +9,7 @@ mod failure;
 mod help;
 mod json;
 mod kept;
+mod names;
 mod plain;
 mod source;
 mod steps;
@@ -31,7 +32,7 @@ fn main() -> ExitCode {
     match command::parse(words).and_then(run) {
         Ok(()) => ExitCode::SUCCESS,
         Err(failure) => {
-            eprintln!("asdf-layout: {failure}");
+            failure::note(&failure);
             failure.status()
         }
     }

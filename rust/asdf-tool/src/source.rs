@@ -1,9 +1,9 @@
 //! The bytes of a file or of standard input.
 
-use crate::failure::Failure;
-use crate::kept;
+use crate::failure::{self, Failure};
+use crate::{kept, names};
 use asdf_layout::Refusal;
-use asdf_map::Map;
+use asdf_system::Map;
 use std::fs::{self, File};
 use std::io::{self, Read};
 use std::ops::Deref;
@@ -24,7 +24,7 @@ pub fn is_standard(path: &Path) -> bool {
 fn name(path: &Path) -> String {
     match is_standard(path) {
         true => "standard input".to_string(),
-        false => path.display().to_string(),
+        false => names::shown(path),
     }
 }
 
@@ -51,7 +51,7 @@ impl Source {
             let _ = file.lock_shared();
         }
         if kept::is_beside(path) {
-            eprintln!("asdf-layout: warning: {}", kept::unfinished(path));
+            failure::note(format_args!("warning: {}", kept::unfinished(path)));
         }
         Ok(source)
     }

@@ -2,7 +2,7 @@
 
 use crate::failure::Failure;
 use crate::steps::Steps;
-use asdf_map::Map;
+use asdf_system::Map;
 use std::fs::{self, File};
 use std::io;
 use std::ops::Range;

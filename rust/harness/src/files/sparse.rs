@@ -2,7 +2,7 @@
 
 use crate::format::block::{block_header, FIELD_BYTES};
 use crate::format::text::HEADER_LINE;
-use asdf_map::Map;
+use asdf_system::Map;
 use std::io;
 use std::ops::Deref;
 
