@@ -56,7 +56,7 @@ pub use block::Block;
 pub use layout::{Layout, LineEnd, Tree, Verdict, Version};
 pub use outline::{InnerState, Outline, Row};
 pub use records::{row_count, Inner, Record, Records};
-pub use refusal::{Refusal, REASONS};
+pub use refusal::{Reason, Refusal, REASONS};
 pub use writers::{edit, index_text};
 
 /// Runs the examples of docs/USING.md with those of this documentation.

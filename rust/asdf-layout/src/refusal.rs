@@ -5,13 +5,18 @@ use std::fmt;
 
 /// Why something is refused, and where.
 ///
-/// A refusal prints as a sentence.
+/// A refusal prints as a sentence. Its reason has a name and words for programs that make sentences
+/// of their own.
 ///
 /// ```
 /// use asdf_layout::Refusal;
 ///
 /// let refusal = Refusal { number: Refusal::USED_ABOVE_ALLOCATED, place: 592 };
 /// assert_eq!(refusal.to_string(), "used size is above allocated size, in the block at 592 (refusal 13)");
+///
+/// let reason = refusal.reason().expect("13 is the number of a reason");
+/// assert_eq!(reason.name, "USED_ABOVE_ALLOCATED");
+/// assert_eq!(reason.words, "used size is above allocated size");
 /// ```
 #[derive(Debug, Clone, Copy, PartialEq, Eq, Hash)]
 pub struct Refusal {
@@ -23,21 +28,30 @@ pub struct Refusal {
     pub place: u64,
 }
 
-/// A reason to refuse something.
-#[derive(Debug, Clone, Copy)]
+/// A reason to refuse something. [`REASONS`] has all of them, and [`Refusal::reason`] returns that
+/// of a refusal.
+///
+/// ```
+/// use asdf_layout::{Reason, REASONS};
+///
+/// let line = |reason: &Reason| format!("{}: {}", reason.number, reason.words);
+/// let lines: Vec<String> = REASONS.iter().map(line).collect();
+/// assert_eq!(lines[11], "12: header size is below 48");
+/// ```
+#[derive(Debug, Clone, Copy, PartialEq, Eq, Hash)]
 pub struct Reason {
     /// The number that is returned for it.
     pub number: u8,
-    /// The name of its constant.
+    /// The name of its constant in [`Refusal`]. In the C header it is preceded by `ASDF_`.
     pub name: &'static str,
-    /// What is wrong.
+    /// What is wrong, without the place.
     pub words: &'static str,
     /// What is at the place.
     place: Place,
 }
 
 /// What is at the place of a refusal.
-#[derive(Debug, Clone, Copy)]
+#[derive(Debug, Clone, Copy, PartialEq, Eq, Hash)]
 enum Place {
     /// Nothing: the reason is about the whole.
     Whole,
@@ -99,8 +113,9 @@ impl Refusal {
             .map_or("unknown reason", |reason| reason.words)
     }
 
-    /// Returns the reason with this number.
-    fn reason(&self) -> Option<&'static Reason> {
+    /// Returns the reason, or `None` if no reason has this number. The proved functions return
+    /// only numbers that have one.
+    pub fn reason(&self) -> Option<&'static Reason> {
         REASONS.iter().find(|reason| reason.number == self.number)
     }
 }
@@ -135,6 +150,16 @@ mod tests {
     fn numbers_run_from_1_without_a_gap() {
         let numbers = REASONS.iter().map(|reason| usize::from(reason.number));
         assert!(numbers.eq(1..=REASONS.len()));
+    }
+
+    #[test]
+    fn each_number_from_1_to_24_has_its_reason() {
+        let reason = |number| Refusal { number, place: 70 }.reason();
+        for (number, expected) in (1..=24).zip(REASONS) {
+            assert_eq!(reason(number), Some(expected));
+        }
+        let others = (25..=u8::MAX).chain([0]);
+        assert_eq!(others.filter_map(reason).next(), None);
     }
 
     #[test]
