@@ -49,8 +49,11 @@ pub enum Inner {
 ///
 /// let records = Records::read(b"#ASDF 1.0.0\n\xD3BLK\0\x30\
 ///     \0\0\0\0zlib\0\0\0\0\0\0\0\0\0\0\0\0\0\0\0\0\0\0\0\0\0\0\0\0\0\0\0\0\0\0\0\0\0\0\0\0\0\0\0\0")?;
+/// assert_eq!(records.len(), 1);
 /// let names: Vec<_> = records.iter().map(|record| record.block.compression).collect();
 /// assert_eq!(names, [*b"zlib"]);
+///
+/// assert!(Records::read(b"#ASDF 1.0.0\n")?.is_empty());
 /// # Ok::<(), asdf_layout::Refusal>(())
 /// ```
 #[derive(Debug, Clone)]
@@ -68,8 +71,36 @@ impl Records {
         Ok(Records { bytes })
     }
 
+    /// How many records there are: the same number that [`row_count`] returns for the file.
+    pub fn len(&self) -> usize {
+        self.bytes.len() / RECORD_BYTES
+    }
+
+    /// Whether there is no record, because the file has no block.
+    pub fn is_empty(&self) -> bool {
+        self.bytes.is_empty()
+    }
+
     /// Returns the records in walking order. Those of an opened inner file follow the record of its
     /// block.
+    ///
+    /// The iterator knows how many records are left and can be read from both ends.
+    ///
+    /// ```
+    /// use asdf_layout::Records;
+    ///
+    /// // A header line, and two blocks without content.
+    /// let mut file = b"#ASDF 1.0.0\n".to_vec();
+    /// for _ in 0..2 {
+    ///     file.extend(b"\xD3BLK\0\x30");
+    ///     file.extend([0; 48]);
+    /// }
+    /// let records = Records::read(&file)?;
+    /// assert_eq!(records.iter().len(), 2);
+    /// let last_first: Vec<usize> = records.iter().rev().map(|record| record.offset).collect();
+    /// assert_eq!(last_first, [66, 12]);
+    /// # Ok::<(), asdf_layout::Refusal>(())
+    /// ```
     pub fn iter(&self) -> <&Records as IntoIterator>::IntoIter {
         self.into_iter()
     }

@@ -151,6 +151,25 @@ fn records_are_the_same() {
 }
 
 #[test]
+fn records_are_counted_and_read_from_both_ends() {
+    each_real_file(|file| {
+        let Ok(told) = second::records(file) else {
+            return;
+        };
+        let told: Vec<Record> = told.iter().map(record).collect();
+        let records = Records::read(file).unwrap();
+        assert_eq!(records.len(), told.len());
+        assert_eq!(records.is_empty(), told.is_empty());
+        assert!(records.iter().rev().eq(told.iter().rev().copied()));
+        let mut rest = records.iter();
+        for left in (0..told.len()).rev() {
+            rest.next();
+            assert_eq!(rest.len(), left);
+        }
+    });
+}
+
+#[test]
 fn outlines_and_their_rows_are_the_same() {
     each_real_file(|file| {
         let expected = second::rows(file).map_err(refusal);
