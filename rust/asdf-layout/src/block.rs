@@ -3,6 +3,7 @@
 use crate::answer::numbers;
 use crate::Refusal;
 use asdf_sys::BLOCK_NUMBERS;
+use std::ops::Range;
 
 /// The offset in a block from which its header size counts.
 const HEADER_SIZE_COUNTS_FROM: usize = 6;
@@ -77,8 +78,57 @@ impl Block {
         self.checksum != [0; 16]
     }
 
-    /// How many bytes of the block precede its content.
-    pub(crate) fn header_bytes(&self) -> usize {
-        HEADER_SIZE_COUNTS_FROM + usize::from(self.header_size)
+    /// Where the content is, in the block's own file.
+    ///
+    /// If that file is inside a block, [`Record::content`](crate::Record::content) says where the
+    /// content is in the outermost file.
+    ///
+    /// ```
+    /// use asdf_layout::Block;
+    ///
+    /// // A header line, and a block with five bytes of allocated space, of which three are used.
+    /// let mut file = b"#ASDF 1.0.0\n\xD3BLK\0\x30\0\0\0\0\0\0\0\0".to_vec();
+    /// file.extend([5u64, 3, 3].map(u64::to_be_bytes).concat());
+    /// file.extend([0; 16]);
+    /// file.extend(b"abc--");
+    ///
+    /// let block = Block::read(&file, 0)?.expect("this file has a block");
+    /// assert_eq!(file[block.content()], *b"abc");
+    /// assert_eq!(block.end(), file.len());
+    /// # Ok::<(), asdf_layout::Refusal>(())
+    /// ```
+    pub fn content(&self) -> Range<usize> {
+        self.content_from(self.at)
+    }
+
+    /// Where the allocated space ends, in the block's own file. The text of an index belongs at the
+    /// end of the last block.
+    ///
+    /// The next block does not always begin here: there may be unallocated space before it.
+    ///
+    /// ```
+    /// use asdf_layout::{index_text, Layout, Records, Verdict};
+    ///
+    /// // A header line, a block without content, and an index that lists another offset.
+    /// let mut file = b"#ASDF 1.0.0\n\xD3BLK\0\x30".to_vec();
+    /// file.extend([0; 48]);
+    /// file.extend(b"#ASDF BLOCK INDEX\n%YAML 1.1\n--- [99]\n...\n");
+    /// assert_eq!(Layout::read(&file)?.index, Verdict::IgnoredList);
+    ///
+    /// let text = index_text(&file)?;
+    /// let last = Records::read(&file)?.blocks().last().expect("this file has a block");
+    /// file.truncate(last.end());
+    /// file.extend(text);
+    /// assert_eq!(Layout::read(&file)?.index, Verdict::Good);
+    /// # Ok::<(), asdf_layout::Refusal>(())
+    /// ```
+    pub fn end(&self) -> usize {
+        self.content().start + self.allocated
+    }
+
+    /// Where the content is if the block's first byte is at `first`.
+    pub(crate) fn content_from(&self, first: usize) -> Range<usize> {
+        let start = first + HEADER_SIZE_COUNTS_FROM + usize::from(self.header_size);
+        start..start + self.used
     }
 }

@@ -143,10 +143,29 @@ impl Record {
         }
     }
 
-    /// Where the content is, in the outermost file.
+    /// Where the content is, in the outermost file. [`Block::content`] says where it is in the
+    /// block's own file.
+    ///
+    /// ```
+    /// use asdf_layout::Records;
+    ///
+    /// // A file with a block, and a file that has it as the content of a streamed block.
+    /// let mut inner = b"#ASDF 1.0.0\n\xD3BLK\0\x30\0\0\0\0\0\0\0\0".to_vec();
+    /// inner.extend([3u64, 3, 3].map(u64::to_be_bytes).concat());
+    /// inner.extend([0; 16]);
+    /// inner.extend(b"abc");
+    /// let mut outer = b"#ASDF 1.0.0\n\xD3BLK\0\x30\0\0\0\x01".to_vec();
+    /// outer.extend([0; 44]);
+    /// outer.extend(&inner);
+    ///
+    /// let records: Vec<_> = Records::read(&outer)?.iter().collect();
+    /// assert_eq!(outer[records[0].content()], inner);
+    /// assert_eq!(outer[records[1].content()], *b"abc");
+    /// assert_eq!(inner[records[1].block.content()], *b"abc");
+    /// # Ok::<(), asdf_layout::Refusal>(())
+    /// ```
     pub fn content(&self) -> Range<usize> {
-        let start = self.offset + self.block.header_bytes();
-        start..start + self.block.used
+        self.block.content_from(self.offset)
     }
 }
 

@@ -217,3 +217,32 @@ fn content_of_an_opened_block_is_a_file() {
         }
     });
 }
+
+#[test]
+fn content_is_the_same_in_the_outermost_and_in_its_own_file() {
+    each_real_file(|file| {
+        let Ok(records) = Records::read(file) else {
+            return;
+        };
+        // The offset of each file that is being walked, the outermost first.
+        let mut files = vec![0];
+        for record in &records {
+            files.truncate(usize::from(record.depth) + 1);
+            let start = files[usize::from(record.depth)];
+            let (found, own) = (record.content(), record.block.content());
+            assert_eq!(found, start + own.start..start + own.end);
+            files.push(found.start);
+        }
+    });
+}
+
+#[test]
+fn index_is_good_at_the_end_of_the_last_block() {
+    each_real_file(|file| {
+        let Ok(index) = index_text(file) else { return };
+        let last = Records::read(file).unwrap().blocks().last().unwrap();
+        let mut file = file[..last.end()].to_vec();
+        file.extend(index);
+        assert_eq!(Layout::read(&file).unwrap().index, Verdict::Good);
+    });
+}
