@@ -11,7 +11,7 @@ const HEADER_SIZE_COUNTS_FROM: usize = 6;
 const STREAMED: u32 = 1;
 
 /// What is reported about a block in its own file.
-#[derive(Debug, Clone, Copy, PartialEq, Eq)]
+#[derive(Debug, Clone, Copy, PartialEq, Eq, Hash)]
 pub struct Block {
     /// The number of the block in its file, counted from 0.
     pub ordinal: u8,

@@ -8,7 +8,7 @@ use std::ops::Range;
 /// What is reported about one file, without the files inside its blocks.
 ///
 /// Every end is exclusive, and every offset counts from the file's first byte.
-#[derive(Debug, Clone, PartialEq, Eq)]
+#[derive(Debug, Clone, Copy, PartialEq, Eq, Hash)]
 pub struct Layout {
     /// The version of the file format, from the header line.
     pub version: Version,
@@ -26,8 +26,18 @@ pub struct Layout {
     pub index: Verdict,
 }
 
-/// The three numbers of a version.
-#[derive(Debug, Clone, Copy, PartialEq, Eq)]
+/// The three numbers of a version. An earlier version is less than a later one.
+///
+/// ```
+/// use asdf_layout::{Layout, Version};
+///
+/// let version = Layout::read(b"#ASDF 1.10.0\n")?.version;
+/// assert!(version > Version { major: 1, minor: 9, patch: 3 });
+/// assert_eq!(version.to_string(), "1.10.0");
+/// # Ok::<(), asdf_layout::Refusal>(())
+/// ```
+// The derived order compares the first field first, so the major number has to stay in front.
+#[derive(Debug, Clone, Copy, PartialEq, Eq, PartialOrd, Ord, Hash)]
 #[allow(missing_docs)]
 pub struct Version {
     pub major: u16,
@@ -50,7 +60,7 @@ pub struct Version {
 /// assert_eq!(index_text(&file)?, text);
 /// # Ok::<(), asdf_layout::Refusal>(())
 /// ```
-#[derive(Debug, Clone, Copy, PartialEq, Eq)]
+#[derive(Debug, Clone, Copy, PartialEq, Eq, Hash)]
 pub enum LineEnd {
     /// The byte 0A.
     Lf,
@@ -59,7 +69,7 @@ pub enum LineEnd {
 }
 
 /// Where the tree of a file is.
-#[derive(Debug, Clone, Copy, PartialEq, Eq)]
+#[derive(Debug, Clone, Copy, PartialEq, Eq, Hash)]
 pub struct Tree {
     /// The offset of the `%` in its first line.
     pub start: usize,
@@ -71,7 +81,7 @@ pub struct Tree {
 }
 
 /// The verdict on the block index, which may be written in brackets or with dashes.
-#[derive(Debug, Clone, Copy, PartialEq, Eq)]
+#[derive(Debug, Clone, Copy, PartialEq, Eq, Hash)]
 pub enum Verdict {
     /// There is no index.
     Absent,

@@ -22,13 +22,13 @@ const STORED_ROW_BYTES: usize = ROW_NUMBERS * NUMBER_BYTES;
 /// assert_eq!(rows, ["0 0 12 48 9 7 0 0 0 0"]);
 /// # Ok::<(), asdf_layout::Refusal>(())
 /// ```
-#[derive(Debug, Clone, PartialEq, Eq)]
+#[derive(Debug, Clone, PartialEq, Eq, Hash)]
 pub struct Outline<'a> {
     bytes: Cow<'a, [u8]>,
 }
 
 /// A row of an outline.
-#[derive(Debug, Clone, Copy, PartialEq, Eq)]
+#[derive(Debug, Clone, Copy, PartialEq, Eq, Hash)]
 pub struct Row {
     /// How many files surround the block's own file.
     pub depth: u8,
@@ -53,7 +53,7 @@ pub struct Row {
 }
 
 /// Whether a block's content is itself a file, without the reason if it is refused.
-#[derive(Debug, Clone, Copy, PartialEq, Eq)]
+#[derive(Debug, Clone, Copy, PartialEq, Eq, Hash)]
 pub enum InnerState {
     /// The content is not a file.
     Plain = 0,

@@ -16,7 +16,7 @@ pub fn row_count(file: &[u8]) -> Result<u64, Refusal> {
 }
 
 /// What is reported about a block among all blocks of an outermost file.
-#[derive(Debug, Clone, Copy, PartialEq, Eq)]
+#[derive(Debug, Clone, Copy, PartialEq, Eq, Hash)]
 pub struct Record {
     /// How many files surround the block's own file.
     pub depth: u8,
@@ -29,7 +29,7 @@ pub struct Record {
 }
 
 /// Whether a block's content is itself a file.
-#[derive(Debug, Clone, Copy, PartialEq, Eq)]
+#[derive(Debug, Clone, Copy, PartialEq, Eq, Hash)]
 pub enum Inner {
     /// The content is not a file.
     Plain,
@@ -56,7 +56,7 @@ pub enum Inner {
 /// assert!(Records::read(b"#ASDF 1.0.0\n")?.is_empty());
 /// # Ok::<(), asdf_layout::Refusal>(())
 /// ```
-#[derive(Debug, Clone)]
+#[derive(Debug, Clone, PartialEq, Eq, Hash)]
 pub struct Records {
     bytes: Vec<u8>,
 }
