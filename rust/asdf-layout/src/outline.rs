@@ -14,8 +14,8 @@ const STORED_ROW_BYTES: usize = ROW_NUMBERS * NUMBER_BYTES;
 /// ```
 /// use asdf_layout::Outline;
 ///
-/// let stored = Outline::of_file(b"#ASDF 1.0.0\n")?.as_bytes().to_vec();
-/// assert_eq!(Outline::read(&stored)?.rows().count(), 0);
+/// let stored: Vec<u8> = Outline::of_file(b"#ASDF 1.0.0\n")?.into_bytes();
+/// assert_eq!(Outline::read(&stored)?.rows().len(), 0);
 ///
 /// let row = [0, 0, 0, 0x30, 0, 0, 0, 0x0C, 0, 0, 0, 9, 0, 0, 0, 7];
 /// let rows: Vec<String> = Outline::read(&row)?.rows().map(|row| row.to_string()).collect();
@@ -94,8 +94,26 @@ impl<'a> Outline<'a> {
         &self.bytes
     }
 
+    /// Returns the bytes to be stored, as bytes of their own. Those of an outline that was read are
+    /// copied, those of any other are not.
+    ///
+    /// ```
+    /// use asdf_layout::Outline;
+    ///
+    /// let mut file = b"#ASDF 1.0.0\n\xD3BLK\0\x30".to_vec();
+    /// file.extend([0; 48]);
+    /// let stored = Outline::of_file(&file)?.into_bytes();
+    /// assert_eq!(stored, [0, 0, 0, 0x30, 0, 0, 0, 0x0C, 0, 0, 0, 0, 0, 0, 0, 0]);
+    /// # Ok::<(), asdf_layout::Refusal>(())
+    /// ```
+    pub fn into_bytes(self) -> Vec<u8> {
+        self.bytes.into_owned()
+    }
+
     /// Returns the rows, in walking order. Each call judges the outline again.
-    pub fn rows(&self) -> impl Iterator<Item = Row> {
+    ///
+    /// The iterator knows how many rows are left and can be read from both ends.
+    pub fn rows(&self) -> impl DoubleEndedIterator<Item = Row> + ExactSizeIterator {
         let count = self.bytes.len() / ROW_BYTES;
         let ask = |out: &mut [u8]| asdf_sys::stored_rows(&self.bytes, out);
         let rows = written(count * STORED_ROW_BYTES, ask);

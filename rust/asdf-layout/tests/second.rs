@@ -180,7 +180,15 @@ fn outlines_and_their_rows_are_the_same() {
             .map(|outline| outline.rows().collect::<Vec<_>>());
         assert_eq!(found, told);
         let Ok(outline) = outline else { return };
+        let told = told.unwrap();
+        assert_eq!(outline.rows().len(), told.len());
+        assert!(outline.rows().rev().eq(told.into_iter().rev()));
+        assert_eq!(outline.clone().into_bytes(), outline.as_bytes());
         let stored = Outline::read(outline.as_bytes());
+        assert_eq!(
+            stored.clone().map(Outline::into_bytes),
+            Ok(outline.as_bytes().to_vec())
+        );
         assert_eq!(stored, Ok(outline.clone()));
         assert_eq!(
             stored.and_then(|stored| stored.rewritten()),
