@@ -3,6 +3,7 @@
 use crate::answer::{answer, numbers, numbers_of, written_rows};
 use crate::{Block, Refusal};
 use asdf_sys::{NUMBER_BYTES, RECORD_NUMBERS};
+use std::fmt;
 use std::iter::Map;
 use std::ops::Range;
 use std::slice::ChunksExact;
@@ -28,7 +29,21 @@ pub struct Record {
     pub block: Block,
 }
 
-/// Whether a block's content is itself a file.
+/// Whether a block's content is itself a file. It prints as a few words.
+///
+/// ```
+/// use asdf_layout::Records;
+///
+/// // A header line, and a streamed block whose content is a file of another version.
+/// let mut file = b"#ASDF 1.0.0\n\xD3BLK\0\x30\0\0\0\x01".to_vec();
+/// file.extend([0; 44]);
+/// file.extend(b"#ASDF 2.0.0\n");
+/// for record in &Records::read(&file)? {
+///     let words = "a file, refused: first version number is not 1, at 6 (refusal 4)";
+///     assert_eq!(record.inner.to_string(), words);
+/// }
+/// # Ok::<(), asdf_layout::Refusal>(())
+/// ```
 #[derive(Debug, Clone, Copy, PartialEq, Eq, Hash)]
 pub enum Inner {
     /// The content is not a file.
@@ -180,6 +195,43 @@ impl Inner {
                 place,
             }),
             _ => Inner::TooDeep,
+        }
+    }
+}
+
+impl fmt::Display for Inner {
+    /// Writes the words that the tool's listing for people uses.
+    fn fmt(&self, f: &mut fmt::Formatter<'_>) -> fmt::Result {
+        match self {
+            Inner::Plain => f.write_str("plain"),
+            Inner::Opened => f.write_str("a file, opened"),
+            Inner::Refused(refusal) => write!(f, "a file, refused: {refusal}"),
+            Inner::TooDeep => f.write_str("a file, too deep to be read"),
+        }
+    }
+}
+
+#[cfg(test)]
+mod tests {
+    use super::*;
+
+    #[test]
+    fn inner_state_is_told_in_a_few_words() {
+        let refusal = Refusal {
+            number: Refusal::VERSION_NOT_ONE,
+            place: 6,
+        };
+        let told = [
+            (Inner::Plain, "plain"),
+            (Inner::Opened, "a file, opened"),
+            (
+                Inner::Refused(refusal),
+                "a file, refused: first version number is not 1, at 6 (refusal 4)",
+            ),
+            (Inner::TooDeep, "a file, too deep to be read"),
+        ];
+        for (inner, words) in told {
+            assert_eq!(inner.to_string(), words);
         }
     }
 }
