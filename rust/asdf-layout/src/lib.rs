@@ -36,10 +36,12 @@
 //! | the header, the comments, the tree and the verdict on the index | [`Layout::read`] |
 //! | one block of the file itself | [`Block::read`] |
 //! | every block, including those of inner files, with all that is known about it | [`Records::read`] |
+//! | where a block's content is, in the outermost file or in the block's own | [`Record::content`], [`Block::content`] |
 //! | sixteen bytes for each block, to be stored | [`Outline::of_file`] |
 //! | the rows of a stored outline | [`Outline::read`] |
 //! | the text of a block index | [`index_text`] |
 //! | another tree in place of the old one | [`edit`] |
+//! | every reason for a refusal, in words | [`REASONS`] |
 
 #![forbid(unsafe_code)]
 #![warn(missing_docs)]
