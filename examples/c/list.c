@@ -1,10 +1,15 @@
 /* Lists an ASDF file: where the tree is, a line for each block, and the verdict on the index.
  *
  * The status is 0 if the file is accepted. If it is refused, the status is 1, and the number and the place of the
- * refusal are printed instead of the listing. If the file cannot be read, the status is 2. */
+ * refusal are printed instead of the listing. If the file cannot be read or the listing cannot be written, the status
+ * is 2, and a sentence on standard error says so. */
+#define _POSIX_C_SOURCE 200809L /* C alone does not have SIGPIPE and EPIPE. */
+
 #include "asdf_layout.h"
 
+#include <errno.h>
 #include <inttypes.h>
+#include <signal.h>
 #include <stdio.h>
 #include <stdlib.h>
 
@@ -32,50 +37,56 @@ static uint8_t *read_file(const char *name, size_t *length)
     return bytes;
 }
 
+/* Ends the output. `printed` is what the last printf returned, and `status` is the status if everything is written. */
+static int finished(int printed, int status)
+{
+    /* printf may only have filled a buffer, so fflush has the last word. A reader that closes the pipe, as head does,
+     * has read enough: that is no failure. */
+    if ((printed >= 0 && fflush(stdout) == 0) || errno == EPIPE)
+        return status;
+    perror("list: cannot write to standard output");
+    return 2;
+}
+
 /* Prints a refusal and returns the status for it. */
 static int refused(uint64_t word)
 {
-    printf("refused %d %" PRIu64 "\n", ASDF_REFUSAL_NUMBER(word), ASDF_REFUSAL_PLACE(word));
-    return 1;
+    return finished(printf("refused %d %" PRIu64 "\n", ASDF_REFUSAL_NUMBER(word), ASDF_REFUSAL_PLACE(word)), 1);
 }
 
+/* The functions that print return a negative number if that fails, as printf does. */
+
 /* Prints where the tree is. */
-static void print_tree(const uint8_t *layout)
+static int print_tree(const uint8_t *layout)
 {
     if (asdf_number(layout, ASDF_LAYOUT_HAS_TREE) == 0)
-        printf("tree none\n");
-    else
-        printf("tree %" PRIu64 " %" PRIu64 "\n", asdf_number(layout, ASDF_LAYOUT_TREE_START),
-               asdf_number(layout, ASDF_LAYOUT_TREE_END));
+        return printf("tree none\n");
+    return printf("tree %" PRIu64 " %" PRIu64 "\n", asdf_number(layout, ASDF_LAYOUT_TREE_START),
+                  asdf_number(layout, ASDF_LAYOUT_TREE_END));
 }
 
 /* Prints the line of a block. */
-static void print_record(const uint8_t *record)
+static int print_record(const uint8_t *record)
 {
     const uint8_t *block = record + 8 * ASDF_RECORD_BLOCK;
     uint64_t checksum = asdf_number(block, ASDF_BLOCK_CHECKSUM_HIGH) | asdf_number(block, ASDF_BLOCK_CHECKSUM_LOW);
-    printf("%" PRIu64 " %" PRIu64 " %" PRIu64 " %" PRIu64 " %" PRIu64 " %" PRIu64 " %d %d %d %" PRIu64 "\n",
-           asdf_number(record, ASDF_RECORD_DEPTH), asdf_number(block, ASDF_BLOCK_ORDINAL),
-           asdf_number(record, ASDF_RECORD_OFFSET), asdf_number(block, ASDF_BLOCK_HEADER_SIZE),
-           asdf_number(block, ASDF_BLOCK_ALLOCATED), asdf_number(block, ASDF_BLOCK_USED),
-           (int)(asdf_number(block, ASDF_BLOCK_FLAGS) & 1), asdf_number(block, ASDF_BLOCK_COMPRESSION) != 0,
-           checksum != 0, asdf_number(record, ASDF_RECORD_INNER));
+    return printf("%" PRIu64 " %" PRIu64 " %" PRIu64 " %" PRIu64 " %" PRIu64 " %" PRIu64 " %d %d %d %" PRIu64 "\n",
+                  asdf_number(record, ASDF_RECORD_DEPTH), asdf_number(block, ASDF_BLOCK_ORDINAL),
+                  asdf_number(record, ASDF_RECORD_OFFSET), asdf_number(block, ASDF_BLOCK_HEADER_SIZE),
+                  asdf_number(block, ASDF_BLOCK_ALLOCATED), asdf_number(block, ASDF_BLOCK_USED),
+                  (int)(asdf_number(block, ASDF_BLOCK_FLAGS) & 1), asdf_number(block, ASDF_BLOCK_COMPRESSION) != 0,
+                  checksum != 0, asdf_number(record, ASDF_RECORD_INNER));
 }
 
-/* Prints the lines of all blocks, including those of inner files. Returns 0, or a refusal. */
-static uint64_t print_records(const uint8_t *file, size_t length)
+/* Prints a listing, with the lines of all blocks, including those of inner files. */
+static int print_listing(const uint8_t *layout, const uint8_t *records, uint64_t count)
 {
-    uint64_t count = asdf_count(file, length);
-    if (ASDF_IS_REFUSAL(count))
-        return count;
-    uint8_t *records = malloc(count * ASDF_RECORD_BYTES + 1);
-    if (records == NULL)
-        abort();
-    uint64_t written = asdf_records(file, length, records, count * ASDF_RECORD_BYTES);
-    for (uint64_t k = 0; !ASDF_IS_REFUSAL(written) && k < count; k++)
-        print_record(records + k * ASDF_RECORD_BYTES);
-    free(records);
-    return ASDF_IS_REFUSAL(written) ? written : 0;
+    int printed = print_tree(layout);
+    for (uint64_t k = 0; printed >= 0 && k < count; k++)
+        printed = print_record(records + k * ASDF_RECORD_BYTES);
+    if (printed < 0)
+        return printed;
+    return printf("index %s\n", VERDICTS[asdf_number(layout, ASDF_LAYOUT_VERDICT)]);
 }
 
 /* Prints the listing of a file with these bytes, and returns the status. */
@@ -85,12 +96,21 @@ static int list(const uint8_t *file, size_t length)
     uint64_t word = asdf_read(file, length, layout, sizeof layout);
     if (ASDF_IS_REFUSAL(word))
         return refused(word);
-    print_tree(layout);
-    word = print_records(file, length);
-    if (ASDF_IS_REFUSAL(word))
-        return refused(word);
-    printf("index %s\n", VERDICTS[asdf_number(layout, ASDF_LAYOUT_VERDICT)]);
-    return 0;
+    uint64_t count = asdf_count(file, length);
+    if (ASDF_IS_REFUSAL(count))
+        return refused(count);
+
+    /* An accepted file has fewer than 2^32 bytes, and a block at least 54. So this product is far below SIZE_MAX. */
+    size_t size = count * ASDF_RECORD_BYTES;
+    uint8_t *records = malloc(size + 1);
+    if (records == NULL) {
+        fprintf(stderr, "list: there is not enough memory for the records\n");
+        return 2;
+    }
+    word = asdf_records(file, length, records, size);
+    int status = ASDF_IS_REFUSAL(word) ? refused(word) : finished(print_listing(layout, records, count), 0);
+    free(records);
+    return status;
 }
 
 int main(int count, char **words)
@@ -99,6 +119,8 @@ int main(int count, char **words)
         fprintf(stderr, "usage: list FILE\n");
         return 2;
     }
+    /* Without this, a closed pipe would end the program. Now it makes printf or fflush fail with EPIPE. */
+    signal(SIGPIPE, SIG_IGN);
     size_t length = 0;
     uint8_t *file = read_file(words[1], &length);
     if (file == NULL) {
