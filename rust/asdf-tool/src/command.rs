@@ -18,6 +18,7 @@ pub enum Command {
     ReadOutline { stored: PathBuf },
     Edit { file: PathBuf, tree: PathBuf },
     Restore { file: PathBuf },
+    SetAside { file: PathBuf },
 }
 
 /// The forms of a listing.
@@ -110,6 +111,9 @@ impl Words {
             ("edit", [], None) => Command::Edit {
                 file: next().filter(|file| !is_standard(file))?,
                 tree: next()?,
+            },
+            ("restore", ["--set-aside"], None) => Command::SetAside {
+                file: next().filter(|file| !is_standard(file))?,
             },
             ("restore", [], None) => Command::Restore {
                 file: next().filter(|file| !is_standard(file))?,

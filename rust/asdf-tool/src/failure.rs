@@ -57,6 +57,14 @@ impl Failure {
         self
     }
 
+    /// Adds the advice, if there is any.
+    pub fn with_advice_if(self, advice: Option<impl Display>) -> Failure {
+        match advice {
+            Some(advice) => self.with_advice(advice),
+            None => self,
+        }
+    }
+
     pub fn status(&self) -> ExitCode {
         ExitCode::from(self.status)
     }

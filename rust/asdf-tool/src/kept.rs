@@ -1,33 +1,80 @@
-//! The old room of a file that is being edited, kept in a second file beside it until the edit is
-//! finished.
+//! The old room of a file that is being edited, kept in a second file beside it until the edit is finished.
 //!
-//! The second file holds a line with three numbers (where the room begins, its length, the length
-//! of the file) and the room's bytes. It is first written under another name. So if it has its
-//! final name, it is complete and on the disk.
+//! The second file is first written under another name, and gets its own name only when it is complete and on the disk. So if
+//! it is there, the file may be half edited; if it is not, the file is whole. What is found under that name may also be a
+//! stranger's, so it is believed only if nobody but the caller, the file's owner or root can have written it.
 
+use crate::change::Change;
+use crate::digest::Digest;
 use crate::failure::Failure;
 use crate::names::{quoted, shown};
 use crate::steps::Steps;
-use crate::target::{sync_folder, write_at, Target};
-use asdf_system::Map;
-use std::fs::{self, File, OpenOptions};
-use std::io::{self, ErrorKind};
-use std::ops::Range;
-use std::os::unix::fs::OpenOptionsExt;
+use crate::target::{is_same, write_at, Target, UNCHANGED};
+use asdf_system::{caller, name_of};
+use std::ffi::{OsStr, OsString};
+use std::fs::{self, File, Metadata};
+use std::io::{self, ErrorKind, Read};
+use std::os::unix::ffi::{OsStrExt, OsStringExt};
+use std::os::unix::fs::{FileExt, FileTypeExt, MetadataExt};
 use std::path::{Path, PathBuf};
 
-/// The final name of the kept room is the name of the file with this suffix.
+/// What the name of a kept room has after the name of its file.
 const SUFFIX: &str = ".old-room";
-/// The suffix while the kept room is being written.
-const UNFINISHED_SUFFIX: &str = ".old-room.part";
-/// The word before the three numbers.
-const WORD: &str = "asdf-layout-room";
+/// The suffix while it is being written.
+const PART_SUFFIX: &str = ".old-room.part";
+/// The longest suffix. A kept room that is set aside has a number of up to four digits and a point in the place of `.part`.
+const LONGEST_SUFFIX: usize = PART_SUFFIX.len();
+/// The last number of a kept room that is set aside.
+const MOST_ASIDE: u32 = 9_999;
+/// The longest name of a file that Linux allows, in bytes.
+const LONGEST_NAME: usize = 255;
+/// How many digits of its digest a long name gets in the place of its end.
+const DIGITS: usize = 16;
 /// Only the owner may read the kept room, because the file itself may be private.
 const MODE: u32 = 0o600;
+/// The rights of others to write.
+const WRITABLE_BY_OTHERS: u32 = 0o022;
+const ROOT: u32 = 0;
 
-/// Whether an edit of this file was not finished: then its old room is kept beside it.
-pub fn is_beside(path: &Path) -> bool {
-    fs::canonicalize(path).is_ok_and(|path| beside(&path, SUFFIX).exists())
+/// What has the name of a kept room.
+pub enum Beside {
+    Nothing,
+    /// It can be believed. Whether it fits the file is not known yet.
+    Kept(Box<Change>),
+    /// It cannot be believed, for this reason, which follows its name in a sentence.
+    Strange(String),
+}
+
+/// Returns the name of a file with a suffix. The end of a name that is too long for that is replaced by a digest.
+fn with_suffix(name: &OsStr, suffix: &str) -> OsString {
+    let name = name.as_bytes();
+    let mut stem = name.to_vec();
+    if name.len() + LONGEST_SUFFIX > LONGEST_NAME {
+        let digest = Digest::of(&[name]);
+        let mut kept = LONGEST_NAME - LONGEST_SUFFIX - DIGITS - 1;
+        // A character of several bytes is not cut.
+        while kept > 0 && name[kept] & 0xC0 == 0x80 {
+            kept -= 1;
+        }
+        stem.truncate(kept);
+        stem.push(b'~');
+        stem.extend(&digest.as_bytes()[..DIGITS]);
+    }
+    stem.extend(suffix.as_bytes());
+    OsString::from_vec(stem)
+}
+
+/// Returns the path of the kept room of a target, for messages.
+pub fn path_for(target: &Target) -> PathBuf {
+    target.beside(&with_suffix(&target.name(), SUFFIX))
+}
+
+/// Returns what to tell someone who reads the file at this path, if its old room seems to be kept.
+pub fn warning(path: &Path) -> Option<String> {
+    let file = fs::canonicalize(path).ok()?;
+    let kept = file.with_file_name(with_suffix(file.file_name()?, SUFFIX));
+    fs::symlink_metadata(kept).ok()?;
+    Some(unfinished(path))
 }
 
 /// Returns the sentence that reports an edit that was not finished.
@@ -40,160 +87,245 @@ pub fn unfinished(path: &Path) -> String {
     )
 }
 
-/// Returns the path with a suffix after its name.
-fn beside(path: &Path, suffix: &str) -> PathBuf {
-    let mut name = path.as_os_str().to_owned();
-    name.push(suffix);
-    name.into()
+/// Returns the advice for a kept room that cannot be used.
+pub fn way_out(target: &Target) -> String {
+    format!(
+        "if {} is good as it is, `asdf-layout restore --set-aside {}` moves {} out of the way",
+        target.shown(),
+        quoted(&target.given),
+        shown(&path_for(target))
+    )
 }
 
-/// The kept room of a file.
-pub struct Kept {
-    path: PathBuf,
-    bytes: Map,
-    room: Range<usize>,
-    file_length: usize,
+/// Finds out what has the name of the kept room. Nothing is followed or waited for.
+pub fn look_beside(target: &Target) -> Result<Beside, Failure> {
+    let name = with_suffix(&target.name(), SUFFIX);
+    let failed = |error| Failure::at("cannot look at", &path_for(target), error);
+    let Some(found) = target.folder.look_at(&name).map_err(failed)? else {
+        return Ok(Beside::Nothing);
+    };
+    let found = found.metadata().map_err(failed)?;
+    if let Some(reason) = why_not_believed(&found, target) {
+        return Ok(Beside::Strange(reason));
+    }
+    let opened = target.folder.open_to_read(&name);
+    let opened = opened.and_then(|file| Ok((file.metadata()?, file)));
+    match opened {
+        Err(error) if error.kind() == ErrorKind::PermissionDenied => {
+            let owner = owner(&found);
+            let reason = format!("belongs to {owner}, who can restore the old tree");
+            Ok(Beside::Strange(reason))
+        }
+        Err(error) => Err(failed(error)),
+        // What was opened may be another file than the one that was looked at.
+        Ok((metadata, file)) => match why_not_believed(&metadata, target) {
+            Some(reason) => Ok(Beside::Strange(reason)),
+            None => read(file).map_err(failed),
+        },
+    }
 }
 
-/// Keeps the room of a file. When this returns without a failure, the kept room is on the disk.
-pub fn keep(target: &Target, room: Range<usize>, steps: &mut Steps) -> Result<(), Failure> {
-    let part = beside(&target.path, UNFINISHED_SUFFIX);
-    let path = beside(&target.path, SUFFIX);
-    let kept = write_part(target, room, &part, steps).and_then(|()| give_name(&part, &path, steps));
-    kept.map_err(|error| {
-        // An incomplete kept room is of no use, and it may be long.
-        let _ = fs::remove_file(&part);
-        let failure = Failure::at("cannot keep the old tree in", &path, error);
-        failure.with_advice("the file itself was not changed")
+/// Returns why something cannot be a kept room that the caller may believe, if there is a reason.
+fn why_not_believed(found: &Metadata, target: &Target) -> Option<String> {
+    let kind = found.file_type();
+    if !kind.is_file() {
+        let kind = match () {
+            () if kind.is_symlink() => "a symbolic link",
+            () if kind.is_dir() => "a folder",
+            () if kind.is_fifo() => "a pipe",
+            () => "not a regular file",
+        };
+        return Some(format!("is {kind}, which no edit makes"));
+    }
+    let owner = owner(found);
+    if ![caller(), target.metadata().uid(), ROOT].contains(&found.uid()) {
+        return Some(format!(
+            "belongs to {owner} and is not believed; {owner} can restore the old tree"
+        ));
+    }
+    if found.mode() & WRITABLE_BY_OTHERS != 0 {
+        return Some(format!(
+            "could be written by others than its owner and is not believed; its owner is {owner}"
+        ));
+    }
+    if found.nlink() != 1 {
+        return Some("has several names, which no edit gives it".to_string());
+    }
+    None
+}
+
+/// Returns the owner of a file, by name if the system knows it.
+fn owner(file: &Metadata) -> String {
+    let user = file.uid();
+    match name_of(user) {
+        Some(name) => shown(Path::new(&name)),
+        None => format!("user {user}"),
+    }
+}
+
+/// Reads a kept room as a whole, once, and judges what was read.
+fn read(mut file: File) -> io::Result<Beside> {
+    let mut stored = Vec::new();
+    file.read_to_end(&mut stored)?;
+    let damaged = || {
+        let reason = "is damaged, or another version of this tool wrote it";
+        Beside::Strange(reason.to_string())
+    };
+    let change = Change::parse(&stored);
+    // A room that is not inside the file belongs to no edit of it.
+    let change = change.filter(|change| change.room().end as u64 <= change.length);
+    Ok(change.map_or_else(damaged, |change| Beside::Kept(Box::new(change))))
+}
+
+/// Says why a kept room does not belong to the file as it is, if that is so.
+pub fn why_other_file(change: &Change, target: &Target) -> Option<String> {
+    let now = target.metadata();
+    let device = match change.device == now.dev() {
+        true => "",
+        false => ", perhaps on another device",
+    };
+    if change.inode != now.ino() {
+        return Some(format!(
+            "is about another file that had this name before{device}: \
+             it has the inode {}, and this one {}",
+            change.inode,
+            now.ino()
+        ));
+    }
+    if change.length != now.len() {
+        return Some(format!(
+            "is about a file of {} bytes, and this one has {}",
+            change.length,
+            now.len()
+        ));
+    }
+    None
+}
+
+/// Keeps the old room of a file. When this returns without a failure, it is on the disk under its name.
+pub fn keep(target: &Target, change: &Change, steps: &mut Steps) -> Result<(), Failure> {
+    let (part, kept) = (
+        with_suffix(&target.name(), PART_SUFFIX),
+        with_suffix(&target.name(), SUFFIX),
+    );
+    remove_part(target)?;
+    let failed = |error| {
+        // Neither is of any use, because the file has not changed.
+        let _ = target.folder.remove(&part);
+        let failure = Failure::at("cannot keep the old tree in", &path_for(target), error);
+        failure.with_advice(UNCHANGED)
+    };
+    let written = write_part(target, change, &part, steps).map_err(failed)?;
+    let named = steps.run(|| target.folder.rename_to_new(&part, &kept));
+    named.map_err(failed)?;
+    let safe = steps.run(|| target.folder.sync(&target.file));
+    safe.map_err(|error| {
+        let _ = target.folder.remove(&kept);
+        failed(error)
+    })?;
+    has_name(target, &kept, &written).map_err(failed)
+}
+
+/// Removes what a stopped edit left while it was writing. It is of no use, because that edit did not change the file. Returns
+/// whether there was anything.
+pub fn remove_part(target: &Target) -> Result<bool, Failure> {
+    let part = with_suffix(&target.name(), PART_SUFFIX);
+    match target.folder.remove(&part) {
+        Ok(()) => Ok(true),
+        Err(error) if error.kind() == ErrorKind::NotFound => Ok(false),
+        Err(error) => {
+            let part = target.beside(&part);
+            let failure = Failure::at("cannot remove", &part, error).with_advice(UNCHANGED);
+            Err(failure.with_advice("move it away by hand, because an edit needs its name"))
+        }
+    }
+}
+
+/// Writes the kept room under its first name, and brings it to the disk.
+fn write_part(
+    target: &Target,
+    change: &Change,
+    part: &OsStr,
+    steps: &mut Steps,
+) -> io::Result<File> {
+    let file = steps.run(|| target.folder.create(part, MODE))?;
+    let lines = change.lines();
+    let mut place = 0;
+    for bytes in [lines.as_bytes(), &change.old, &change.new] {
+        write_at(&file, bytes, place, steps)?;
+        place += bytes.len() as u64;
+    }
+    steps.run(|| file.sync_all())?;
+    Ok(file)
+}
+
+/// Makes sure that the name is that of the file that was written, and not of one that somebody else put there.
+fn has_name(target: &Target, name: &OsStr, written: &File) -> io::Result<()> {
+    let named = target.folder.look_at(name)?;
+    let is_ours = match named {
+        Some(named) => is_same(&named.metadata()?, &written.metadata()?),
+        None => false,
+    };
+    match is_ours {
+        true => Ok(()),
+        false => Err(io::Error::other(
+            "another program removed or replaced it at once",
+        )),
+    }
+}
+
+/// Removes the kept room of a file that is whole again. `holds` says what the file has now.
+pub fn remove(target: &Target, holds: &str, steps: &mut Steps) -> Result<(), Failure> {
+    let kept = path_for(target);
+    let file = target.shown();
+    let removed = steps.run(|| target.folder.remove(&with_suffix(&target.name(), SUFFIX)));
+    removed.map_err(|error| {
+        let failure = Failure::at("cannot remove", &kept, error);
+        failure.with_advice(format_args!("{file} {holds}; {}", way_out(target)))
+    })?;
+    let safe = steps.run(|| target.folder.sync(&target.file));
+    safe.map_err(|error| {
+        let kept = shown(&kept);
+        let failure = Failure::system(
+            format_args!("{kept} was removed, but perhaps not on the disk"),
+            error,
+        );
+        let back = format!(
+            "if {kept} is there again after a restart, {}",
+            way_out(target)
+        );
+        failure.with_advice(format_args!("{file} {holds}; {back}"))
     })
 }
 
-/// Gives the kept room its final name, and brings the name to the disk.
-fn give_name(part: &Path, path: &Path, steps: &mut Steps) -> io::Result<()> {
-    fs::rename(part, path)?;
-    steps.done();
-    sync_folder(path)?;
-    steps.done();
-    Ok(())
-}
-
-/// Writes the kept room under its first name.
-fn write_part(
-    target: &Target,
-    room: Range<usize>,
-    part: &Path,
-    steps: &mut Steps,
-) -> io::Result<()> {
-    // What a stopped edit left under this name is of no use, because that edit did not change the
-    // file.
-    remove_if_there(part)?;
-    let bytes = Map::of_file(&target.file)?;
-    let line = line(&room, bytes.len());
-    let file = OpenOptions::new()
-        .write(true)
-        .create_new(true)
-        .mode(MODE)
-        .open(part)?;
-    write_at(&file, line.as_bytes(), 0, steps)?;
-    write_at(&file, &bytes[room], line.len() as u64, steps)?;
-    file.sync_all()?;
-    steps.done();
-    Ok(())
-}
-
-/// Returns the line before the bytes of the room.
-fn line(room: &Range<usize>, file_length: usize) -> String {
-    format!("{WORD} {} {} {file_length}\n", room.start, room.len())
-}
-
-/// Removes a file if it exists.
-fn remove_if_there(path: &Path) -> io::Result<()> {
-    match fs::remove_file(path) {
-        Err(error) if error.kind() == ErrorKind::NotFound => Ok(()),
-        result => result,
-    }
-}
-
-/// Removes the kept room of a file that is whole again.
-pub fn remove(target: &Target, steps: &mut Steps) -> Result<(), Failure> {
-    let path = beside(&target.path, SUFFIX);
+/// Moves what has the name of the kept room out of the way, and returns where it is now.
+pub fn set_aside(target: &Target) -> Result<PathBuf, Failure> {
+    let kept = with_suffix(&target.name(), SUFFIX);
     let failed = |error| {
-        let (file, kept) = (target.path.display(), path.display());
-        let advice = format!("{file} is complete, so remove {kept} by hand if it still exists");
-        Failure::at("cannot remove", &path, error).with_advice(advice)
+        let failure = Failure::at("cannot move", &path_for(target), error);
+        let found = target.folder.look_at(&kept).ok().flatten();
+        match found.and_then(|found| found.metadata().ok()) {
+            Some(found) => failure.with_advice(format_args!("it belongs to {}", owner(&found))),
+            None => failure,
+        }
     };
-    fs::remove_file(&path).map_err(failed)?;
-    steps.done();
-    sync_folder(&path).map_err(failed)?;
-    steps.done();
-    Ok(())
+    for number in 1..=MOST_ASIDE {
+        let aside = with_suffix(&target.name(), &format!("{SUFFIX}.{number}"));
+        match target.folder.rename_to_new(&kept, &aside) {
+            Err(error) if error.kind() == ErrorKind::AlreadyExists => continue,
+            result => result.and_then(|()| target.folder.sync(&target.file)),
+        }
+        .map_err(failed)?;
+        return Ok(target.beside(&aside));
+    }
+    Err(failed(ErrorKind::AlreadyExists.into()))
 }
 
-impl Kept {
-    /// Reads the kept room of a file, if there is one.
-    pub fn read(target: &Target) -> Result<Option<Kept>, Failure> {
-        let path = beside(&target.path, SUFFIX);
-        let opened = File::open(&path).and_then(|file| Map::of_file(&file));
-        match opened {
-            Err(error) if error.kind() == ErrorKind::NotFound => Ok(None),
-            Err(error) => Err(Failure::at("cannot read", &path, error)),
-            Ok(bytes) => Kept::parse(path, bytes).map(Some),
-        }
-    }
-
-    /// Reads what a kept room states. Its form has to be exact.
-    fn parse(path: PathBuf, bytes: Map) -> Result<Kept, Failure> {
-        let kept = numbers(&bytes).and_then(|[start, length, file_length]| {
-            let room = start..start.checked_add(length)?;
-            let whole = line(&room, file_length).len().checked_add(length)?;
-            (whole == bytes.len()).then_some((room, file_length))
-        });
-        match kept {
-            Some((room, file_length)) => Ok(Kept {
-                path,
-                bytes,
-                room,
-                file_length,
-            }),
-            None => Err(Failure::usage(format!(
-                "{0} is damaged or was not written by an edit; nothing was restored; \
-                 if the file is complete, remove {0} by hand",
-                path.display()
-            ))),
-        }
-    }
-
-    /// Returns where the room is in the file.
-    pub fn room(&self) -> Range<usize> {
-        self.room.clone()
-    }
-
-    /// Puts the old room into the file's bytes, if these are as many as they were. Returns whether
-    /// it did so.
-    pub fn put_into(&self, file: &mut [u8]) -> bool {
-        let old = &self.bytes[self.bytes.len() - self.room.len()..];
-        let fits = file.len() == self.file_length && self.room.end <= file.len();
-        if fits {
-            file[self.room()].copy_from_slice(old);
-        }
-        fits
-    }
-
-    /// Reports that this kept room does not fit the file.
-    pub fn of_another_file(&self, target: &Target) -> Failure {
-        let (path, file) = (self.path.display(), target.path.display());
-        Failure::usage(format!(
-            "{path} does not fit {file}, which may have changed since the edit; \
-             nothing was restored; if {file} is complete, remove {path} by hand"
-        ))
-    }
-}
-
-/// Reads the three numbers of the first line.
-fn numbers(bytes: &[u8]) -> Option<[usize; 3]> {
-    let end = bytes.iter().position(|&byte| byte == b'\n')?;
-    let line = str::from_utf8(&bytes[..end]).ok()?;
-    let numbers = line.strip_prefix(WORD)?.split_whitespace();
-    let numbers: Option<Vec<usize>> = numbers.map(|number| number.parse().ok()).collect();
-    numbers?.try_into().ok()
+/// Reads the room of the file as it is now.
+pub fn present_room(change: &Change, target: &Target) -> Result<Vec<u8>, Failure> {
+    let mut bytes = vec![0; change.old.len()];
+    let read = target.file.read_exact_at(&mut bytes, change.start as u64);
+    let failed = |error| Failure::at("cannot read", &target.given, error).with_advice(UNCHANGED);
+    read.map_err(failed)?;
+    Ok(bytes)
 }

@@ -3,12 +3,17 @@
 
 #![forbid(unsafe_code)]
 
+mod change;
 mod command;
+mod digest;
 mod edit;
 mod failure;
 mod help;
+#[cfg(feature = "hooks")]
+mod hooks;
 mod json;
 mod kept;
+mod memory;
 mod names;
 mod plain;
 mod source;
@@ -50,6 +55,7 @@ fn run(command: Command) -> Result<(), Failure> {
         Command::ReadOutline { stored } => print_outline(&Source::whole(&stored)?),
         Command::Edit { file, tree } => edit::edit(&file, &Source::whole(&tree)?),
         Command::Restore { file } => edit::restore(&file),
+        Command::SetAside { file } => set_aside(&file),
     }
 }
 
@@ -112,6 +118,12 @@ fn write_outline(source: &Source, out: &Path) -> Result<(), Failure> {
         ));
     }
     fs::write(out, outline.as_bytes()).map_err(|error| Failure::at("cannot write", out, error))
+}
+
+/// Moves a kept room that cannot be restored out of the way, and says where it is.
+fn set_aside(file: &Path) -> Result<(), Failure> {
+    let (kept, aside) = edit::set_aside(file)?;
+    print(format!("{} is now {}\n", names::shown(&kept), names::shown(&aside)).as_bytes())
 }
 
 /// Prints the rows of a stored outline.

@@ -1,19 +1,26 @@
-//! The bytes of a file or of standard input.
+//! The bytes of a file or of standard input, which stand still while they are read.
 
-use crate::failure::{self, Failure};
-use crate::{kept, names};
+use crate::failure::{note, Failure};
+use crate::kept;
+use crate::names::shown;
 use asdf_layout::Refusal;
-use asdf_system::Map;
-use std::fs::{self, File};
+use asdf_system::{input_was_closed, Filled, Sentences};
+use std::fs::{self, File, TryLockError};
 use std::io::{self, Read};
 use std::ops::Deref;
 use std::os::unix::fs::MetadataExt;
 use std::path::{Path, PathBuf};
+use std::thread::sleep;
+use std::time::{Duration, Instant};
 
 /// The word that means standard input or output.
 const STANDARD: &str = "-";
-/// A file of this length or more is refused, whatever it holds.
-const TOO_LONG: u64 = 1 << 32;
+/// A file of this length or more is refused, whatever it holds. So no more of it is ever looked at.
+pub const TOO_LONG: u64 = 1 << 32;
+/// A command that only reads waits so long for the end of an edit.
+const PATIENCE: Duration = Duration::from_secs(1);
+/// How long it waits before it tries again.
+const PAUSE: Duration = Duration::from_millis(10);
 
 /// Whether a path means standard input or output.
 pub fn is_standard(path: &Path) -> bool {
@@ -24,7 +31,7 @@ pub fn is_standard(path: &Path) -> bool {
 fn name(path: &Path) -> String {
     match is_standard(path) {
         true => "standard input".to_string(),
-        false => names::shown(path),
+        false => shown(path),
     }
 }
 
@@ -36,22 +43,20 @@ pub struct Source {
 
 /// How the bytes are held.
 enum Bytes {
-    /// They are mapped from a file. `Source::file` locks it against edits while it is open.
-    Mapped(Map, File),
+    /// They are filled from a file when they are touched. `Source::file` locks it against edits while it is open.
+    Filled(Filled, File),
     Read(Vec<u8>),
 }
 
 impl Source {
-    /// Opens an ASDF file. Waits until no edit of it is running, and warns if an edit was not
-    /// finished.
+    /// Opens an ASDF file. Waits for a while if an edit of it is running, and warns if an edit was not finished.
     pub fn file(path: &Path) -> Result<Source, Failure> {
         let source = Source::open(path, TOO_LONG)?;
-        if let Bytes::Mapped(_, file) = &source.bytes {
-            // If the file cannot be locked, it is read as it is.
-            let _ = file.lock_shared();
+        if let Bytes::Filled(_, file) = &source.bytes {
+            lock(path, file);
         }
-        if kept::is_beside(path) {
-            failure::note(format_args!("warning: {}", kept::unfinished(path)));
+        if let Some(warning) = kept::warning(path) {
+            note(format_args!("warning: {warning}"));
         }
         Ok(source)
     }
@@ -61,11 +66,12 @@ impl Source {
         Source::open(path, u64::MAX)
     }
 
-    /// Opens an input. If it cannot be mapped, it is read, but no more than `enough` bytes of it.
+    /// Opens an input, but takes no more than `enough` bytes of it.
     fn open(path: &Path, enough: u64) -> Result<Source, Failure> {
         let bytes = match is_standard(path) {
+            true if input_was_closed() => Err(io::Error::other("it is closed")),
             true => read(io::stdin(), enough),
-            false => File::open(path).and_then(|file| bytes_of(file, enough)),
+            false => File::open(path).and_then(|file| bytes_of(file, path, enough)),
         };
         let failed = |error| Failure::system(format_args!("cannot read {}", name(path)), error);
         Ok(Source {
@@ -85,6 +91,15 @@ impl Source {
         name(&self.path)
     }
 
+    /// Lets edits of the file go on. Call this when all that is wanted of the bytes is known, so that nobody waits for a
+    /// reader of the output.
+    pub fn release(&self) {
+        if let Bytes::Filled(_, file) = &self.bytes {
+            // If this fails, the lock ends with the process.
+            let _ = file.unlock();
+        }
+    }
+
     /// Whether these bytes are those of the file at `path`, even if its name differs.
     pub fn is_at(&self, path: &Path) -> bool {
         let identity = |path: &Path| fs::metadata(path).map(|file| (file.dev(), file.ino()));
@@ -100,18 +115,37 @@ impl Deref for Source {
 
     fn deref(&self) -> &[u8] {
         match &self.bytes {
-            Bytes::Mapped(map, _) => map,
+            Bytes::Filled(bytes, _) => bytes,
             Bytes::Read(bytes) => bytes,
         }
     }
 }
 
-/// Maps the bytes of an opened file, or reads them if it is not a regular file, such as a pipe.
-fn bytes_of(file: File, enough: u64) -> io::Result<Bytes> {
-    if !file.metadata()?.is_file() {
+/// Holds the bytes of an opened file, or reads them if it is not a regular file, such as a pipe. Some files of the system
+/// say that they have no bytes and can be read all the same.
+fn bytes_of(file: File, path: &Path, enough: u64) -> io::Result<Bytes> {
+    let metadata = file.metadata()?;
+    if !metadata.is_file() || metadata.len() == 0 {
         return read(file, enough);
     }
-    Ok(Bytes::Mapped(Map::of_file(&file)?, file))
+    let length = metadata.len().min(enough);
+    let bytes = filled(&file, length, &shown(path), "")?;
+    Ok(Bytes::Filled(bytes, file))
+}
+
+/// Holds the first bytes of a regular file, to be filled from it when they are touched. `advice` says what holds if the
+/// file cannot be read then.
+pub fn filled(file: &File, length: u64, name: &str, advice: &str) -> io::Result<Filled> {
+    let length = usize::try_from(length).map_err(io::Error::other)?;
+    let sentence = |what: &str| format!("asdf-layout: {what}{advice}\n");
+    let sentences = Sentences {
+        shortened: sentence(&format!("{name} became shorter while it was read")),
+        unreadable: sentence(&format!(
+            "cannot read {name}: its disk or file system failed"
+        )),
+        no_memory: sentence(&format!("there is not enough memory to read {name}")),
+    };
+    Filled::new(file, length, sentences)
 }
 
 /// Reads to the end, but no more than `enough` bytes.
@@ -119,4 +153,19 @@ fn read(input: impl Read, enough: u64) -> io::Result<Bytes> {
     let mut bytes = Vec::new();
     input.take(enough).read_to_end(&mut bytes)?;
     Ok(Bytes::Read(bytes))
+}
+
+/// Locks a file against edits. If an edit goes on for too long, or the file cannot be locked, it is read as it is.
+fn lock(path: &Path, file: &File) {
+    let begun = Instant::now();
+    while let Err(TryLockError::WouldBlock) = file.try_lock_shared() {
+        if begun.elapsed() >= PATIENCE {
+            let name = shown(path);
+            note(format_args!(
+                "warning: another program has locked {name} and may be editing it; it is read as it is"
+            ));
+            return;
+        }
+        sleep(PAUSE);
+    }
 }

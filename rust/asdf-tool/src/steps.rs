@@ -1,33 +1,38 @@
-//! The steps of a change to a file. A test can stop the tool after each of them.
+//! The steps of a change to a file. Tests build the tool with the feature `hooks`, in which a step can be made to fail, and the
+//! tool can be made to stop or wait after it.
 
-use std::env;
-use std::process;
+use std::io;
 
-/// The environment variable with the number of a step. The tool stops immediately after that step,
-/// as if the power had failed.
-const STOP_AFTER: &str = "ASDF_LAYOUT_STOP_AFTER";
+#[cfg(feature = "hooks")]
+use crate::hooks::Hooks;
 
-/// Counts the steps that are done.
+/// Does the steps of one change.
 pub struct Steps {
-    done: u32,
-    stop_after: Option<u32>,
+    #[cfg(feature = "hooks")]
+    hooks: Hooks,
 }
 
 impl Steps {
     /// Begins with no step done.
     pub fn new() -> Steps {
-        let asked = env::var(STOP_AFTER).ok();
         Steps {
-            done: 0,
-            stop_after: asked.and_then(|number| number.parse().ok()),
+            #[cfg(feature = "hooks")]
+            hooks: Hooks::from_environment(),
         }
     }
 
-    /// Counts one more step, and stops the tool if a test asked for a stop here.
-    pub fn done(&mut self) {
-        self.done += 1;
-        if self.stop_after == Some(self.done) {
-            process::abort();
-        }
+    /// Does one step.
+    #[cfg(not(feature = "hooks"))]
+    pub fn run<T>(&mut self, step: impl FnOnce() -> io::Result<T>) -> io::Result<T> {
+        step()
+    }
+
+    /// Does one step, unless a test asked for a failure here.
+    #[cfg(feature = "hooks")]
+    pub fn run<T>(&mut self, step: impl FnOnce() -> io::Result<T>) -> io::Result<T> {
+        self.hooks.before()?;
+        let result = step();
+        self.hooks.after();
+        result
     }
 }

@@ -1,83 +1,141 @@
-//! A file to be changed in place.
+//! A file to be changed in place. Everything goes through the descriptor of its folder, so that nobody can put another folder
+//! in its place.
 
-use crate::failure::Failure;
+use crate::failure::{note, Failure};
+use crate::names::shown;
+use crate::source;
 use crate::steps::Steps;
-use asdf_system::Map;
-use std::fs::{self, File};
+use asdf_system::{Filled, Folder};
+use std::ffi::{OsStr, OsString};
+use std::fs::{self, File, Metadata, TryLockError};
 use std::io;
-use std::ops::Range;
-use std::os::unix::fs::FileExt;
+use std::os::unix::fs::{FileExt, MetadataExt};
 use std::path::{Path, PathBuf};
 
 /// Bytes are written in pieces of this length, so that a test can stop the tool between two pieces.
 const PIECE: usize = 1 << 16;
+/// What holds if something fails before the file is written to.
+pub const UNCHANGED: &str = "the file was not changed";
 
 /// A file that no other call of this tool changes until this value is dropped.
 pub struct Target {
+    /// The path as the caller gave it.
+    pub given: PathBuf,
     /// The path of the file itself, with every link followed.
     pub path: PathBuf,
+    pub folder: Folder,
     pub file: File,
+    metadata: Metadata,
 }
 
 impl Target {
     /// Opens a file, and waits until no other call of this tool is reading or editing it.
-    pub fn open(path: &Path) -> Result<Target, Failure> {
-        let failed = |error| Failure::at("cannot open", path, error);
-        let path = fs::canonicalize(path).map_err(failed)?;
-        let file = File::options().read(true).write(true).open(&path);
-        let file = file.map_err(failed)?;
-        if !file.metadata().map_err(failed)?.is_file() {
-            let path = path.display();
-            let sentence = format!("{path} is not a regular file and cannot be changed in place");
-            return Err(Failure::usage(sentence));
+    pub fn open(given: &Path) -> Result<Target, Failure> {
+        let failed = |error| Failure::at("cannot open", given, error);
+        let path = fs::canonicalize(given).map_err(failed)?;
+        let irregular = || {
+            let name = shown(given);
+            Failure::usage(format!(
+                "{name} is not a regular file and cannot be changed in place"
+            ))
+        };
+        let (Some(parent), Some(name)) = (path.parent(), path.file_name()) else {
+            return Err(irregular());
+        };
+        let folder = Folder::open(parent).map_err(failed)?;
+        // Something else than a file is not opened, because that alone may have an effect.
+        let found = folder.look_at(name).map_err(failed)?;
+        let is_file = |file: &File| file.metadata().is_ok_and(|metadata| metadata.is_file());
+        if !found.as_ref().is_some_and(is_file) {
+            return Err(irregular());
         }
-        let locked = file.lock();
-        locked.map_err(|error| {
-            Failure::at("cannot lock", &path, error).with_advice("the file was not changed")
-        })?;
-        Ok(Target { path, file })
+        let file = folder.open_to_change(name).map_err(failed)?;
+        lock(&file, given)?;
+        let metadata = file.metadata().map_err(failed)?;
+        let target = Target {
+            given: given.to_path_buf(),
+            path,
+            folder,
+            file,
+            metadata,
+        };
+        match target.is_named() {
+            true => Ok(target),
+            false => Err(Failure::usage(format!(
+                "{} was replaced or removed before it could be locked; nothing was changed; try again",
+                shown(given)
+            ))),
+        }
     }
 
-    /// Maps the bytes of the file.
-    pub fn map(&self) -> Result<Map, Failure> {
-        Map::of_file(&self.file).map_err(|error| Failure::at("cannot read", &self.path, error))
+    /// Returns the name of the file, for messages.
+    pub fn shown(&self) -> String {
+        shown(&self.given)
     }
 
-    /// Lends the mapped bytes. Changes to them do not reach the file.
-    pub fn changeable<'a>(&self, map: &'a mut Map) -> Result<&'a mut [u8], Failure> {
-        map.lend()
-            .map_err(|error| Failure::at("cannot make a private copy of", &self.path, error))
+    /// Whether the path that the caller gave still names this file.
+    pub fn is_named(&self) -> bool {
+        let named = fs::metadata(&self.given);
+        named.is_ok_and(|named| is_same(&named, &self.metadata))
     }
 
-    /// Writes the room of the changed bytes to the file. When this returns without a failure, the
-    /// room is on the disk.
-    pub fn write_room(
-        &self,
-        bytes: &[u8],
-        room: Range<usize>,
-        steps: &mut Steps,
-    ) -> Result<(), Failure> {
-        let start = room.start as u64;
-        write_at(&self.file, &bytes[room], start, steps)
-            .and_then(|()| self.file.sync_all())
-            .map_err(|error| Failure::at("cannot write", &self.path, error))?;
-        steps.done();
-        Ok(())
+    /// Returns what is known about the file since it was locked.
+    pub fn metadata(&self) -> &Metadata {
+        &self.metadata
     }
+
+    /// Holds the bytes of the file. Nothing has been changed as long as they are read.
+    pub fn bytes(&self) -> Result<Filled, Failure> {
+        let length = self.metadata.len().min(source::TOO_LONG);
+        let advice = format!("; {UNCHANGED}");
+        source::filled(&self.file, length, &self.shown(), &advice)
+            .map_err(|error| Failure::at("cannot read", &self.given, error).with_advice(UNCHANGED))
+    }
+
+    /// Writes bytes to the file. When this returns without a failure, they are on the disk.
+    pub fn write(&self, bytes: &[u8], start: usize, steps: &mut Steps) -> Result<(), Failure> {
+        write_at(&self.file, bytes, start as u64, steps)
+            .and_then(|()| steps.run(|| self.file.sync_all()))
+            .map_err(|error| Failure::at("cannot write", &self.given, error))
+    }
+
+    /// Returns the path of another name in the folder, for messages.
+    pub fn beside(&self, name: &OsStr) -> PathBuf {
+        self.path.with_file_name(name)
+    }
+
+    /// Returns the name of the file in its folder.
+    pub fn name(&self) -> OsString {
+        self.path.file_name().unwrap_or_default().to_owned()
+    }
+}
+
+/// Whether both are about the same file.
+pub fn is_same(one: &Metadata, other: &Metadata) -> bool {
+    (one.dev(), one.ino()) == (other.dev(), other.ino())
+}
+
+/// Locks a file, and says so before it waits.
+fn lock(file: &File, path: &Path) -> Result<(), Failure> {
+    let locked = match file.try_lock() {
+        Err(TryLockError::WouldBlock) => {
+            let name = shown(path);
+            note(format_args!(
+                "waiting for {name}, which another program is reading or editing"
+            ));
+            file.lock()
+        }
+        Err(TryLockError::Error(error)) => Err(error),
+        Ok(()) => Ok(()),
+    };
+    locked.map_err(|error| Failure::at("cannot lock", path, error).with_advice(UNCHANGED))
 }
 
 /// Writes bytes at a place in a file. Each piece is one step.
 pub fn write_at(file: &File, bytes: &[u8], place: u64, steps: &mut Steps) -> io::Result<()> {
     let places = (place..).step_by(PIECE);
     for (piece, place) in bytes.chunks(PIECE).zip(places) {
-        file.write_all_at(piece, place)?;
-        steps.done();
+        steps.run(|| file.write_all_at(piece, place))?;
     }
     Ok(())
-}
-
-/// Brings the names in the folder of `path` to the disk.
-pub fn sync_folder(path: &Path) -> io::Result<()> {
-    let folder = path.parent().unwrap_or(Path::new("/"));
-    File::open(folder)?.sync_all()
 }

@@ -3,6 +3,8 @@
 // Each test program uses only a part of this file.
 #![allow(dead_code)]
 
+pub mod case;
+
 use std::fs::{self, File};
 use std::io::Write;
 use std::os::unix::fs::FileExt;
@@ -52,14 +54,20 @@ pub fn run(words: &[&str]) -> Ran {
 
 /// Runs the tool with `input` as standard input.
 pub fn run_with_input(words: &[&str], input: &[u8]) -> Ran {
+    output_with_input(words, input).into()
+}
+
+/// Runs the tool with `input` as standard input. What it prints may be any bytes.
+pub fn output_with_input(words: &[&str], input: &[u8]) -> Output {
     let mut command = command(words);
     let piped = command
         .stdin(Stdio::piped())
         .stdout(Stdio::piped())
         .stderr(Stdio::piped());
     let mut child = piped.spawn().unwrap();
-    child.stdin.take().unwrap().write_all(input).unwrap();
-    child.wait_with_output().unwrap().into()
+    // A tool that ends before it has read everything is not to blame.
+    let _ = child.stdin.take().unwrap().write_all(input);
+    child.wait_with_output().unwrap()
 }
 
 /// Runs the tool and returns what it prints. It has to succeed, and to print nothing on standard

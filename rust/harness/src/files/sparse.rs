@@ -2,31 +2,31 @@
 
 use crate::format::block::{block_header, FIELD_BYTES};
 use crate::format::text::HEADER_LINE;
-use asdf_system::Map;
+use asdf_system::Zeros;
 use std::io;
 use std::ops::Deref;
 
 /// A long range of zeros with other bytes at some places. Only the bytes that are not zero take
 /// memory.
 pub struct SparseFile {
-    map: Map,
+    zeros: Zeros,
 }
 
 impl SparseFile {
     /// A file of this length that has these bytes at these places.
     pub fn new(length: usize, parts: &[(usize, &[u8])]) -> io::Result<SparseFile> {
-        let mut map = Map::of_zeros(length)?;
-        let file = map.lend()?;
+        let mut zeros = Zeros::new(length)?;
+        let file = zeros.lend()?;
         for (place, bytes) in parts {
             file[*place..][..bytes.len()].copy_from_slice(bytes);
         }
-        map.protect()?;
-        Ok(SparseFile { map })
+        zeros.protect()?;
+        Ok(SparseFile { zeros })
     }
 
     /// Lends the bytes, so that they can be changed.
     pub fn lend(&mut self) -> io::Result<&mut [u8]> {
-        self.map.lend()
+        self.zeros.lend()
     }
 }
 
@@ -34,7 +34,7 @@ impl Deref for SparseFile {
     type Target = [u8];
 
     fn deref(&self) -> &[u8] {
-        &self.map
+        &self.zeros
     }
 }
 

@@ -1,0 +1,349 @@
+//! Tests what `restore` believes. In a shared folder anybody can leave a file beside another, and after an interrupted edit
+//! another file may get its name.
+
+mod common;
+
+use common::case::*;
+use common::*;
+use std::fs::{self, File, Permissions};
+use std::io::{self, Write};
+use std::os::unix::fs::{chown, symlink, FileExt, MetadataExt, PermissionsExt};
+use std::os::unix::process::CommandExt;
+use std::path::Path;
+use std::process::Command;
+use std::time::{Duration, Instant};
+
+/// A user that is not root and not the caller.
+const OTHER_USER: u32 = 65_534;
+
+/// Runs the tool as another user.
+fn run_as_other(hook: &str, words: &[&str]) -> Ran {
+    let mut command = command(words);
+    command.env("ASDF_LAYOUT_HOOK", hook);
+    command.uid(OTHER_USER).gid(OTHER_USER);
+    command.output().unwrap().into()
+}
+
+/// Whether the tests may act as a second user. If not, this says that a test is skipped.
+fn may_act_as_other(test: &str) -> bool {
+    let tool = Path::new(env!("CARGO_BIN_EXE_asdf-layout"));
+    let tried = Command::new(tool)
+        .arg("--help")
+        .uid(OTHER_USER)
+        .gid(OTHER_USER)
+        .output();
+    // The temporary folder of the tests has to be reachable, too.
+    let folder = folder("strangers-reachable");
+    fs::set_permissions(&folder, Permissions::from_mode(0o777)).unwrap();
+    let reached = Command::new("touch")
+        .arg(folder.join("file"))
+        .uid(OTHER_USER)
+        .gid(OTHER_USER)
+        .output();
+    let may = tried.is_ok_and(|ran| ran.status.success())
+        && reached.is_ok_and(|ran| ran.status.success());
+    if !may {
+        // The test's own output is hidden if it passes, but not this.
+        writeln!(io::stderr(), "skipped: {test}, which needs a second user").unwrap();
+    }
+    may
+}
+
+impl Case {
+    /// Puts another file in the place of the file, which then has another inode.
+    fn replace(&self, bytes: &[u8]) {
+        let other = self.beside(".other");
+        fs::write(&other, bytes).unwrap();
+        fs::rename(other, &self.file).unwrap();
+    }
+
+    /// Changes bytes of the file in place.
+    fn overwrite(&self, place: usize, bytes: &[u8]) {
+        let file = File::options().write(true).open(&self.file).unwrap();
+        file.write_all_at(bytes, place as u64).unwrap();
+    }
+}
+
+#[test]
+fn another_night_under_the_same_name_does_not_get_the_old_tree() {
+    let case = Case::new("strangers-night");
+    case.stop_in(State::KeptHalf);
+    // The same length, the same room, and all but the tree is the same.
+    let mut night = case.old.clone();
+    night[12 + TREE.len()] = b'#';
+    case.replace(&night);
+    case.assert_only_set_aside("is about another file that had this name before");
+    assert!(case.bytes() == night);
+    assert_eq!(case.edit(), SILENT);
+}
+
+#[test]
+fn another_night_in_the_same_inode_does_not_get_the_old_tree() {
+    let case = Case::new("strangers-inode");
+    case.stop_in(State::KeptHalf);
+    // One byte of the room is neither the old one nor the new one.
+    let mut night = case.old.clone();
+    night[20_000] = b'#';
+    case.overwrite(0, &night);
+    case.assert_only_set_aside(
+        "the byte at 20000 and 0 others in the room of the tree are neither",
+    );
+    assert!(case.bytes() == night);
+    assert_eq!(case.edit(), SILENT);
+}
+
+#[test]
+fn file_whose_surroundings_changed_does_not_get_the_old_tree() {
+    let case = Case::new("strangers-around");
+    let block = case.old.len() - 57;
+    for (place, byte) in [
+        // The version, the checksum of the block, and its used size.
+        (6 + 2, b'1'),
+        (block + 38, 1),
+        (block + 29, 2),
+    ] {
+        let _ = fs::remove_file(case.beside(".old-room.1"));
+        case.stop_in(State::KeptHalf);
+        case.overwrite(place, &[byte]);
+        case.assert_only_set_aside("does not fit: ");
+    }
+}
+
+#[test]
+fn file_that_grew_or_shrank_does_not_get_the_old_tree() {
+    let case = Case::new("strangers-length");
+    for length in [case.old.len() + 1, case.old.len() - 1, 12, 0] {
+        let _ = fs::remove_file(case.beside(".old-room.1"));
+        case.stop_in(State::KeptNew);
+        let file = File::options().write(true).open(&case.file).unwrap();
+        file.set_len(length as u64).unwrap();
+        case.assert_only_set_aside(&format!("and this one has {length}"));
+    }
+}
+
+#[test]
+fn half_edited_file_that_can_be_restored_is_not_set_aside() {
+    let case = Case::new("strangers-half");
+    case.stop_in(State::KeptHalf);
+    let ran = case.set_aside();
+    assert_eq!((ran.status, case.state()), (Some(2), State::KeptHalf));
+    assert!(
+        ran.errors.contains("; run `asdf-layout restore "),
+        "{}",
+        ran.errors
+    );
+    case.stop_in(State::KeptNew);
+    assert_eq!(
+        (case.set_aside().status, case.state()),
+        (Some(0), State::New)
+    );
+    // A second one does not replace the first.
+    case.stop_in(State::KeptNew);
+    assert!(case.set_aside().output.ends_with(".old-room.2\n"));
+    let ran = case.set_aside();
+    assert_eq!(ran.status, Some(2));
+    assert!(
+        ran.errors.contains("nothing to set aside"),
+        "{}",
+        ran.errors
+    );
+}
+
+#[test]
+fn what_no_edit_wrote_is_not_restored() {
+    let case = Case::new("strangers-damaged");
+    case.stop_in(State::KeptOld);
+    let mut kept = fs::read(case.kept()).unwrap();
+    *kept.last_mut().unwrap() ^= 1;
+    for bytes in [
+        &b""[..],
+        b"asdf-layout-room 12 3\nabc",
+        b"asdf-layout-room 12 4 200087\nabc",
+        &kept,
+    ] {
+        let _ = fs::remove_file(case.beside(".old-room.1"));
+        fs::write(case.kept(), bytes).unwrap();
+        fs::set_permissions(case.kept(), Permissions::from_mode(0o600)).unwrap();
+        case.assert_only_set_aside("is damaged, or another version of this tool wrote it");
+    }
+}
+
+#[test]
+fn links_pipes_and_folders_are_not_believed_and_not_waited_for() {
+    let case = Case::new("strangers-kinds");
+    case.stop_in(State::KeptHalf);
+    let real = case.beside(".real");
+    fs::rename(case.kept(), &real).unwrap();
+    type Make = fn(&Case, &Path);
+    let kinds: [(&str, Make); 5] = [
+        ("is a symbolic link", |case, real| {
+            symlink(real, case.kept()).unwrap()
+        }),
+        ("is a symbolic link", |case, _| {
+            symlink("/nothing", case.kept()).unwrap()
+        }),
+        ("is a folder", |case, _| {
+            fs::create_dir(case.kept()).unwrap()
+        }),
+        ("is a pipe", |case, _| {
+            let made = Command::new("mkfifo").arg(case.kept()).status().unwrap();
+            assert!(made.success());
+        }),
+        ("has several names", |case, real| {
+            fs::hard_link(real, case.kept()).unwrap()
+        }),
+    ];
+    for (reason, make) in kinds {
+        let aside = case.beside(".old-room.1");
+        let _ = fs::remove_file(&aside).or_else(|_| fs::remove_dir(&aside));
+        make(&case, &real);
+        let begun = Instant::now();
+        case.assert_only_set_aside(reason);
+        assert!(begun.elapsed() < Duration::from_secs(10));
+    }
+    fs::remove_file(case.beside(".old-room.1")).unwrap();
+
+    // The same file under its own name is restored.
+    fs::rename(&real, case.kept()).unwrap();
+    for mode in [0o620, 0o602] {
+        fs::set_permissions(case.kept(), Permissions::from_mode(mode)).unwrap();
+        let ran = case.restore();
+        assert_eq!((ran.status, case.state()), (Some(2), State::KeptHalf));
+        assert!(
+            ran.errors
+                .contains("could be written by others than its owner"),
+            "{}",
+            ran.errors
+        );
+    }
+    fs::set_permissions(case.kept(), Permissions::from_mode(0o600)).unwrap();
+    assert_eq!((case.restore(), case.state()), (SILENT, State::Old));
+}
+
+#[test]
+fn strangers_file_is_not_believed_and_its_owner_is_named() {
+    if !may_act_as_other("a stranger's file is not believed") {
+        return;
+    }
+    let case = Case::new("strangers-owner");
+    case.stop_in(State::KeptHalf);
+    chown(case.kept(), Some(OTHER_USER), None).unwrap();
+    let half = case.bytes();
+    let ran = case.restore();
+    assert_eq!(ran.status, Some(2));
+    assert!(
+        ran.errors.contains(" and is not believed; "),
+        "{}",
+        ran.errors
+    );
+    assert!(
+        ran.errors.contains(" can restore the old tree; "),
+        "{}",
+        ran.errors
+    );
+    assert!(case.bytes() == half);
+    // The owner of the file itself is believed.
+    chown(&case.file, Some(OTHER_USER), None).unwrap();
+    assert_eq!((case.restore(), case.state()), (SILENT, State::Old));
+}
+
+#[test]
+fn users_file_that_root_was_editing_is_left_to_root() {
+    if !may_act_as_other("a file that root was editing is left to root") {
+        return;
+    }
+    let case = Case::new("strangers-root");
+    case.stop_in(State::KeptHalf);
+    chown(&case.file, Some(OTHER_USER), None).unwrap();
+    let half = case.bytes();
+    let ran = run_as_other("", &["restore", word(&case.file)]);
+    assert_eq!(ran.status, Some(2));
+    assert!(
+        ran.errors
+            .contains("belongs to root, who can restore the old tree"),
+        "{}",
+        ran.errors
+    );
+    assert!(case.bytes() == half);
+    // Nobody may move it from this folder but root, and the message says so.
+    let ran = run_as_other("", &["restore", "--set-aside", word(&case.file)]);
+    assert_eq!(ran.status, Some(2));
+    assert!(ran.errors.contains("it belongs to root"), "{}", ran.errors);
+    assert_eq!((case.restore(), case.state()), (SILENT, State::Old));
+}
+
+#[test]
+fn folder_that_may_be_written_but_not_read_is_no_obstacle() {
+    if !may_act_as_other("a folder that may be written but not read") {
+        return;
+    }
+    let case = Case::new("strangers-unreadable");
+    let folder = case.file.parent().unwrap();
+    for path in [folder, &case.file, &case.text] {
+        chown(path, Some(OTHER_USER), None).unwrap();
+    }
+    fs::set_permissions(folder, Permissions::from_mode(0o300)).unwrap();
+    let edit = |hook: &str| run_as_other(hook, &case.edit_words());
+    assert_eq!((edit(""), case.state()), (SILENT, State::New));
+    let half = (1..MOST_STEPS).any(|step| {
+        case.reset();
+        chown(&case.file, Some(OTHER_USER), None).unwrap();
+        edit(&format!("stop {step}"));
+        case.state() == State::KeptHalf
+    });
+    assert!(half);
+    let ran = run_as_other("", &["restore", word(&case.file)]);
+    assert_eq!((ran, case.state()), (SILENT, State::Old));
+    fs::set_permissions(folder, Permissions::from_mode(0o700)).unwrap();
+    case.assert_nothing_beside();
+}
+
+#[test]
+fn longest_names_are_edited_and_restored() {
+    // 241 bytes leave room for the longest suffix, and 242 do not. The last has characters of several bytes.
+    let names = [
+        "a".repeat(241),
+        "b".repeat(242),
+        "c".repeat(255),
+        "ü".repeat(127),
+    ];
+    for name in names {
+        let case = Case::named("strangers-long", &name);
+        assert_eq!((case.edit(), case.state()), (SILENT, State::New));
+        case.assert_nothing_beside();
+        let folder = case.file.parent().unwrap();
+        let kept = || {
+            let found = common::case::names(folder);
+            found.into_iter().find(|name| name.ends_with(".old-room"))
+        };
+        let half = (1..MOST_STEPS).any(|step| {
+            fs::write(&case.file, &case.old).unwrap();
+            if let Some(kept) = kept() {
+                fs::remove_file(folder.join(kept)).unwrap();
+            }
+            case.edit_with(&format!("stop {step}"));
+            kept().is_some() && case.bytes() != case.old && case.bytes() != case.new
+        });
+        assert!(half);
+        assert!(kept().unwrap().starts_with(&name[..200]));
+        let warning = run(&["list", word(&case.file)]).errors;
+        assert!(warning.contains("was not finished"), "{warning}");
+        assert_eq!((case.restore(), case.state()), (SILENT, State::Old));
+        case.assert_nothing_beside();
+    }
+}
+
+#[test]
+fn names_with_control_characters_are_escaped_and_quoted_in_advice() {
+    let case = Case::named("strangers-names", "it's \x1B[2J.asdf");
+    case.stop_in(State::KeptHalf);
+    let warning = run(&["list", word(&case.file)]).errors;
+    assert!(!warning.contains('\x1B'), "{warning}");
+    // What stands between the marks is a command for a shell, and does what it says.
+    let advised = warning.split('`').nth(1).unwrap();
+    let tool = env!("CARGO_BIN_EXE_asdf-layout");
+    let line = advised.replacen("asdf-layout", tool, 1);
+    let ran = Command::new("bash").args(["-c", &line]).output().unwrap();
+    assert_eq!((Ran::from(ran), case.state()), (SILENT, State::Old));
+    assert_eq!(case.file.metadata().unwrap().nlink(), 1);
+}
