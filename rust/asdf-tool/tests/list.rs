@@ -77,7 +77,7 @@ fn json_is_one_object() {
     // This name of a compression would break a string that is not escaped.
     file[34 + 10..34 + 14].copy_from_slice(b"\"\\\x01\0");
     let expected = concat!(
-        r#"{"bytes":91,"version":"1.0.0","header_end":12,"line_end":"0A","comments":{"start":12,"end":15},"#,
+        r#"{"file":"-","bytes":91,"version":"1.0.0","header_end":12,"line_end":"0A","comments":{"start":12,"end":15},"#,
         r#""tree":{"start":15,"end":33,"room_end":34},"#,
         r#""blocks":[{"depth":0,"ordinal":0,"offset":34,"header_size":48,"flags":0,"streamed":false,"#,
         r#""compression":"\\\"\\\\\\x01","allocated":3,"used":3,"data_size":3,"checksum":null,"inner":"plain"}],"#,
@@ -89,9 +89,9 @@ fn json_is_one_object() {
         expected
     );
     let ran = run_with_input(&["list", "-", "--json"], b"");
-    let expected =
-        r#"{"refused":{"number":2,"place":0,"reason":"file does not begin with `#ASDF `"}}"#;
-    assert_eq!(ran.output, format!("{expected}\n"));
+    let refused = r#"{"number":2,"place":0,"reason":"file does not begin with `#ASDF `"}"#;
+    let expected = format!("{{\"file\":\"-\",\"refused\":{refused}}}\n");
+    assert_eq!(ran.output, expected);
     assert_eq!(ran.status, Some(1));
 }
 
