@@ -109,7 +109,7 @@ impl Display for Object {
         if block.data_size > LARGEST_EXACT {
             write!(f, r#","data_size_text":"{}""#, block.data_size)?;
         }
-        let checksum = block.has_checksum().then(|| Checksum(block.checksum));
+        let checksum = block.has_checksum().then_some(Checksum(block.checksum));
         write!(
             f,
             r#","checksum":{},"inner":{}}}"#,

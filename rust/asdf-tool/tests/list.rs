@@ -3,8 +3,11 @@
 mod common;
 
 use common::*;
+use std::ffi::OsStr;
 use std::fs;
+use std::os::unix::ffi::OsStrExt;
 use std::path::Path;
+use std::process::Command;
 
 /// The minimum number of real files. More may be added, but none may get lost.
 const AT_LEAST: usize = 18;
@@ -93,6 +96,73 @@ fn json_is_one_object() {
     let expected = format!("{{\"file\":\"-\",\"refused\":{refused}}}\n");
     assert_eq!(ran.output, expected);
     assert_eq!(ran.status, Some(1));
+}
+
+/// Returns a file whose only block is empty and compressed, with this name and data size.
+fn compressed(name: &[u8; 4], data_size: u64) -> Vec<u8> {
+    let mut header = block_header(0);
+    header[10..14].copy_from_slice(name);
+    header[30..38].copy_from_slice(&data_size.to_be_bytes());
+    [HEADER, &header].concat()
+}
+
+#[test]
+fn json_gives_a_size_as_text_too_if_floating_point_does_not_hold_it() {
+    let listed = |size| run_with_input(&["list", "-", "--json"], &compressed(b"zlib", size)).output;
+    let exact = 1 << 53;
+    assert!(listed(exact).contains(r#""data_size":9007199254740992,"checksum":"#));
+    assert!(listed(exact + 1).contains(
+        r#""data_size":9007199254740993,"data_size_text":"9007199254740993","checksum":"#
+    ));
+    assert!(listed(u64::MAX).contains(
+        r#""data_size":18446744073709551615,"data_size_text":"18446744073709551615","checksum":"#
+    ));
+}
+
+/// Reads JSON from standard input, and prints two of its members.
+const READ_JSON: &str = r#"
+import json, sys
+listing = json.load(sys.stdin)
+print(ascii(listing["file"]), ascii(listing["blocks"][0]["compression"]))
+"#;
+
+#[test]
+fn json_is_valid_whatever_the_names_hold() {
+    let folder = folder("list-names");
+    let has_python = Command::new("python3").arg("--version").output().is_ok();
+    for (name, in_json, in_python) in [
+        (&b"plain"[..], "plain", r"'plain'"),
+        (
+            b"\"\\\n\x1B[2J\x7F",
+            r#"\"\\\u000a\u001b[2J\u007f"#,
+            r#"'"\\\n\x1b[2J\x7f'"#,
+        ),
+        (
+            "größe \u{202E}🌊".as_bytes(),
+            r"größe \u202e🌊",
+            r"'gr\xf6\xdfe \u202e\U0001f30a'",
+        ),
+        (
+            b"not \xFF UTF-8",
+            "not \u{FFFD} UTF-8",
+            r"'not \ufffd UTF-8'",
+        ),
+    ] {
+        let name = OsStr::from_bytes(name);
+        fs::write(folder.join(name), compressed(b"\"\n\xFF\\", 0)).unwrap();
+        let mut call = command(&["list", "--json"]);
+        let ran = call.arg(name).current_dir(&folder).output().unwrap();
+        let ran = Ran::from(ran);
+        let start = format!(r#"{{"file":"{in_json}","bytes":66,"#);
+        assert!(ran.output.starts_with(&start), "{}", ran.output);
+        assert!(ran.output.contains(r#","compression":"\\\"\\n\\xff\\\\","#));
+        if has_python {
+            let mut python = Command::new("python3");
+            let read = with_input(python.args(["-c", READ_JSON]), ran.output.as_bytes());
+            let expected = format!("{in_python} '\\\\\"\\\\n\\\\xff\\\\\\\\'\n");
+            assert_eq!((read.output, read.errors.as_str()), (expected, ""));
+        }
+    }
 }
 
 #[test]

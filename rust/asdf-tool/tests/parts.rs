@@ -78,20 +78,18 @@ fn stored_outline_has_the_rows_of_the_listing() {
 
 #[test]
 fn outline_of_many_rows_is_written_and_read() {
-    let inner = [HEADER, &block_header(0).repeat(64)].concat();
-    let block = [block_header(inner.len() as u64), inner].concat();
-    let file = [HEADER, &block.repeat(64)].concat();
     let folder = folder("parts-many");
     let (path, stored) = (folder.join("file"), folder.join("outline"));
-    fs::write(&path, file).unwrap();
+    fs::write(&path, nested(2)).unwrap();
     printed(&["outline", word(&path), "-o", word(&stored)]);
     assert_eq!(
         printed(&["outline", "--read", word(&stored)])
             .lines()
             .count(),
-        64 * 65
+        nested_rows(2)
     );
-    assert_eq!(printed(&["list", word(&path)]).lines().count(), 64 * 65 + 8);
+    let table = printed(&["list", word(&path)]);
+    assert_eq!(table.lines().count(), nested_rows(2) + 8);
 }
 
 #[test]
