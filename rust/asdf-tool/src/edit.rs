@@ -48,6 +48,11 @@ pub fn restore(path: &Path) -> Result<(), Failure> {
     finish(&target, bytes, kept.room(), &mut Steps::new())
 }
 
+/// Gives what is kept of an unfinished edit another name, so that the file can be edited again.
+pub fn set_aside(_path: &Path) -> Result<(), Failure> {
+    Err(Failure::usage("not yet"))
+}
+
 /// Returns the room of a file's tree, if the file has a tree.
 fn room_of(bytes: &[u8]) -> Result<Option<Range<usize>>, Refusal> {
     let tree = Layout::read(bytes)?.tree;

@@ -7,6 +7,7 @@ mod command;
 mod edit;
 mod failure;
 mod help;
+mod index;
 mod json;
 mod kept;
 mod list;
@@ -15,19 +16,22 @@ mod output;
 mod plain;
 mod source;
 mod steps;
+mod store;
 mod table;
 mod target;
 mod words;
 
-use asdf_layout::{index_text, Layout, Outline};
+use asdf_layout::{Layout, Outline};
 use command::Command;
-use failure::Failure;
 use output::{Output, Stop};
 use source::Source;
 use std::env;
-use std::fs;
 use std::path::Path;
 use std::process::ExitCode;
+use store::Out;
+
+/// What `--version` prints.
+const VERSION: &str = concat!("asdf-layout ", env!("CARGO_PKG_VERSION"), "\n");
 
 fn main() -> ExitCode {
     let words = env::args_os().skip(1).collect();
@@ -39,55 +43,39 @@ fn main() -> ExitCode {
 fn run(command: Command) -> Result<(), Stop> {
     match command {
         Command::Help(text) => Output::print(text.as_bytes())?,
-        Command::List { file, form } => list::list(&[file], form)?,
-        Command::Tree { file } => print_tree(&Source::file(&file)?)?,
-        Command::Verdict { file } => print_verdict(&Source::file(&file)?)?,
-        Command::Index { file } => print_index(&Source::file(&file)?)?,
-        Command::Outline { file, out } => write_outline(&Source::file(&file)?, &out)?,
-        Command::ReadOutline { stored } => print_outline(&Source::whole(&stored)?)?,
+        Command::Version => Output::print(VERSION.as_bytes())?,
+        Command::List { files, form } => list::list(&files, form)?,
+        Command::Tree { file } => print_tree(&file)?,
+        Command::Verdict { file } => index::print_verdict(&file)?,
+        Command::Index { file, out } => index::write(&file, &out)?,
+        Command::Outline { file, out } => write_outline(&file, &out)?,
+        Command::ReadOutline { stored } => print_outline(&stored)?,
         Command::Edit { file, tree } => edit::edit(&file, &Source::whole(&tree)?)?,
         Command::Restore { file } => edit::restore(&file)?,
+        Command::SetAside { file } => edit::set_aside(&file)?,
     }
     Ok(())
 }
 
 /// Prints the text of the tree, or nothing if there is no tree.
-fn print_tree(source: &Source) -> Result<(), Stop> {
-    let layout = source.accepted(Layout::read(source))?;
+fn print_tree(file: &Path) -> Result<(), Stop> {
+    let source = Source::file(file)?;
+    let layout = source.accepted(Layout::read(&source))?;
     let text = layout.tree.map_or(0..0, |tree| tree.text());
     Output::print(&source[text])
 }
 
-/// Prints the verdict on the index.
-fn print_verdict(source: &Source) -> Result<(), Stop> {
-    let layout = source.accepted(Layout::read(source))?;
-    let verdict = words::verdict(layout.index);
-    Output::print(format!("{verdict}\n").as_bytes())
-}
-
-/// Prints the text of the correct index for the file.
-fn print_index(source: &Source) -> Result<(), Stop> {
-    Output::print(&source.accepted(index_text(source))?)
-}
-
 /// Stores the outline of a file.
-fn write_outline(source: &Source, out: &Path) -> Result<(), Stop> {
-    let outline = source.accepted(Outline::of_file(source))?;
-    if source::is_standard(out) {
-        return Output::print(outline.as_bytes());
-    }
-    if source.is_at(out) {
-        let sentence =
-            "FILE and OUT are the same file, which the outline would overwrite; choose another OUT";
-        return Err(Failure::usage(sentence).into());
-    }
-    let written = fs::write(out, outline.as_bytes());
-    Ok(written.map_err(|error| Failure::at("cannot write", out, error))?)
+fn write_outline(file: &Path, out: &Out) -> Result<(), Stop> {
+    let source = Source::file(file)?;
+    let outline = source.accepted(Outline::of_file(&source))?;
+    out.store(file, &source, outline.as_bytes())
 }
 
 /// Prints the rows of a stored outline.
-fn print_outline(stored: &Source) -> Result<(), Stop> {
-    let outline = stored.accepted(Outline::read(stored))?;
+fn print_outline(stored: &Path) -> Result<(), Stop> {
+    let stored = Source::whole(stored)?;
+    let outline = stored.accepted(Outline::read(&stored))?;
     let mut out = Output::standard()?;
     plain::rows(&outline, &mut out)?;
     out.finish()

@@ -6,7 +6,7 @@ use common::*;
 use std::ffi::OsStr;
 use std::fs;
 use std::os::unix::ffi::OsStrExt;
-use std::path::Path;
+use std::path::{Path, PathBuf};
 use std::process::Command;
 
 /// The minimum number of real files. More may be added, but none may get lost.
@@ -150,7 +150,7 @@ fn json_is_valid_whatever_the_names_hold() {
     ] {
         let name = OsStr::from_bytes(name);
         fs::write(folder.join(name), compressed(b"\"\n\xFF\\", 0)).unwrap();
-        let mut call = command(&["list", "--json"]);
+        let mut call = command(&["list", "--json", "--"]);
         let ran = call.arg(name).current_dir(&folder).output().unwrap();
         let ran = Ran::from(ran);
         let start = format!(r#"{{"file":"{in_json}","bytes":66,"#);
@@ -224,11 +224,21 @@ fn wrong_calls_and_missing_files_have_status_2() {
         &[][..],
         &["lists"],
         &["list"],
+        &["list", ""],
+        &["list", DATA, "--jsno"],
         &["list", "/no/such/file"],
         &["list", DATA],
+        &["tree", "a", "b"],
+        &["index", DATA, "--force"],
+        &["outline", DATA],
+        &["outline", DATA, "-o"],
         &["edit", "-", "-"],
+        &["edit", "/no/such/file"],
         &["edit", "/no/such/file", "/no/such/file"],
+        &["restore", "-", "--set-aside"],
         &["outline", "--read", "/no/such/file"],
+        &["help", "lists"],
+        &["--version", "list"],
     ] {
         let ran = run(words);
         assert_eq!(
@@ -242,11 +252,129 @@ fn wrong_calls_and_missing_files_have_status_2() {
 }
 
 #[test]
+fn wrong_word_is_named_and_escaped() {
+    let ran = run(&["tree", "a", "\x1B[2Jb"]);
+    let problem = r"`tree` takes one file; `\u{1b}[2Jb` is one too many";
+    let advice = "`asdf-layout tree --help` shows how to call it";
+    assert_eq!(ran.errors, format!("asdf-layout: {problem}; {advice}\n"));
+    assert_eq!(ran.status, Some(2));
+}
+
+#[test]
 fn every_command_has_help() {
     for name in ["list", "tree", "index", "outline", "edit", "restore"] {
-        assert!(printed(&[name, "--help"]).contains(&format!("asdf-layout {name}")));
+        let help = printed(&[name, "--help"]);
+        assert!(help.starts_with(&format!("asdf-layout {name} FILE")));
+        assert_eq!(printed(&[name, "-h"]), help);
+        assert_eq!(printed(&["help", name]), help);
         assert!(printed(&["--help"]).contains(&format!("asdf-layout {name}")));
     }
+    assert_eq!(printed(&["-h"]), printed(&["--help"]));
+    assert_eq!(printed(&["help"]), printed(&["--help"]));
+}
+
+#[test]
+fn version_is_that_of_the_package() {
+    let version = concat!("asdf-layout ", env!("CARGO_PKG_VERSION"), "\n");
+    assert_eq!(printed(&["--version"]), version);
+}
+
+#[test]
+fn name_that_begins_with_a_dash_is_listed_after_two_dashes() {
+    let folder = folder("list-dashes");
+    fs::write(folder.join("-strange"), HEADER).unwrap();
+    fs::write(folder.join("-"), HEADER).unwrap();
+    let listed = |words: &[&str]| {
+        let mut call = command(words);
+        with_input(call.current_dir(&folder), b"").output
+    };
+    let first = "ASDF 1.0.0, length 12\n";
+    let strange = listed(&["list", "--", "-strange"]);
+    assert!(strange.starts_with(&format!("-strange: {first}")));
+    assert!(listed(&["list", "./-"]).starts_with(&format!("./-: {first}")));
+    // This is still standard input, which is empty now.
+    let standard = listed(&["list", "--plain", "--", "-"]);
+    assert_eq!(standard, "refused 2 0\n");
+}
+
+/// The files of the tests of several files.
+struct Several {
+    folder: PathBuf,
+}
+
+impl Several {
+    /// Makes a file with a block, a refused one, and one without blocks.
+    fn new(test: &str) -> Several {
+        let folder = folder(test);
+        let one = [HEADER, &block_header(0)].concat();
+        fs::write(folder.join("one"), one).unwrap();
+        fs::write(folder.join("refused"), b"#ASDF 2.0.0\n").unwrap();
+        fs::write(folder.join("none\n"), HEADER).unwrap();
+        Several { folder }
+    }
+
+    /// Lists them, and one that is missing, with these words before them.
+    fn listed(&self, words: &[&str]) -> Ran {
+        let mut call = command(words);
+        let call = call.current_dir(&self.folder);
+        let files = ["one", "missing", "refused", "none\n"];
+        call.args(files).output().unwrap().into()
+    }
+}
+
+#[test]
+fn several_files_are_listed_whatever_happens_to_one_of_them() {
+    let several = Several::new("list-several");
+    let table = several.listed(&["list"]);
+    let expected = concat!(
+        "one: ASDF 1.0.0, length 66\n",
+        "header    0 to 12\ncomments  none\ntree      none\n\n",
+        "block  offset  allocated  used  compression  checksum  content\n",
+        "0      12      0          0     none         no        plain\n\n",
+        "index     absent\n\n",
+        "none\\n: ASDF 1.0.0, length 12\n",
+        "header    0 to 12\ncomments  none\ntree      none\nblocks    none\nindex     absent\n",
+    );
+    assert_eq!(table.output, expected);
+    let plain = several.listed(&["list", "--plain"]);
+    let expected = concat!(
+        "file one\ntree none\n0 0 12 48 0 0 0 0 0 0\nindex absent\n",
+        "file refused\nrefused 4 6\n",
+        "file none\\n\ntree none\nindex absent\n",
+    );
+    assert_eq!(plain.output, expected);
+    let json = several.listed(&["list", "--json"]);
+    let lines: Vec<&str> = json.output.lines().collect();
+    let [one, refused, none] = lines[..] else {
+        panic!("{lines:?}")
+    };
+    assert!(one.starts_with(r#"{"file":"one","bytes":66,"#));
+    assert!(refused.starts_with(r#"{"file":"refused","refused":{"number":4,"#));
+    assert!(none.starts_with(r#"{"file":"none\u000a","bytes":12,"#));
+    for ran in [table, plain, json] {
+        let errors: Vec<&str> = ran.errors.lines().collect();
+        let [missing, refused] = errors[..] else {
+            panic!("{errors:?}")
+        };
+        assert!(missing.starts_with("asdf-layout: cannot read missing: No such file"));
+        assert!(refused.starts_with("asdf-layout: refused: first version number"));
+        assert_eq!(ran.status, Some(2));
+    }
+}
+
+#[test]
+fn worst_status_counts_wherever_it_comes_from() {
+    let several = Several::new("list-worst");
+    let status = |files: &[&str]| {
+        let mut call = command(&["list", "--plain"]);
+        call.args(files).current_dir(&several.folder);
+        call.output().unwrap().status.code()
+    };
+    assert_eq!(status(&["one", "none\n"]), Some(0));
+    assert_eq!(status(&["one", "refused"]), Some(1));
+    assert_eq!(status(&["refused", "one"]), Some(1));
+    assert_eq!(status(&["missing", "refused"]), Some(2));
+    assert_eq!(status(&["refused", "missing"]), Some(2));
 }
 
 #[test]

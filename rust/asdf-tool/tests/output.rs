@@ -47,8 +47,11 @@ impl Files {
     fn printing_calls(&self) -> Vec<Vec<&str>> {
         vec![
             vec!["--help"],
-            vec!["list", "--help"],
+            vec!["list", "-h"],
+            vec!["help", "list"],
+            vec!["--version"],
             vec!["list", &self.good],
+            vec!["list", &self.good, &self.good],
             vec!["list", &self.good, "--plain"],
             vec!["list", &self.good, "--json"],
             vec!["tree", &self.good],
