@@ -2,6 +2,7 @@
 
 use crate::names::is_harmless;
 use crate::output::{Output, Stop};
+use crate::progress;
 use crate::words;
 use asdf_layout::{Inner, Layout, Record, Records, Refusal, Tree};
 use std::fmt::{self, Display, Formatter, Write};
@@ -39,7 +40,7 @@ fn print(
         OrNull(layout.tree.map(Room)),
     )?;
     let mut separator = "";
-    for record in records {
+    for record in progress::shown(records.iter()) {
         write!(out, "{separator}{}", Object(record))?;
         separator = ",";
     }

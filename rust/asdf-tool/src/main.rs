@@ -14,6 +14,7 @@ mod list;
 mod names;
 mod output;
 mod plain;
+mod progress;
 mod source;
 mod steps;
 mod store;

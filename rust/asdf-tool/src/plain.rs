@@ -2,6 +2,7 @@
 //! file is refused, it is one line for the refusal.
 
 use crate::output::{Output, Stop};
+use crate::progress;
 use asdf_layout::{Layout, Outline, Refusal};
 
 /// Prints the listing of an accepted file. The outer result says whether the file was accepted, the
@@ -29,7 +30,7 @@ pub fn refused(refusal: &Refusal, out: &mut Output) -> Result<(), Stop> {
 
 /// Prints the rows of an outline, one on each line.
 pub fn rows(outline: &Outline, out: &mut Output) -> Result<(), Stop> {
-    for row in outline.rows() {
+    for row in progress::shown(outline.rows()) {
         writeln!(out, "{row}")?;
     }
     Ok(())

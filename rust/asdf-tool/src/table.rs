@@ -1,6 +1,7 @@
 //! The listing for people.
 
 use crate::output::{Output, Stop};
+use crate::progress;
 use crate::source::Source;
 use crate::words::{self, Content, Size};
 use asdf_layout::{Layout, Record, Records, Refusal, Tree};
@@ -90,7 +91,7 @@ fn print_blocks(records: &Records, out: &mut Output) -> Result<(), Stop> {
     writeln!(out)?;
     row.fill(HEADINGS.each_ref().map(|heading| heading as &dyn Display));
     row.print(&widths, out)?;
-    for record in records {
+    for record in progress::shown(records.iter()) {
         row.describe(&record);
         row.print(&widths, out)?;
     }

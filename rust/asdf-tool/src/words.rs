@@ -49,6 +49,18 @@ impl Display for Size {
     }
 }
 
+/// A number with a comma before each group of three digits.
+pub struct Grouped(pub usize);
+
+impl Display for Grouped {
+    fn fmt(&self, f: &mut Formatter<'_>) -> fmt::Result {
+        match (self.0 / 1000, self.0 % 1000) {
+            (0, rest) => write!(f, "{rest}"),
+            (thousands, rest) => write!(f, "{},{rest:03}", Grouped(thousands)),
+        }
+    }
+}
+
 /// Returns the name of a block's compression, without the zeros at its end. Bytes that cannot be
 /// printed are escaped.
 pub fn compression(block: &Block) -> Option<EscapeAscii<'_>> {
@@ -73,6 +85,18 @@ mod tests {
             (4_294_967_295, "4294967295 (4.0 GiB)"),
         ] {
             assert_eq!(Size(bytes).to_string(), words);
+        }
+    }
+
+    #[test]
+    fn digits_are_grouped_by_three() {
+        for (number, words) in [
+            (0, "0"),
+            (999, "999"),
+            (1_000, "1,000"),
+            (1_065_220, "1,065,220"),
+        ] {
+            assert_eq!(Grouped(number).to_string(), words);
         }
     }
 }
