@@ -457,6 +457,13 @@ mod tests {
     }
 
     #[test]
+    fn word_that_is_not_utf_8_is_named_too() {
+        let words = [&b"list"[..], b"-\xFF"].map(|word| OsStr::from_bytes(word).to_owned());
+        let failure = parse(words.to_vec()).unwrap_err().to_string();
+        assert!(failure.starts_with(r"`-\377` is not an option of `list`; "));
+    }
+
+    #[test]
     fn wrong_call_is_told_which_word_is_wrong() {
         let empty = "the name of a file is empty";
         for (line, problem) in [

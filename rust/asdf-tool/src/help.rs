@@ -15,7 +15,8 @@ Shows where everything is in an ASDF file, including the ASDF files inside its b
   asdf-layout --version                               prints the version of this tool
 
 Options and files may come in any order after the command. Each option is a word of its own, and so is the name after
-`-o`. After `--` every word is a file, so `asdf-layout list -- -name` lists a file whose name begins with `-`.
+`-o`. After `--` every word is a file, so `asdf-layout list -- -name` lists a file whose name begins with `-`. As the
+name after `-o`, such a name is given as `./-name`.
 
 A file that is only read can be given as `-`, which means standard input, also after `--`. A file with the name `-` is
 given as `./-`.

@@ -16,41 +16,29 @@ const LARGEST_EXACT: u64 = 1 << 53;
 pub fn listing(name: &Path, file: &[u8], out: &mut Output) -> Result<Result<(), Stop>, Refusal> {
     let layout = Layout::read(file)?;
     let records = Records::read(file)?;
-    Ok(print(name, file.len(), &layout, &records, out))
-}
-
-/// Prints the object of an accepted file.
-fn print(
-    name: &Path,
-    bytes: usize,
-    layout: &Layout,
-    records: &Records,
-    out: &mut Output,
-) -> Result<(), Stop> {
     let comments = layout.comments();
-    write!(
-        out,
-        r#"{{"file":{},"bytes":{bytes},"version":"{}","header_end":{},"line_end":"{}","comments":{{"start":{},"end":{}}},"tree":{},"blocks":["#,
-        Text(&name.to_string_lossy()),
-        layout.version,
-        layout.header_end,
-        layout.line_end,
-        comments.start,
-        comments.end,
-        OrNull(layout.tree.map(Room)),
-    )?;
-    let mut separator = "";
-    for record in progress::shown(records.iter()) {
-        write!(out, "{separator}{}", Object(record))?;
-        separator = ",";
-    }
-    writeln!(out, r#"],"index":"{}"}}"#, layout.index)
+    let object = Object([
+        ("file", &Text(name.to_string_lossy())),
+        ("bytes", &file.len()),
+        ("version", &Text(layout.version)),
+        ("header_end", &layout.header_end),
+        ("line_end", &Text(layout.line_end)),
+        (
+            "comments",
+            &Object([("start", &comments.start), ("end", &comments.end)]),
+        ),
+        ("tree", &OrNull(layout.tree.map(Place))),
+        ("blocks", &Blocks(&records)),
+        ("index", &Text(layout.index)),
+    ]);
+    Ok(writeln!(out, "{object}"))
 }
 
-/// Prints the object of a refused file.
+/// Prints the listing of a refused file.
 pub fn refused(name: &Path, refusal: &Refusal, out: &mut Output) -> Result<(), Stop> {
-    let (name, refusal) = (name.to_string_lossy(), Reason(*refusal));
-    writeln!(out, r#"{{"file":{},"refused":{refusal}}}"#, Text(&name))
+    let name = Text(name.to_string_lossy());
+    let object = Object([("file", &name), ("refused", &Reason(*refusal))]);
+    writeln!(out, "{object}")
 }
 
 /// A refusal, with its reason in words.
@@ -58,65 +46,73 @@ struct Reason(Refusal);
 
 impl Display for Reason {
     fn fmt(&self, f: &mut Formatter<'_>) -> fmt::Result {
-        let Refusal { number, place } = self.0;
+        let (number, place) = (&self.0.number, &self.0.place);
         let words = Text(self.0.words());
-        write!(
-            f,
-            r#"{{"number":{number},"place":{place},"reason":{words}}}"#
-        )
+        Object([("number", number), ("place", place), ("reason", &words)]).fmt(f)
     }
 }
 
 /// Where the tree is.
-struct Room(Tree);
+struct Place(Tree);
 
-impl Display for Room {
+impl Display for Place {
     fn fmt(&self, f: &mut Formatter<'_>) -> fmt::Result {
         let Tree {
             start,
             end,
             room_end,
-        } = self.0;
-        write!(
-            f,
-            r#"{{"start":{start},"end":{end},"room_end":{room_end}}}"#
-        )
+        } = &self.0;
+        Object([("start", start), ("end", end), ("room_end", room_end)]).fmt(f)
     }
 }
 
-/// A block of the file or of one of its inner files.
-struct Object(Record);
+/// All blocks. They are written one after the other, so that they take no memory.
+struct Blocks<'a>(&'a Records);
 
-impl Display for Object {
+impl Display for Blocks<'_> {
     fn fmt(&self, f: &mut Formatter<'_>) -> fmt::Result {
-        let Record {
-            depth,
-            offset,
-            inner,
-            block,
-        } = &self.0;
-        write!(
-            f,
-            r#"{{"depth":{depth},"ordinal":{},"offset":{offset},"header_size":{},"flags":{},"streamed":{},"compression":{},"allocated":{},"used":{},"data_size":{}"#,
-            block.ordinal,
-            block.header_size,
-            block.flags,
-            block.is_streamed(),
-            OrNull(words::compression(block).map(Text)),
-            block.allocated,
-            block.used,
-            block.data_size,
-        )?;
-        if block.data_size > LARGEST_EXACT {
-            write!(f, r#","data_size_text":"{}""#, block.data_size)?;
+        f.write_char('[')?;
+        let mut separator = "";
+        for record in progress::shown(self.0.iter()) {
+            f.write_str(separator)?;
+            write_block(&record, f)?;
+            separator = ",";
         }
-        let checksum = block.has_checksum().then_some(Checksum(block.checksum));
-        write!(
-            f,
-            r#","checksum":{},"inner":{}}}"#,
-            OrNull(checksum),
-            State(*inner)
-        )
+        f.write_char(']')
+    }
+}
+
+/// Writes a block of the file or of one of its inner files.
+fn write_block(record: &Record, f: &mut Formatter<'_>) -> fmt::Result {
+    let block = &record.block;
+    let checksum = block.has_checksum().then_some(Checksum(block.checksum));
+    Object([
+        ("depth", &record.depth),
+        ("ordinal", &block.ordinal),
+        ("offset", &record.offset),
+        ("header_size", &block.header_size),
+        ("flags", &block.flags),
+        ("streamed", &block.is_streamed()),
+        ("compression", &OrNull(words::compression(block).map(Text))),
+        ("allocated", &block.allocated),
+        ("used", &block.used),
+        ("data_size", &DataSize(block.data_size)),
+        ("checksum", &OrNull(checksum)),
+        ("inner", &State(record.inner)),
+    ])
+    .fmt(f)
+}
+
+/// A data size. If programs might round it, a member with the same number as text comes after it.
+struct DataSize(u64);
+
+impl Display for DataSize {
+    fn fmt(&self, f: &mut Formatter<'_>) -> fmt::Result {
+        self.0.fmt(f)?;
+        match self.0 > LARGEST_EXACT {
+            true => write!(f, r#","data_size_text":"{}""#, self.0),
+            false => Ok(()),
+        }
     }
 }
 
@@ -126,11 +122,29 @@ struct State(Inner);
 impl Display for State {
     fn fmt(&self, f: &mut Formatter<'_>) -> fmt::Result {
         match self.0 {
-            Inner::Plain => f.write_str(r#""plain""#),
-            Inner::Opened => f.write_str(r#""opened""#),
-            Inner::Refused(refusal) => write!(f, r#"{{"refused":{}}}"#, Reason(refusal)),
-            Inner::TooDeep => f.write_str(r#""too-deep""#),
+            Inner::Plain => Text("plain").fmt(f),
+            Inner::Opened => Text("opened").fmt(f),
+            Inner::Refused(refusal) => Object([("refused", &Reason(refusal))]).fmt(f),
+            Inner::TooDeep => Text("too-deep").fmt(f),
         }
+    }
+}
+
+/// An object of members, each with its name and its value.
+struct Object<'a, const N: usize>([(&'static str, &'a dyn Display); N]);
+
+impl<const N: usize> Display for Object<'_, N> {
+    fn fmt(&self, f: &mut Formatter<'_>) -> fmt::Result {
+        let mut start = "{\"";
+        for (name, value) in self.0 {
+            // This is faster than a format string.
+            for part in [start, name, "\":"] {
+                f.write_str(part)?;
+            }
+            value.fmt(f)?;
+            start = ",\"";
+        }
+        f.write_char('}')
     }
 }
 

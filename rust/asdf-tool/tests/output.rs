@@ -4,7 +4,7 @@ mod common;
 
 use common::*;
 use std::fs::{self, File};
-use std::io;
+use std::io::{self, Read};
 use std::process::Stdio;
 
 /// A file that is refused.
@@ -16,6 +16,8 @@ const CLOSED_ERRORS: &str = r#"exec "$0" "$@" 2>&-"#;
 /// Files for the calls below.
 struct Files {
     good: String,
+    /// A file whose listings do not fit into a pipe.
+    many: String,
     broken: String,
     stored: String,
     /// A file with an edit that was not finished.
@@ -34,6 +36,7 @@ impl Files {
         make("half.old-room", b"");
         Files {
             good: make("good", &file_with_room(3)),
+            many: make("many", &nested(2)),
             broken: make("broken", BROKEN),
             stored: make(
                 "stored",
@@ -54,6 +57,9 @@ impl Files {
             vec!["list", &self.good, &self.good],
             vec!["list", &self.good, "--plain"],
             vec!["list", &self.good, "--json"],
+            vec!["list", &self.many],
+            vec!["list", &self.many, "--plain"],
+            vec!["list", &self.many, "--json"],
             vec!["tree", &self.good],
             vec!["index", &self.good],
             vec!["index", &self.good, "--write"],
@@ -120,6 +126,29 @@ fn closed_pipe_ends_a_call_quietly() {
     }
 }
 
+/// Runs the tool, and closes its standard output when one byte was read.
+fn run_for_one_byte(words: &[&str]) -> Ran {
+    let mut call = command(words);
+    let piped = call.stdout(Stdio::piped()).stderr(Stdio::piped());
+    let mut child = piped.spawn().unwrap();
+    let mut output = child.stdout.take().unwrap();
+    output.read_exact(&mut [0]).unwrap();
+    drop(output);
+    child.wait_with_output().unwrap().into()
+}
+
+#[test]
+fn pipe_that_is_closed_early_ends_a_listing_quietly() {
+    let files = Files::new("output-early");
+    for form in ["--plain", "--json"] {
+        let ran = run_for_one_byte(&["list", form, &files.many, "/no/such/file"]);
+        assert_eq!((ran.status, ran.errors.as_str()), (Some(0), ""), "{form}");
+        let ran = run_for_one_byte(&["list", form, &files.broken, &files.many]);
+        let sentence = format!("asdf-layout: {}: {REFUSAL}\n", files.broken);
+        assert_eq!((ran.status, ran.errors), (Some(1), sentence), "{form}");
+    }
+}
+
 #[test]
 fn refusal_is_reported_even_if_the_pipe_is_closed() {
     let files = Files::new("output-closed-refused");
@@ -143,6 +172,8 @@ fn closed_or_full_standard_error_changes_no_status() {
         assert_ne!(run(&words).errors, "");
         let into_full = command(&words).stderr(full()).output().unwrap();
         assert_eq!(into_full.status.code(), Some(status), "{words:?}");
+        let unread = command(&words).stderr(closed_pipe()).output().unwrap();
+        assert_eq!(unread.status.code(), Some(status), "{words:?}");
         let tool = command(&words);
         let closed = std::process::Command::new("sh")
             .args(["-c", CLOSED_ERRORS])
