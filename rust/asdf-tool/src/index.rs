@@ -8,9 +8,6 @@ use crate::words;
 use asdf_layout::{index_text, Block, Layout, Refusal};
 use std::path::Path;
 
-/// The offset in a block from which its header size counts.
-const HEADER_SIZE_COUNTS_FROM: usize = 6;
-
 /// Prints the verdict on the index.
 pub fn print_verdict(file: &Path) -> Result<(), Stop> {
     let source = Source::file(file)?;
@@ -25,7 +22,7 @@ pub fn write(file: &Path, out: &Out) -> Result<(), Stop> {
     let text = source.accepted(index_text(&source))?;
     let offset = source.accepted(end_of_blocks(&source))?;
     out.store(file, &source, &text)?;
-    failure::note(where_it_belongs(&source, offset));
+    failure::note(where_it_belongs(&text, &source, offset));
     Ok(())
 }
 
@@ -33,19 +30,19 @@ pub fn write(file: &Path, out: &Out) -> Result<(), Stop> {
 fn end_of_blocks(file: &[u8]) -> Result<usize, Refusal> {
     let blocks = Layout::read(file)?.blocks;
     let last = Block::read(file, u64::from(blocks) - 1)?;
-    let last = last.expect("a file that can have an index has a last block");
-    let header = HEADER_SIZE_COUNTS_FROM + usize::from(last.header_size);
-    Ok(last.at + header + last.allocated)
+    Ok(last
+        .expect("a file that can have an index has a last block")
+        .end())
 }
 
 /// Says where the text of the index belongs, and what is there now.
-fn where_it_belongs(source: &Source, offset: usize) -> String {
-    let name = source.name();
-    let place =
-        format!("this text belongs at offset {offset} of {name}, directly after the last block");
-    match source.len() - offset {
-        0 => place,
-        1 => format!("{place}; the byte that follows there now has to be removed first"),
-        rest => format!("{place}; the {rest} bytes that follow there now have to be removed first"),
-    }
+fn where_it_belongs(text: &[u8], source: &Source, offset: usize) -> String {
+    let place = format!("at offset {offset} of {}", source.name());
+    let now = match source[offset..].len() {
+        _ if source[offset..] == *text => return format!("this text is already {place}"),
+        0 => String::new(),
+        1 => "; the byte that follows there now has to be removed first".to_string(),
+        rest => format!("; the {rest} bytes that follow there now have to be removed first"),
+    };
+    format!("this text belongs {place}, directly after the last block{now}")
 }

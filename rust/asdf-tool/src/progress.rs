@@ -24,9 +24,9 @@ pub struct Progress<I> {
 }
 
 /// Returns these rows, and shows how many have passed while they are taken.
-pub fn shown<I: Iterator>(rows: I) -> Progress<I> {
+pub fn shown<I: ExactSizeIterator>(rows: I) -> Progress<I> {
     Progress {
-        total: rows.size_hint().0,
+        total: rows.len(),
         rows,
         passed: 0,
         next: is_of_use().then(|| Instant::now() + FIRST),

@@ -3,7 +3,7 @@
 use crate::output::{Output, Stop};
 use crate::progress;
 use crate::source::Source;
-use crate::words::{self, Content, Size};
+use crate::words::{self, Size};
 use asdf_layout::{Layout, Record, Records, Refusal, Tree};
 use std::fmt::{self, Display, Formatter};
 use std::io::Write;
@@ -50,9 +50,9 @@ fn print(file: &Source, layout: &Layout, records: &Records, out: &mut Output) ->
         None => writeln!(out, "tree      none")?,
         Some(tree) => print_tree(tree, out)?,
     }
-    match records.iter().len() {
-        0 => writeln!(out, "blocks    none")?,
-        _ => print_blocks(records, out)?,
+    match records.is_empty() {
+        true => writeln!(out, "blocks    none")?,
+        false => print_blocks(records, out)?,
     }
     writeln!(out, "index     {}", words::verdict(layout.index))
 }
@@ -139,7 +139,7 @@ impl Row {
             &Size(block.used),
             compression,
             &if block.has_checksum() { "yes" } else { "no" },
-            &Content(record.inner),
+            &record.inner,
         ]);
     }
 

@@ -1,7 +1,7 @@
 //! The words for what is reported. They are written where they are needed, so that a listing takes
 //! no memory for them.
 
-use asdf_layout::{Block, Inner, Verdict};
+use asdf_layout::{Block, Verdict};
 use std::fmt::{self, Display, Formatter};
 use std::slice::EscapeAscii;
 
@@ -15,20 +15,6 @@ pub fn verdict(verdict: Verdict) -> &'static str {
         Verdict::Good => "good: it lists the offsets of the blocks",
         Verdict::IgnoredForm => "ignored: its text does not have the form of an index",
         Verdict::IgnoredList => "ignored: the offsets it lists are not those of the blocks",
-    }
-}
-
-/// The words for an inner state.
-pub struct Content(pub Inner);
-
-impl Display for Content {
-    fn fmt(&self, f: &mut Formatter<'_>) -> fmt::Result {
-        match self.0 {
-            Inner::Plain => f.write_str("plain"),
-            Inner::Opened => f.write_str("a file, opened"),
-            Inner::Refused(refusal) => write!(f, "a file, refused: {refusal}"),
-            Inner::TooDeep => f.write_str("a file, too deep to be read"),
-        }
     }
 }
 

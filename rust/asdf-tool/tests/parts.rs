@@ -92,6 +92,9 @@ fn written_index_is_good_where_the_sentence_says() {
         let indexed = [&blocks[..end], ran.output.as_bytes()].concat();
         let verdict = run_with_input(&["index", "-"], &indexed).output;
         assert_eq!(verdict, "good: it lists the offsets of the blocks\n");
+        let again = run_with_input(&["index", "-", "--write"], &indexed);
+        let already = format!("this text is already at offset {end} of standard input");
+        assert_eq!(again.errors, format!("asdf-layout: {already}\n"));
     }
 }
 
