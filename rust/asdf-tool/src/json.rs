@@ -11,15 +11,18 @@ use std::path::Path;
 /// Many programs read numbers as floating point, which holds every whole number up to this one.
 const LARGEST_EXACT: u64 = 1 << 53;
 
-/// Prints the listing of an accepted file. The outer result says whether the file was accepted, the
-/// inner one whether its listing was printed.
-pub fn listing(name: &Path, file: &[u8], out: &mut Output) -> Result<Result<(), Stop>, Refusal> {
-    let layout = Layout::read(file)?;
-    let records = Records::read(file)?;
+/// Prints the listing of an accepted file with this name and length.
+pub fn print(
+    name: &Path,
+    length: usize,
+    layout: &Layout,
+    records: &Records,
+    out: &mut Output,
+) -> Result<(), Stop> {
     let comments = layout.comments();
     let object = Object([
         ("file", &Text(name.to_string_lossy())),
-        ("bytes", &file.len()),
+        ("bytes", &length),
         ("version", &Text(layout.version)),
         ("header_end", &layout.header_end),
         ("line_end", &Text(layout.line_end)),
@@ -28,14 +31,14 @@ pub fn listing(name: &Path, file: &[u8], out: &mut Output) -> Result<Result<(), 
             &Object([("start", &comments.start), ("end", &comments.end)]),
         ),
         ("tree", &OrNull(layout.tree.map(Place))),
-        ("blocks", &Blocks(&records)),
+        ("blocks", &Blocks(records)),
         ("index", &Text(layout.index)),
     ]);
-    Ok(writeln!(out, "{object}"))
+    writeln!(out, "{object}")
 }
 
 /// Prints the listing of a refused file.
-pub fn refused(name: &Path, refusal: &Refusal, out: &mut Output) -> Result<(), Stop> {
+pub fn print_refusal(name: &Path, refusal: &Refusal, out: &mut Output) -> Result<(), Stop> {
     let name = Text(name.to_string_lossy());
     let object = Object([("file", &name), ("refused", &Reason(*refusal))]);
     writeln!(out, "{object}")

@@ -5,16 +5,8 @@ use crate::output::{Output, Stop};
 use crate::progress;
 use asdf_layout::{Layout, Outline, Refusal};
 
-/// Prints the listing of an accepted file. The outer result says whether the file was accepted, the
-/// inner one whether its listing was printed.
-pub fn listing(file: &[u8], out: &mut Output) -> Result<Result<(), Stop>, Refusal> {
-    let layout = Layout::read(file)?;
-    let outline = Outline::of_file(file)?;
-    Ok(print(&layout, &outline, out))
-}
-
-/// Prints the lines of an accepted file.
-fn print(layout: &Layout, outline: &Outline, out: &mut Output) -> Result<(), Stop> {
+/// Prints the listing of an accepted file.
+pub fn print(layout: &Layout, outline: &Outline, out: &mut Output) -> Result<(), Stop> {
     match layout.tree {
         None => writeln!(out, "tree none")?,
         Some(tree) => writeln!(out, "tree {} {}", tree.start, tree.end)?,
@@ -24,7 +16,7 @@ fn print(layout: &Layout, outline: &Outline, out: &mut Output) -> Result<(), Sto
 }
 
 /// Prints the listing of a refused file.
-pub fn refused(refusal: &Refusal, out: &mut Output) -> Result<(), Stop> {
+pub fn print_refusal(refusal: &Refusal, out: &mut Output) -> Result<(), Stop> {
     writeln!(out, "refused {} {}", refusal.number, refusal.place)
 }
 

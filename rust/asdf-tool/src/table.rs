@@ -2,9 +2,8 @@
 
 use crate::output::{Output, Stop};
 use crate::progress;
-use crate::source::Source;
 use crate::words::{self, Size};
-use asdf_layout::{Layout, Record, Records, Refusal, Tree};
+use asdf_layout::{Layout, Record, Records, Tree};
 use std::fmt::{self, Display, Formatter};
 use std::io::Write;
 use std::iter;
@@ -26,24 +25,16 @@ const INDENTATION: usize = 2;
 /// The number of spaces between two columns.
 const GAP: usize = 2;
 
-/// Prints the listing of an accepted file. The outer result says whether the file was accepted, the
-/// inner one whether its listing was printed. If it follows another listing, an empty line comes
-/// first.
-pub fn listing(
-    file: &Source,
-    follows: bool,
+/// Prints the listing of an accepted file with this name and length.
+pub fn print(
+    name: &str,
+    length: usize,
+    layout: &Layout,
+    records: &Records,
     out: &mut Output,
-) -> Result<Result<(), Stop>, Refusal> {
-    let layout = Layout::read(file)?;
-    let records = Records::read(file)?;
-    let separated = if follows { writeln!(out) } else { Ok(()) };
-    Ok(separated.and_then(|()| print(file, &layout, &records, out)))
-}
-
-/// Prints the lines of an accepted file.
-fn print(file: &Source, layout: &Layout, records: &Records, out: &mut Output) -> Result<(), Stop> {
-    let (name, size) = (file.name(), Size(file.len()));
-    writeln!(out, "{name}: ASDF {}, length {size}", layout.version)?;
+) -> Result<(), Stop> {
+    let (version, length) = (layout.version, Size(length));
+    writeln!(out, "{name}: ASDF {version}, length {length}")?;
     writeln!(out, "header    {}", Stretch(0..layout.header_end))?;
     writeln!(out, "comments  {}", Stretch(layout.comments()))?;
     match layout.tree {

@@ -119,10 +119,10 @@ fn json_gives_a_size_as_text_too_if_floating_point_does_not_hold_it() {
     ));
 }
 
-/// Reads JSON from standard input, and prints two of its members.
+/// Reads JSON from a file, and prints two of its members.
 const READ_JSON: &str = r#"
 import json, sys
-listing = json.load(sys.stdin)
+listing = json.load(open(sys.argv[1], encoding="utf-8"))
 print(ascii(listing["file"]), ascii(listing["blocks"][0]["compression"]))
 "#;
 
@@ -157,8 +157,11 @@ fn json_is_valid_whatever_the_names_hold() {
         assert!(ran.output.starts_with(&start), "{}", ran.output);
         assert!(ran.output.contains(r#","compression":"\\\"\\n\\xff\\\\","#));
         if has_python {
+            let json = folder.join("json");
+            fs::write(&json, ran.output).unwrap();
             let mut python = Command::new("python3");
-            let read = with_input(python.args(["-c", READ_JSON]), ran.output.as_bytes());
+            let read = python.args(["-c", READ_JSON, word(&json)]).output();
+            let read = Ran::from(read.unwrap());
             let expected = format!("{in_python} '\\\\\"\\\\n\\\\xff\\\\\\\\'\n");
             assert_eq!((read.output, read.errors.as_str()), (expected, ""));
         }
@@ -285,8 +288,8 @@ fn name_that_begins_with_a_dash_is_listed_after_two_dashes() {
     fs::write(folder.join("-strange"), HEADER).unwrap();
     fs::write(folder.join("-"), HEADER).unwrap();
     let listed = |words: &[&str]| {
-        let mut call = command(words);
-        with_input(call.current_dir(&folder), b"").output
+        let ran = command(words).current_dir(&folder).output();
+        Ran::from(ran.unwrap()).output
     };
     let first = "ASDF 1.0.0, length 12\n";
     let strange = listed(&["list", "--", "-strange"]);

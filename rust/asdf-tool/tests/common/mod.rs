@@ -52,11 +52,7 @@ pub fn run(words: &[&str]) -> Ran {
 
 /// Runs the tool with `input` as standard input.
 pub fn run_with_input(words: &[&str], input: &[u8]) -> Ran {
-    with_input(&mut command(words), input)
-}
-
-/// Runs a command with `input` as standard input.
-pub fn with_input(command: &mut Command, input: &[u8]) -> Ran {
+    let mut command = command(words);
     let piped = command
         .stdin(Stdio::piped())
         .stdout(Stdio::piped())
