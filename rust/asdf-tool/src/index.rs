@@ -21,8 +21,12 @@ pub fn write(file: &Path, out: &Out) -> Result<(), Stop> {
     let source = Source::file(file)?;
     let text = source.accepted(index_text(&source))?;
     let offset = source.accepted(end_of_blocks(&source))?;
-    out.store(file, &source, &text)?;
-    failure::note(where_it_belongs(&text, &source, offset));
+    let sentence = where_it_belongs(&text, &source, offset);
+    out.check_is_not(file, &source)?;
+    // The file can be edited while somebody reads the text.
+    drop(source);
+    out.store(&text)?;
+    failure::note(sentence);
     Ok(())
 }
 

@@ -70,7 +70,10 @@ fn print_tree(file: &Path) -> Result<(), Stop> {
 fn write_outline(file: &Path, out: &Out) -> Result<(), Stop> {
     let source = Source::file(file)?;
     let outline = source.accepted(Outline::of_file(&source))?;
-    out.store(file, &source, outline.as_bytes())
+    out.check_is_not(file, &source)?;
+    // The file can be edited while somebody reads the outline.
+    drop(source);
+    out.store(outline.as_bytes())
 }
 
 /// Prints the rows of a stored outline.

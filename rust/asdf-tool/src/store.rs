@@ -26,18 +26,20 @@ pub struct Out {
 }
 
 impl Out {
-    /// Stores what was made of a source, which was read from `file`.
-    pub fn store(&self, file: &Path, source: &Source, bytes: &[u8]) -> Result<(), Stop> {
-        if is_standard(&self.path) {
-            return Output::print(bytes);
+    /// Checks that this is not the file that a source was read from, even if the name differs.
+    pub fn check_is_not(&self, file: &Path, source: &Source) -> Result<(), Failure> {
+        if is_standard(&self.path) || !is_read_from(file, source, &self.path) {
+            return Ok(());
         }
-        if is_read_from(file, source, &self.path) {
-            let name = shown(&self.path);
-            let sentence = format!("FILE and OUT are the same file, {name}, which was not changed");
-            let advice = "choose another name for OUT";
-            return Err(Failure::usage(sentence).with_advice(advice).into());
-        }
+        let name = shown(&self.path);
+        let sentence = format!("FILE and OUT are the same file, {name}, which was not changed");
+        Err(Failure::usage(sentence).with_advice("choose another name for OUT"))
+    }
+
+    /// Stores a result, or prints it.
+    pub fn store(&self, bytes: &[u8]) -> Result<(), Stop> {
         let stored = match self.force {
+            _ if is_standard(&self.path) => return Output::print(bytes),
             true => self.overwrite(bytes),
             false => self.create(bytes),
         };
@@ -113,7 +115,7 @@ impl Out {
     }
 }
 
-/// Whether a source was read from the file at `out`, even if the name differs.
+/// Whether a source, which has the name `file`, was read from the file at `out`.
 fn is_read_from(file: &Path, source: &Source, out: &Path) -> bool {
     if !is_standard(file) {
         return source.is_at(out);

@@ -6,6 +6,8 @@ use common::*;
 use std::fs::{self, File};
 use std::io::{self, Read};
 use std::process::Stdio;
+use std::thread;
+use std::time::Duration;
 
 /// A file that is refused.
 const BROKEN: &[u8] = b"#ASDF 2.0.0\n";
@@ -184,4 +186,29 @@ fn closed_or_full_standard_error_changes_no_status() {
         assert_eq!(closed.status.code(), Some(status), "{words:?}");
         assert_eq!(closed.stdout, run(&words).output.as_bytes());
     }
+}
+
+#[test]
+fn file_can_be_edited_while_its_listing_waits_for_a_reader() {
+    let folder = folder("output-edited");
+    let (path, text) = (folder.join("file"), folder.join("text"));
+    let file = [HEADER, TREE, b"     ", &block(&nested(2))].concat();
+    fs::write(&path, file).unwrap();
+    fs::write(&text, "%YAML 1.1\n---\na: 1\n...\n").unwrap();
+    let mut call = command(&["list", word(&path), "--json"]);
+    let mut listing = call.stdout(Stdio::piped()).spawn().unwrap();
+    let mut output = listing.stdout.take().unwrap();
+    output.read_exact(&mut [0]).unwrap();
+    let mut edit = command(&["edit", word(&path), word(&text)])
+        .spawn()
+        .unwrap();
+    let ended = (0..100).find_map(|_| {
+        thread::sleep(Duration::from_millis(50));
+        edit.try_wait().unwrap()
+    });
+    // Otherwise it would wait here for ever.
+    drop(output);
+    assert_eq!(listing.wait().unwrap().code(), Some(0));
+    assert_eq!(edit.wait().unwrap().code(), Some(0));
+    assert!(ended.is_some(), "the edit waited for the listing");
 }
