@@ -36,11 +36,14 @@ pub enum Form {
     Json,
 }
 
-/// The name of a command, its help, and its options besides `-h` and `--help`.
+/// How a command is called.
 struct Usage {
     name: &'static str,
     help: &'static str,
+    /// Its options besides `-h` and `--help`.
     options: &'static [&'static str],
+    /// Makes the command of words whose options fit each other.
+    make: fn(Words) -> Sorted<Command>,
 }
 
 const USAGES: [Usage; 6] = [
@@ -48,31 +51,37 @@ const USAGES: [Usage; 6] = [
         name: "list",
         help: help::LIST,
         options: &["--plain", "--json"],
+        make: Words::list,
     },
     Usage {
         name: "tree",
         help: help::TREE,
         options: &[],
+        make: Words::tree,
     },
     Usage {
         name: "index",
         help: help::INDEX,
         options: &["--write", "-o", "--force"],
+        make: Words::index,
     },
     Usage {
         name: "outline",
         help: help::OUTLINE,
         options: &["-o", "--force", "--read"],
+        make: Words::outline,
     },
     Usage {
         name: "edit",
         help: help::EDIT,
         options: &[],
+        make: Words::edit,
     },
     Usage {
         name: "restore",
         help: help::RESTORE,
         options: &["--set-aside"],
+        make: Words::restore,
     },
 ];
 /// Options that exclude each other.
@@ -92,7 +101,7 @@ pub fn parse(words: Vec<OsString>) -> Result<Command, Failure> {
         [] if first == "--version" => Ok(Command::Version),
         [surplus, ..] if first == "--version" => Err(unknown(format!(
             "`--version` takes no other word; {} is one too many",
-            quoted(surplus)
+            backquoted(surplus)
         ))),
         _ => Usage::of(first)?.command(rest),
     }
@@ -110,7 +119,7 @@ fn help_about(words: &[OsString]) -> Result<Command, Failure> {
         [name] => Ok(Command::Help(Usage::of(name)?.help)),
         [_, surplus, ..] => Err(unknown(format!(
             "`help` takes one command; {} is one too many",
-            quoted(surplus)
+            backquoted(surplus)
         ))),
     }
 }
@@ -121,7 +130,7 @@ fn unknown(problem: impl Into<String>) -> Failure {
 }
 
 /// Returns a word for a message.
-fn quoted(word: &OsStr) -> String {
+fn backquoted(word: &OsStr) -> String {
     format!("`{}`", names::shown(Path::new(word)))
 }
 
@@ -135,7 +144,7 @@ impl Usage {
     fn of(name: &OsStr) -> Result<&'static Usage, Failure> {
         let mut usages = USAGES.iter();
         let usage = usages.find(|usage| name == usage.name);
-        usage.ok_or_else(|| unknown(format!("{} is not a command", quoted(name))))
+        usage.ok_or_else(|| unknown(format!("{} is not a command", backquoted(name))))
     }
 
     /// Returns the command with the words after its name.
@@ -191,7 +200,7 @@ impl Words {
         let mut options = self.usage.options.iter();
         let Some(option) = options.find(|option| word == **option) else {
             let name = self.usage.name;
-            return Err(format!("{} is not an option of `{name}`", quoted(word)));
+            return Err(format!("{} is not an option of `{name}`", backquoted(word)));
         };
         if self.has(option) {
             return Err(format!("`{option}` was given twice"));
@@ -238,14 +247,7 @@ impl Words {
     fn command(self) -> Sorted<Command> {
         self.check_options()?;
         self.check_files()?;
-        match self.usage.name {
-            "list" => self.list(),
-            "tree" => self.exactly(["FILE"]).map(|[file]| Command::Tree { file }),
-            "index" => self.index(),
-            "outline" => self.outline(),
-            "edit" => self.edit(),
-            _ => self.restore(),
-        }
+        (self.usage.make)(self)
     }
 
     fn list(self) -> Sorted<Command> {
@@ -261,6 +263,11 @@ impl Words {
                 form,
             }),
         }
+    }
+
+    fn tree(self) -> Sorted<Command> {
+        let [file] = self.exactly(["FILE"])?;
+        Ok(Command::Tree { file })
     }
 
     fn index(mut self) -> Sorted<Command> {
@@ -322,7 +329,7 @@ impl Words {
     /// Returns the files, if there are as many as `names`.
     fn exactly<const N: usize>(self, names: [&str; N]) -> Sorted<[PathBuf; N]> {
         if let Some(surplus) = self.files.get(N) {
-            let (name, surplus) = (self.usage.name, quoted(surplus.as_os_str()));
+            let (name, surplus) = (self.usage.name, backquoted(surplus.as_os_str()));
             let files = if N == 1 { "one file" } else { "two files" };
             return Err(format!("`{name}` takes {files}; {surplus} is one too many"));
         }
@@ -343,9 +350,10 @@ impl Words {
 fn out_name(word: Option<&OsString>) -> Sorted<PathBuf> {
     match word {
         None => Err("`-o` needs a name after it".to_string()),
-        Some(word) if is_option(word) || word.is_empty() => {
-            Err(format!("`-o` needs a name after it, not {}", quoted(word)))
-        }
+        Some(word) if is_option(word) || word.is_empty() => Err(format!(
+            "`-o` needs a name after it, not {}",
+            backquoted(word)
+        )),
         Some(word) => Ok(word.into()),
     }
 }

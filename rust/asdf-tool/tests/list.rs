@@ -366,6 +366,15 @@ fn several_files_are_listed_whatever_happens_to_one_of_them() {
 }
 
 #[test]
+fn standard_input_may_be_one_of_several_files() {
+    let file = [HEADER, &block_header(0)].concat();
+    let ran = run_with_input(&["list", "--plain", &real("tree-only"), "-"], &file);
+    let last = "\nfile -\ntree none\n0 0 12 48 0 0 0 0 0 0\nindex absent\n";
+    assert!(ran.output.ends_with(last), "{}", ran.output);
+    assert_eq!((ran.status, ran.errors.as_str()), (Some(0), ""));
+}
+
+#[test]
 fn worst_status_counts_wherever_it_comes_from() {
     let several = Several::new("list-worst");
     let status = |files: &[&str]| {
