@@ -26,6 +26,16 @@ pub struct SignalAction {
     pub restorer: usize,
 }
 
+impl SignalAction {
+    /// What the system does by itself.
+    pub const NONE: SignalAction = SignalAction {
+        handler: DEFAULT,
+        blocked: [0; 16],
+        flags: 0,
+        restorer: 0,
+    };
+}
+
 /// An entry of the list of users. Only the field that is read has a name.
 #[repr(C)]
 pub struct UserEntry {
@@ -43,15 +53,14 @@ extern "C" {
     ) -> Address;
     pub fn mprotect(address: Address, length: usize, protection: c_int) -> c_int;
     pub fn munmap(address: Address, length: usize) -> c_int;
-    pub fn memfd_create(name: *const c_char, flags: c_uint) -> c_int;
+    pub fn mremap(old: Address, old_length: usize, length: usize, flags: c_int, ...) -> Address;
     pub fn pread(file: c_int, bytes: Address, length: usize, offset: i64) -> isize;
-    pub fn pwrite(file: c_int, bytes: *const c_void, length: usize, offset: i64) -> isize;
     pub fn write(file: c_int, bytes: *const c_void, length: usize) -> isize;
     pub fn sigaction(signal: c_int, new: *const SignalAction, old: *mut SignalAction) -> c_int;
     pub fn _exit(status: c_int) -> !;
     pub fn __errno_location() -> *mut c_int;
-    pub fn fcntl(file: c_int, command: c_int) -> c_int;
-    pub fn openat(folder: c_int, name: *const c_char, flags: c_int, mode: c_uint) -> c_int;
+    pub fn fcntl(file: c_int, command: c_int, ...) -> c_int;
+    pub fn openat(folder: c_int, name: *const c_char, flags: c_int, ...) -> c_int;
     pub fn unlinkat(folder: c_int, name: *const c_char, flags: c_int) -> c_int;
     pub fn linkat(
         from_folder: c_int,
@@ -80,9 +89,10 @@ pub const MAP_PRIVATE: c_int = 0x2;
 pub const MAP_ANONYMOUS: c_int = 0x20;
 pub const MAP_NORESERVE: c_int = 0x4000;
 pub const NO_FILE: c_int = -1;
-pub const MFD_CLOEXEC: c_uint = 1;
+pub const MREMAP_MAYMOVE: c_int = 1;
 
 pub const SIGSEGV: c_int = 11;
+pub const SIGXFSZ: c_int = 25;
 pub const DEFAULT: usize = 0;
 pub const IGNORED: usize = 1;
 /// The handler is given the signal's details.
@@ -91,6 +101,7 @@ pub const SA_SIGINFO: c_int = 4;
 pub const SA_ONSTACK: c_int = 0x0800_0000;
 
 pub const EINTR: c_int = 4;
+pub const EFAULT: c_int = 14;
 
 pub const O_RDWR: c_int = 0o2;
 pub const O_WRONLY: c_int = 0o1;

@@ -1,8 +1,9 @@
 //! Ends the process where nothing else can be done: in a signal handler, and where there is no memory left.
 
-use crate::calls::{_exit, write};
+use crate::calls::{_exit, sigaction, write, SignalAction, IGNORED, SIGXFSZ};
 use std::alloc::{GlobalAlloc, Layout, System};
 use std::ffi::c_int;
+use std::ptr::null_mut;
 
 const STANDARD_ERROR: c_int = 2;
 /// The exit status of an operation that the system does not carry out.
@@ -16,6 +17,17 @@ pub(crate) fn end(sentence: &[u8]) -> ! {
         write(STANDARD_ERROR, sentence.as_ptr().cast(), sentence.len());
         _exit(NOT_DONE)
     }
+}
+
+/// Lets a write fail that passes the largest length that the user allows for files (`ulimit -f`). Otherwise the system would
+/// end the process by a signal.
+pub fn survive_size_limit() {
+    let action = SignalAction {
+        handler: IGNORED,
+        ..SignalAction::NONE
+    };
+    // SAFETY: the action is valid, and nobody asks for the former one.
+    unsafe { sigaction(SIGXFSZ, &action, null_mut()) };
 }
 
 /// The system's memory, for `#[global_allocator]`. If there is not enough of it, the process says so and ends with status 2.

@@ -2,9 +2,8 @@
 //! stands still from then on, whatever becomes of the file.
 //!
 //! The bytes have an address from the start, but no access is allowed. The first access to a chunk raises a signal. Its
-//! handler copies the chunk from the file into memory that nobody else can see yet, and only then allows access; so no
-//! thread ever sees a part of a chunk. The memory is that of a file without a name (`memfd_create`), which can be written
-//! while its map cannot be accessed.
+//! handler maps the chunk a second time, at an address that nobody else knows, and reads the file there. Only then it allows
+//! access to the chunk. So no thread ever sees a part of a chunk.
 //!
 //! The system does not raise the signal for its own accesses: a call such as `write` fails if it is given bytes that were
 //! never touched. So copy bytes before they go to the system.
@@ -17,7 +16,7 @@ use std::ffi::{c_int, c_void};
 use std::fs::File;
 use std::io;
 use std::ops::{Deref, Range};
-use std::os::fd::{AsRawFd, FromRawFd};
+use std::os::fd::AsRawFd;
 use std::ptr::{null, null_mut};
 use std::slice;
 use std::sync::{Once, OnceLock};
@@ -127,15 +126,11 @@ struct Held {
     start: usize,
     length: usize,
     file: File,
-    /// The file without a name that holds what is filled.
-    memory: File,
     /// One bit for each chunk: whether it is filled.
     filled: Vec<u64>,
     /// How many times something was filled.
     fills: usize,
     is_writable: bool,
-    /// A chunk on its way from the file.
-    chunk: Vec<u8>,
     sentences: Sentences,
 }
 
@@ -148,23 +143,16 @@ enum Trouble {
 
 impl Held {
     fn new(file: File, length: usize, sentences: Sentences) -> io::Result<Held> {
-        let memory = unnamed_file()?;
-        memory.set_len(length as u64)?;
-        let start = map(
-            length,
-            PROT_NONE,
-            MAP_SHARED | MAP_NORESERVE,
-            memory.as_raw_fd(),
-        )?;
+        // Only a map that may be shared can be mapped a second time. Nobody else has it.
+        let flags = MAP_SHARED | MAP_ANONYMOUS | MAP_NORESERVE;
+        let start = map(length, PROT_NONE, flags, NO_FILE)?;
         Ok(Held {
             start: start as usize,
             length,
             file,
-            memory,
             filled: vec![0; length.div_ceil(CHUNK).div_ceil(64)],
             fills: 0,
             is_writable: false,
-            chunk: vec![0; CHUNK.min(length)],
             sentences,
         })
     }
@@ -193,11 +181,13 @@ impl Held {
             true => chunk..chunk + 1,
             false => self.group_of(chunk),
         };
+        let window = Window::new(self.bytes_of(chunks.clone()))?;
         for chunk in chunks.clone() {
             if !self.is_filled(chunk) {
-                self.copy(chunk)?;
+                self.read(chunk, &window)?;
             }
         }
+        drop(window);
         self.allow(chunks.clone()).map_err(|_| Trouble::NoMemory)?;
         for chunk in chunks {
             self.filled[chunk / 64] |= 1 << (chunk % 64);
@@ -218,53 +208,43 @@ impl Held {
         first..(first + chunks).min(self.length.div_ceil(CHUNK))
     }
 
-    /// Copies a chunk from the file into memory.
-    fn copy(&mut self, chunk: usize) -> Result<(), Trouble> {
-        let start = chunk * CHUNK;
-        let length = CHUNK.min(self.length - start);
-        let (file, memory) = (self.file.as_raw_fd(), self.memory.as_raw_fd());
-        let bytes = &mut self.chunk[..length];
-        all_of(length, |from| {
-            let rest = &mut bytes[from..];
-            // SAFETY: the slice has this many bytes.
-            unsafe {
-                pread(
-                    file,
-                    rest.as_mut_ptr().cast(),
-                    rest.len(),
-                    (start + from) as i64,
-                )
+    /// Returns where chunks are in memory.
+    fn bytes_of(&self, chunks: Range<usize>) -> Range<usize> {
+        let end = (chunks.end * CHUNK).min(self.length);
+        self.start + chunks.start * CHUNK..self.start + end
+    }
+
+    /// Reads a chunk from the file into memory.
+    fn read(&self, chunk: usize, window: &Window) -> Result<(), Trouble> {
+        let Range { start, end } = self.bytes_of(chunk..chunk + 1);
+        let file = self.file.as_raw_fd();
+        let mut at = start;
+        while at < end {
+            let (place, offset) = (window.place_of(at), (at - self.start) as i64);
+            // SAFETY: the window is writable there for so many bytes, and nobody else knows it.
+            match unsafe { pread(file, place, end - at, offset) } {
+                0 => return Err(Trouble::Shortened),
+                count if count > 0 => at += count as usize,
+                // SAFETY: every thread has this number.
+                _ => match unsafe { *__errno_location() } {
+                    EINTR => (),
+                    EFAULT => return Err(Trouble::NoMemory),
+                    _ => return Err(Trouble::Unreadable),
+                },
             }
-        })
-        .map_err(|error| match error {
-            0 => Trouble::Shortened,
-            _ => Trouble::Unreadable,
-        })?;
-        all_of(length, |from| {
-            let rest = &bytes[from..];
-            // SAFETY: the slice has this many bytes.
-            unsafe {
-                pwrite(
-                    memory,
-                    rest.as_ptr().cast(),
-                    rest.len(),
-                    (start + from) as i64,
-                )
-            }
-        })
-        .map_err(|_| Trouble::NoMemory)
+        }
+        Ok(())
     }
 
     /// Allows access to chunks.
     fn allow(&self, chunks: Range<usize>) -> io::Result<()> {
-        let (start, end) = (chunks.start * CHUNK, (chunks.end * CHUNK).min(self.length));
+        let Range { start, end } = self.bytes_of(chunks);
         let protection = match self.is_writable {
             true => PROT_READ | PROT_WRITE,
             false => PROT_READ,
         };
-        let address = (self.start + start) as Address;
         // SAFETY: these chunks are a part of the map, which is ours alone.
-        match unsafe { mprotect(address, end - start, protection) } {
+        match unsafe { mprotect(start as Address, end - start, protection) } {
             0 => Ok(()),
             _ => Err(io::Error::last_os_error()),
         }
@@ -286,51 +266,54 @@ impl Drop for Held {
     }
 }
 
-/// Repeats a call that moves some bytes until it has moved `length` bytes. `call` is given how many it has moved already.
-/// Fails with the system's number for the error, or with 0 if nothing more comes. It may be called by a signal handler.
-fn all_of(length: usize, mut call: impl FnMut(usize) -> isize) -> Result<(), c_int> {
-    let mut moved = 0;
-    while moved < length {
-        match call(moved) {
-            0 => return Err(0),
-            // SAFETY: every thread has this number.
-            count if count < 0 => match unsafe { *__errno_location() } {
-                EINTR => (),
-                error => return Err(error),
-            },
-            count => moved += count as usize,
-        }
-    }
-    Ok(())
+/// A second map of a part of the bytes, in which they can be written before anybody can read them.
+struct Window {
+    /// The part, at its own address.
+    bytes: Range<usize>,
+    start: Address,
 }
 
-/// Makes a file without a name, which is in memory.
-fn unnamed_file() -> io::Result<File> {
-    // SAFETY: the name ends with 0, and the new descriptor is nobody else's.
-    unsafe {
-        match memfd_create(c"asdf".as_ptr(), MFD_CLOEXEC) {
-            -1 => Err(io::Error::last_os_error()),
-            file => Ok(File::from_raw_fd(file)),
+impl Window {
+    fn new(bytes: Range<usize>) -> Result<Window, Trouble> {
+        // SAFETY: an old length of 0 makes a second map of the same memory, at an address that the system chooses.
+        let start = unsafe { mremap(bytes.start as Address, 0, bytes.len(), MREMAP_MAYMOVE) };
+        if start as isize == -1 {
+            return Err(Trouble::NoMemory);
         }
+        let window = Window { bytes, start };
+        // SAFETY: the new map has this length and is ours alone.
+        match unsafe { mprotect(start, window.bytes.len(), PROT_READ | PROT_WRITE) } {
+            0 => Ok(window),
+            _ => Err(Trouble::NoMemory),
+        }
+    }
+
+    /// Returns where the byte with this address is in the window.
+    fn place_of(&self, address: usize) -> Address {
+        self.start.wrapping_byte_add(address - self.bytes.start)
+    }
+}
+
+impl Drop for Window {
+    fn drop(&mut self) {
+        // SAFETY: the map was made with this length, and nobody else knows it.
+        unsafe { munmap(self.start, self.bytes.len()) };
     }
 }
 
 /// Installs the signal handler, once.
 fn install() {
     INSTALLED.call_once(|| {
-        let mut action = SignalAction {
-            handler: DEFAULT,
-            blocked: [0; 16],
-            flags: 0,
-            restorer: 0,
+        let mut former = SignalAction::NONE;
+        let action = SignalAction {
+            handler: handle as *const () as usize,
+            flags: SA_SIGINFO | SA_ONSTACK,
+            ..SignalAction::NONE
         };
-        // SAFETY: both pointers are valid. The former handler is known before ours can be called.
+        // SAFETY: all pointers are valid. The former handler is known before ours can be called.
         unsafe {
-            sigaction(SIGSEGV, null(), &mut action);
-            FORMER.get_or_init(|| action);
-            action.handler = handle as *const () as usize;
-            action.flags = SA_SIGINFO | SA_ONSTACK;
-            action.blocked = [0; 16];
+            sigaction(SIGSEGV, null(), &mut former);
+            FORMER.get_or_init(|| former);
             sigaction(SIGSEGV, &action, null_mut());
         }
     });
@@ -367,11 +350,7 @@ fn hand_on(signal: c_int, info: *const SignalInfo, context: *const c_void) {
     unsafe {
         match former.handler {
             DEFAULT | IGNORED => {
-                let action = SignalAction {
-                    handler: DEFAULT,
-                    ..*former
-                };
-                sigaction(signal, &action, null_mut());
+                sigaction(signal, &SignalAction::NONE, null_mut());
             }
             handler => std::mem::transmute::<usize, Handler>(handler)(signal, info, context),
         }

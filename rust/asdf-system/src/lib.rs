@@ -5,6 +5,7 @@
 //! | the bytes of a file of any length, which stand still | [`Filled`] |
 //! | files by their names in one opened folder | [`Folder`] |
 //! | a sentence and status 2 if there is no memory | [`Memory`] |
+//! | an error, not a signal, if a file may not become so long | [`survive_size_limit`] |
 //! | whether a standard stream was closed | [`input_was_closed`], [`output_was_closed`] |
 //! | the caller and the names of users | [`caller`], [`name_of`] |
 //! | long ranges of zeros, for tests | [`Zeros`] |
@@ -20,7 +21,7 @@ mod standard;
 mod user;
 mod zeros;
 
-pub use ending::Memory;
+pub use ending::{survive_size_limit, Memory};
 pub use filled::{Filled, Sentences};
 pub use folder::Folder;
 pub use standard::{input_was_closed, output_was_closed};

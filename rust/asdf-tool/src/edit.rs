@@ -49,7 +49,7 @@ pub fn restore(path: &Path) -> Result<(), Failure> {
 }
 
 /// Moves a kept room that cannot be restored out of the way, and returns where it was and where it is.
-pub fn set_aside(path: &Path) -> Result<(PathBuf, PathBuf), Failure> {
+pub fn set_aside(path: &Path) -> Result<[PathBuf; 2], Failure> {
     let target = Target::open(path)?;
     let kept = kept::path_for(&target);
     match kept::look_beside(&target)? {
@@ -65,7 +65,7 @@ pub fn set_aside(path: &Path) -> Result<(PathBuf, PathBuf), Failure> {
         }
         Beside::Kept(_) | Beside::Strange(_) => (),
     }
-    Ok((kept, kept::set_aside(&target)?))
+    Ok([kept, kept::set_aside(&target)?])
 }
 
 /// Refuses to edit a file with several names: an edit that is interrupted would be known under one of them only.

@@ -5,7 +5,6 @@ use asdf_layout::Refusal;
 use std::fmt::{self, Display};
 use std::io::{self, Write};
 use std::path::Path;
-use std::process::ExitCode;
 
 /// The status when a proved function refuses something.
 const REFUSED: u8 = 1;
@@ -14,7 +13,9 @@ const NOT_DONE: u8 = 2;
 
 /// Tells the user something on standard error. If nobody can be told, the command goes on.
 pub fn note(sentence: impl Display) {
-    let _ = writeln!(io::stderr(), "asdf-layout: {sentence}");
+    // It is written at once, so that it is not mixed with what other programs write there.
+    let line = format!("asdf-layout: {sentence}\n");
+    let _ = io::stderr().write_all(line.as_bytes());
 }
 
 /// What a failed command prints, and its exit status.
@@ -65,8 +66,10 @@ impl Failure {
         }
     }
 
-    pub fn status(&self) -> ExitCode {
-        ExitCode::from(self.status)
+    /// Tells the user, and returns the exit status.
+    pub fn report(&self) -> u8 {
+        note(self);
+        self.status
     }
 }
 

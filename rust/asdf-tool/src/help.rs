@@ -3,23 +3,31 @@
 pub const ALL: &str = "\
 Shows where everything is in an ASDF file, including the ASDF files inside its blocks.
 
-  asdf-layout list FILE [--plain | --json]   prints the layout and all blocks
-  asdf-layout tree FILE                      prints the text of the tree
-  asdf-layout index FILE [--write]           prints the verdict on the block index, or the text of the correct index
-  asdf-layout outline FILE -o OUT            stores the outline of FILE, sixteen bytes for each block
-  asdf-layout outline --read OUT             prints the rows of a stored outline
-  asdf-layout edit FILE TREE                 replaces the tree in place
-  asdf-layout restore FILE                   undoes an edit that was not finished
-  asdf-layout COMMAND --help                 prints more about a command
+  asdf-layout list FILE... [--plain | --json]         prints the layout and all blocks of each file
+  asdf-layout tree FILE                               prints the text of the tree
+  asdf-layout index FILE                              prints the verdict on the block index
+  asdf-layout index FILE --write [-o OUT] [--force]   prints or stores the text of the correct index
+  asdf-layout outline FILE -o OUT [--force]           stores the outline of FILE, sixteen bytes for each block
+  asdf-layout outline --read OUT                      prints the rows of a stored outline
+  asdf-layout edit FILE TREE                          replaces the tree in place
+  asdf-layout restore FILE [--set-aside]              undoes an edit that was not finished
+  asdf-layout help COMMAND                            prints more about a command, as COMMAND -h and COMMAND --help do
+  asdf-layout --version                               prints the version of this tool
 
-A file that is only read can be given as `-`, which means standard input.
+Options and files may come in any order after the command. Each option is a word of its own, and so is the name after
+`-o`. After `--` every word is a file, so `asdf-layout list -- -name` lists a file whose name begins with `-`. As the
+name after `-o`, such a name is given as `./-name`.
+
+A file that is only read can be given as `-`, which means standard input, also after `--`. A file with the name `-` is
+given as `./-`.
 
 The exit status is 0 if the command succeeded, 1 if something was refused, and 2 if the call was wrong or a file could
-not be read or written. If it is not 0, a sentence on standard error says why.
+not be read or written. If it is not 0, a sentence on standard error says why. If the reader of standard output closes
+it early, as `head` does, the command ends without a message.
 ";
 
 pub const LIST: &str = "\
-asdf-layout list FILE [--plain | --json]
+asdf-layout list FILE... [--plain | --json]
 
 Prints where the header, the comments and the tree are, one line for each block, and the verdict on the block index.
 
@@ -28,14 +36,23 @@ counts from the first byte of FILE; only the place of an inner file's refusal co
 byte. The room of the tree is the space that an edit may fill: from the tree's first byte to the first block, or to
 the end of the file.
 
+Several files are listed in order, with an empty line between two listings. If one of them is refused or cannot be
+read, the others are still listed. The exit status is 2 if one could not be read, otherwise 1 if one was refused.
+
   --plain   prints lines for programs:
+              - if several files are listed, `file NAME`, with an escape for what could mislead a terminal;
               - `tree START END` or `tree none`;
               - for each block ten numbers: depth, ordinal, offset, header size, allocated, used, streamed,
                 compressed, checksum, inner state (0 plain, 1 opened, 2 refused, 3 too deep);
               - `index VERDICT`, where VERDICT is `absent`, `good`, `ignored-form` or `ignored-list`.
-            For a refused file it prints only `refused NUMBER PLACE`.
-  --json    prints one JSON object with all that is known about the file and each block. For a refused file the
-            object has only the key `refused`. The key `line_end` states how the header line ends: `0A` or `0D 0A`.
+            For a refused file only `refused NUMBER PLACE` follows the name.
+  --json    prints one JSON object for each file, on one line, with all that is known about the file and each block.
+            The key `file` holds the name as it was given; bytes of it that are not UTF-8 become U+FFFD. For a refused
+            file the only other key is `refused`. The key `line_end` states how the header line ends: `0A` or `0D 0A`.
+            If a data size is above 9007199254740992, which is 2 to the power of 53, the key `data_size_text` after it
+            has the same number as text, for programs that read numbers as floating point.
+
+A long listing into a file or a pipe shows its progress on standard error, if that is a terminal.
 ";
 
 pub const TREE: &str = "\
@@ -45,7 +62,8 @@ Prints the text of the tree, from `%YAML 1.1` through `...`. If the file has no 
 ";
 
 pub const INDEX: &str = "\
-asdf-layout index FILE [--write]
+asdf-layout index FILE
+asdf-layout index FILE --write [-o OUT] [--force]
 
 Prints the verdict on the block index, which may be written in brackets or with dashes:
 
@@ -55,16 +73,21 @@ Prints the verdict on the block index, which may be written in brackets or with 
 
 After `good` and `ignored` the reason follows. The offsets in the index are never used to find blocks.
 
-  --write   prints the text of the correct index instead, in brackets, to be put directly after the last block; its
-            lines end as the header line does
+  --write   prints the text of the correct index instead, in brackets; its lines end as the header line does. FILE does
+            not change. A sentence on standard error says at which offset of FILE the text belongs, which is directly
+            after the last block, and how many bytes have to be removed there first.
+  -o OUT    stores the text in OUT, which must not exist yet. If OUT is `-`, the text goes to standard output.
+  --force   overwrites OUT if it exists. If that fails, OUT is as it was.
 ";
 
 pub const OUTLINE: &str = "\
-asdf-layout outline FILE -o OUT
+asdf-layout outline FILE -o OUT [--force]
 asdf-layout outline --read OUT
 
-Stores the outline of FILE in OUT, sixteen bytes for each block. If OUT is `-`, the outline goes to standard output.
+Stores the outline of FILE in OUT, sixteen bytes for each block.
 
+  -o OUT    the file to store it in, which must not exist yet. If OUT is `-`, the outline goes to standard output.
+  --force   overwrites OUT if it exists. If that fails, OUT is as it was. OUT must not be FILE itself.
   --read    prints the rows of a stored outline instead, one on each line: depth, ordinal, offset, header size,
             allocated, used, streamed, compressed, checksum, inner state (0 plain, 1 opened, 2 refused, 3 too deep)
 ";
@@ -83,10 +106,12 @@ cannot be edited. If it is interrupted before that, FILE has not changed.
 ";
 
 pub const RESTORE: &str = "\
-asdf-layout restore FILE
+asdf-layout restore FILE [--set-aside]
 
 Brings back the tree that FILE had before an edit that was not finished, from FILE.old-room.
 
 If there is no FILE.old-room, or if it is damaged or does not fit FILE, nothing changes and the exit status is 2. If
-FILE is complete without it, remove FILE.old-room by hand; until then FILE cannot be edited.
+FILE is complete without it, set FILE.old-room aside; until then FILE cannot be edited.
+
+  --set-aside   leaves FILE as it is and gives FILE.old-room another name, so that FILE can be edited again
 ";

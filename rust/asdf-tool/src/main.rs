@@ -11,123 +11,93 @@ mod failure;
 mod help;
 #[cfg(feature = "hooks")]
 mod hooks;
+mod index;
 mod json;
 mod kept;
+mod list;
 mod memory;
 mod names;
+mod output;
 mod plain;
+mod progress;
 mod source;
 mod steps;
+mod store;
 mod table;
 mod target;
 mod words;
 
-use asdf_layout::{index_text, Layout, Outline, Refusal};
-use command::{Command, Form};
-use failure::Failure;
+use asdf_layout::{Layout, Outline};
+use command::Command;
+use output::{Output, Stop};
 use source::Source;
 use std::env;
-use std::fs;
-use std::io::{self, Write};
 use std::path::Path;
 use std::process::ExitCode;
+use store::Out;
+
+/// What `--version` prints.
+const VERSION: &str = concat!("asdf-layout ", env!("CARGO_PKG_VERSION"), "\n");
 
 fn main() -> ExitCode {
+    asdf_system::survive_size_limit();
     let words = env::args_os().skip(1).collect();
-    match command::parse(words).and_then(run) {
-        Ok(()) => ExitCode::SUCCESS,
-        Err(failure) => {
-            failure::note(&failure);
-            failure.status()
-        }
-    }
+    let ended = command::parse(words).map_err(Stop::from).and_then(run);
+    ended.map_or_else(|stop| stop.report(), |()| 0).into()
 }
 
 /// Carries out a command.
-fn run(command: Command) -> Result<(), Failure> {
+fn run(command: Command) -> Result<(), Stop> {
     match command {
-        Command::Help(text) => print(text.as_bytes()),
-        Command::List { file, form } => list(&Source::file(&file)?, form),
-        Command::Tree { file } => print_tree(&Source::file(&file)?),
-        Command::Verdict { file } => print_verdict(&Source::file(&file)?),
-        Command::Index { file } => print_index(&Source::file(&file)?),
-        Command::Outline { file, out } => write_outline(&Source::file(&file)?, &out),
-        Command::ReadOutline { stored } => print_outline(&Source::whole(&stored)?),
-        Command::Edit { file, tree } => edit::edit(&file, &Source::whole(&tree)?),
-        Command::Restore { file } => edit::restore(&file),
-        Command::SetAside { file } => set_aside(&file),
+        Command::Help(text) => Output::print(text.as_bytes())?,
+        Command::Version => Output::print(VERSION.as_bytes())?,
+        Command::List { files, form } => list::list(&files, form)?,
+        Command::Tree { file } => print_tree(&file)?,
+        Command::Verdict { file } => index::print_verdict(&file)?,
+        Command::Index { file, out } => index::write(&file, &out)?,
+        Command::Outline { file, out } => write_outline(&file, &out)?,
+        Command::ReadOutline { stored } => print_outline(&stored)?,
+        Command::Edit { file, tree } => edit::edit(&file, &Source::whole(&tree)?)?,
+        Command::Restore { file } => edit::restore(&file)?,
+        Command::SetAside { file } => set_aside(&file)?,
     }
-}
-
-/// Writes to standard output.
-fn print(bytes: &[u8]) -> Result<(), Failure> {
-    let mut output = io::stdout();
-    let written = output.write_all(bytes).and_then(|()| output.flush());
-    written.map_err(|error| Failure::system("cannot write to standard output", error))
-}
-
-/// Prints a listing. The forms for programs also print a refusal, before it is reported in a
-/// sentence on standard error.
-fn list(source: &Source, form: Form) -> Result<(), Failure> {
-    let listing = match form {
-        Form::Table => table::listing(source),
-        Form::Plain => plain::listing(source),
-        Form::Json => json::listing(source),
-    };
-    let refused: fn(&Refusal) -> String = match form {
-        Form::Table => |_| String::new(),
-        Form::Plain => plain::refused,
-        Form::Json => json::refused,
-    };
-    match listing {
-        Ok(listing) => print(listing.as_bytes()),
-        Err(refusal) => {
-            print(refused(&refusal).as_bytes())?;
-            source.accepted(Err(refusal))
-        }
-    }
+    Ok(())
 }
 
 /// Prints the text of the tree, or nothing if there is no tree.
-fn print_tree(source: &Source) -> Result<(), Failure> {
-    let layout = source.accepted(Layout::read(source))?;
+fn print_tree(file: &Path) -> Result<(), Stop> {
+    let source = Source::file(file)?;
+    let layout = source.accepted(Layout::read(&source))?;
     let text = layout.tree.map_or(0..0, |tree| tree.text());
-    print(&source[text])
-}
-
-/// Prints the verdict on the index.
-fn print_verdict(source: &Source) -> Result<(), Failure> {
-    let layout = source.accepted(Layout::read(source))?;
-    print(format!("{}\n", words::verdict(layout.index)).as_bytes())
-}
-
-/// Prints the text of the correct index for the file.
-fn print_index(source: &Source) -> Result<(), Failure> {
-    print(&source.accepted(index_text(source))?)
+    let text = source[text].to_vec();
+    // The file can be edited while somebody reads its tree.
+    drop(source);
+    Output::print(&text)
 }
 
 /// Stores the outline of a file.
-fn write_outline(source: &Source, out: &Path) -> Result<(), Failure> {
-    let outline = source.accepted(Outline::of_file(source))?;
-    if source::is_standard(out) {
-        return print(outline.as_bytes());
-    }
-    if source.is_at(out) {
-        return Err(Failure::usage(
-            "FILE and OUT are the same file, which the outline would overwrite; choose another OUT",
-        ));
-    }
-    fs::write(out, outline.as_bytes()).map_err(|error| Failure::at("cannot write", out, error))
+fn write_outline(file: &Path, out: &Out) -> Result<(), Stop> {
+    let source = Source::file(file)?;
+    let outline = source.accepted(Outline::of_file(&source))?;
+    out.check_is_not(file, &source)?;
+    // The file can be edited while somebody reads the outline.
+    drop(source);
+    out.store(outline.as_bytes())
 }
 
 /// Moves a kept room that cannot be restored out of the way, and says where it is.
-fn set_aside(file: &Path) -> Result<(), Failure> {
-    let (kept, aside) = edit::set_aside(file)?;
-    print(format!("{} is now {}\n", names::shown(&kept), names::shown(&aside)).as_bytes())
+fn set_aside(file: &Path) -> Result<(), Stop> {
+    let (kept, aside) = edit::set_aside(file)?
+        .map(|path| names::shown(&path))
+        .into();
+    Output::print(format!("{kept} is now {aside}\n").as_bytes())
 }
 
 /// Prints the rows of a stored outline.
-fn print_outline(stored: &Source) -> Result<(), Failure> {
-    let outline = stored.accepted(Outline::read(stored))?;
-    print(plain::rows(&outline).as_bytes())
+fn print_outline(stored: &Path) -> Result<(), Stop> {
+    let stored = Source::whole(stored)?;
+    let outline = stored.accepted(Outline::read(&stored))?;
+    let mut out = Output::standard()?;
+    plain::rows(&outline, &mut out)?;
+    out.finish()
 }

@@ -32,7 +32,7 @@ pub fn quoted(path: &Path) -> String {
 }
 
 /// Whether a character shows itself and nothing else.
-fn is_harmless(c: char) -> bool {
+pub fn is_harmless(c: char) -> bool {
     let is_invisible = matches!(c, '\u{AD}' | '\u{61C}' | '\u{FEFF}' | '\u{180E}');
     // Marks without a width, marks that change the direction of text, and ends of lines.
     let is_direction =

@@ -91,15 +91,6 @@ impl Source {
         name(&self.path)
     }
 
-    /// Lets edits of the file go on. Call this when all that is wanted of the bytes is known, so that nobody waits for a
-    /// reader of the output.
-    pub fn release(&self) {
-        if let Bytes::Filled(_, file) = &self.bytes {
-            // If this fails, the lock ends with the process.
-            let _ = file.unlock();
-        }
-    }
-
     /// Whether these bytes are those of the file at `path`, even if its name differs.
     pub fn is_at(&self, path: &Path) -> bool {
         let identity = |path: &Path| fs::metadata(path).map(|file| (file.dev(), file.ino()));

@@ -1,6 +1,9 @@
-//! The words for what is reported.
+//! The words for what is reported. They are written where they are needed, so that a listing takes
+//! no memory for them.
 
-use asdf_layout::{Block, Inner, Verdict};
+use asdf_layout::{Block, Verdict};
+use std::fmt::{self, Display, Formatter};
+use std::slice::EscapeAscii;
 
 /// The units of sizes. Each is 1,024 times the one before it.
 const UNITS: [&str; 3] = ["KiB", "MiB", "GiB"];
@@ -15,38 +18,43 @@ pub fn verdict(verdict: Verdict) -> &'static str {
     }
 }
 
-/// Describes an inner state.
-pub fn inner(inner: Inner) -> String {
-    match inner {
-        Inner::Plain => "plain".to_string(),
-        Inner::Opened => "a file, opened".to_string(),
-        Inner::Refused(refusal) => format!("a file, refused: {refusal}"),
-        Inner::TooDeep => "a file, too deep to be read".to_string(),
+/// A number of bytes. From 1,024 on it is also given in the largest unit that it fills.
+pub struct Size(pub usize);
+
+impl Display for Size {
+    fn fmt(&self, f: &mut Formatter<'_>) -> fmt::Result {
+        let scaled = UNITS.iter().scan(self.0 as f64, |size, unit| {
+            *size /= 1024.0;
+            Some((*size, unit))
+        });
+        write!(f, "{}", self.0)?;
+        match scaled.take_while(|(size, _)| *size >= 1.0).last() {
+            None => Ok(()),
+            Some((size, unit)) => write!(f, " ({size:.1} {unit})"),
+        }
     }
 }
 
-/// Describes a number of bytes. From 1,024 on it is also given in the largest unit that it fills.
-pub fn size(bytes: usize) -> String {
-    let scaled = UNITS.iter().scan(bytes as f64, |size, unit| {
-        *size /= 1024.0;
-        Some((*size, unit))
-    });
-    match scaled.take_while(|(size, _)| *size >= 1.0).last() {
-        None => bytes.to_string(),
-        Some((size, unit)) => format!("{bytes} ({size:.1} {unit})"),
+/// A number with a comma before each group of three digits.
+pub struct Grouped(pub usize);
+
+impl Display for Grouped {
+    fn fmt(&self, f: &mut Formatter<'_>) -> fmt::Result {
+        match (self.0 / 1000, self.0 % 1000) {
+            (0, rest) => write!(f, "{rest}"),
+            (thousands, rest) => write!(f, "{},{rest:03}", Grouped(thousands)),
+        }
     }
 }
 
 /// Returns the name of a block's compression, without the zeros at its end. Bytes that cannot be
 /// printed are escaped.
-pub fn compression(block: &Block) -> Option<String> {
+pub fn compression(block: &Block) -> Option<EscapeAscii<'_>> {
     let mut name = &block.compression[..];
     while let [front @ .., 0] = name {
         name = front;
     }
-    block
-        .is_compressed()
-        .then(|| name.escape_ascii().to_string())
+    block.is_compressed().then(|| name.escape_ascii())
 }
 
 #[cfg(test)]
@@ -55,10 +63,26 @@ mod tests {
 
     #[test]
     fn size_is_given_in_the_greatest_unit_that_it_fills() {
-        assert_eq!(size(0), "0");
-        assert_eq!(size(1_023), "1023");
-        assert_eq!(size(1_024), "1024 (1.0 KiB)");
-        assert_eq!(size(1_572_864), "1572864 (1.5 MiB)");
-        assert_eq!(size(4_294_967_295), "4294967295 (4.0 GiB)");
+        for (bytes, words) in [
+            (0, "0"),
+            (1_023, "1023"),
+            (1_024, "1024 (1.0 KiB)"),
+            (1_572_864, "1572864 (1.5 MiB)"),
+            (4_294_967_295, "4294967295 (4.0 GiB)"),
+        ] {
+            assert_eq!(Size(bytes).to_string(), words);
+        }
+    }
+
+    #[test]
+    fn digits_are_grouped_by_three() {
+        for (number, words) in [
+            (0, "0"),
+            (999, "999"),
+            (1_000, "1,000"),
+            (1_065_220, "1,065,220"),
+        ] {
+            assert_eq!(Grouped(number).to_string(), words);
+        }
     }
 }

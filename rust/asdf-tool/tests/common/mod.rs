@@ -103,6 +103,24 @@ pub fn block_header(size: u64) -> Vec<u8> {
     header
 }
 
+/// Returns a block with this content.
+pub fn block(content: &[u8]) -> Vec<u8> {
+    [&block_header(content.len() as u64), content].concat()
+}
+
+/// Returns a file of 64 blocks. Each holds such a file again, on as many levels, and the innermost
+/// blocks are empty.
+pub fn nested(levels: u32) -> Vec<u8> {
+    (0..levels).fold(Vec::new(), |inner, _| {
+        [HEADER, &block(&inner).repeat(64)].concat()
+    })
+}
+
+/// Returns how many rows such a file has.
+pub fn nested_rows(levels: u32) -> usize {
+    (0..levels).fold(0, |inner, _| 64 * (1 + inner))
+}
+
 /// Returns a file with a tree, `spaces` spaces after it, and a block with some content.
 pub fn file_with_room(spaces: usize) -> Vec<u8> {
     let spaces = vec![b' '; spaces];
