@@ -41,12 +41,16 @@ fn end_of_blocks(file: &[u8]) -> Result<usize, Refusal> {
 
 /// Says where the text of the index belongs, and what is there now.
 fn where_it_belongs(text: &[u8], source: &Source, offset: usize) -> String {
-    let place = format!("at offset {offset} of {}", source.name());
-    let now = match source[offset..].len() {
-        _ if source[offset..] == *text => return format!("this text is already {place}"),
+    let name = source.name();
+    let follows = match source[offset..].len() {
+        _ if source[offset..] == *text => {
+            return format!("this text is already at offset {offset} of {name}")
+        }
         0 => String::new(),
         1 => "; the byte that follows there now has to be removed first".to_string(),
         rest => format!("; the {rest} bytes that follow there now have to be removed first"),
     };
-    format!("this text belongs {place}, directly after the last block{now}")
+    format!(
+        "this text belongs at offset {offset} of {name}, directly after the last block{follows}"
+    )
 }

@@ -30,7 +30,7 @@ pub fn print(
             "comments",
             &Object([("start", &comments.start), ("end", &comments.end)]),
         ),
-        ("tree", &OrNull(layout.tree.map(Place))),
+        ("tree", &OrNull(layout.tree.map(Offsets))),
         ("blocks", &Blocks(records)),
         ("index", &Text(layout.index)),
     ]);
@@ -56,9 +56,9 @@ impl Display for Reason {
 }
 
 /// Where the tree is.
-struct Place(Tree);
+struct Offsets(Tree);
 
-impl Display for Place {
+impl Display for Offsets {
     fn fmt(&self, f: &mut Formatter<'_>) -> fmt::Result {
         let Tree {
             start,
@@ -191,9 +191,9 @@ impl Write for Escaped<'_, '_> {
     fn write_str(&mut self, text: &str) -> fmt::Result {
         let must_be_escaped = |c| matches!(c, '"' | '\\') || !is_harmless(c);
         let mut rest = text;
-        while let Some(place) = rest.find(must_be_escaped) {
-            let (before, from_here) = rest.split_at(place);
-            self.0.write_str(before)?;
+        while let Some(length) = rest.find(must_be_escaped) {
+            let (harmless, from_here) = rest.split_at(length);
+            self.0.write_str(harmless)?;
             let mut chars = from_here.chars();
             self.escape(chars.next().unwrap_or_default())?;
             rest = chars.as_str();

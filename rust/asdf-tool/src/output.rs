@@ -7,7 +7,7 @@ use std::fs::File;
 use std::io::{self, BufWriter, ErrorKind, Write};
 use std::os::fd::AsFd;
 
-/// As many bytes are written at once, which is also what a pipe holds.
+/// How many bytes are written at once: as many as a pipe holds.
 const BUFFER: usize = 1 << 16;
 
 /// Why a command ends before it is done.

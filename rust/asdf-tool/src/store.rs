@@ -99,8 +99,8 @@ impl Out {
         }
     }
 
-    /// Puts a new file in the place of the old one. If that fails, the old file is as it was. If the
-    /// name is a link, the link stays, and the file it leads to is replaced.
+    /// Replaces the old file by a new one. If that fails, the old file is as it was. If the name is a
+    /// link, the link stays, and the file it leads to is replaced.
     fn replace(&self, old: &Metadata, bytes: &[u8]) -> io::Result<()> {
         let path = fs::canonicalize(&self.path)?;
         let (name, file) = new_file_beside(&path)?;

@@ -51,8 +51,8 @@ fn count(mut output: impl Read, mark: u8) -> usize {
 fn peak(child: Child) -> usize {
     let (mut status, mut usage) = (-1, Usage::default());
     let process = child.id() as i32;
-    // SAFETY: both places live through the call, and the second has the 18 numbers of 8 bytes that
-    // x86-64 Linux writes there.
+    // SAFETY: both variables live through the call, and the second has the 18 numbers of 8 bytes that
+    // x86-64 Linux writes into it.
     let ended = unsafe { wait4(process, &mut status, 0, &mut usage) };
     assert_eq!((ended, status), (process, 0));
     usage[PEAK] as usize * 1024
