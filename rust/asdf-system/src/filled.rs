@@ -1,9 +1,9 @@
 //! The bytes of a file in private memory. Each part is filled from the file once, when it is touched for the first time, and
 //! stands still from then on, whatever becomes of the file.
 //!
-//! The bytes have an address from the start, but no access is allowed. The first access to a chunk raises a signal. Its
-//! handler maps the chunk a second time, at an address that nobody else knows, and reads the file there. Only then it allows
-//! access to the chunk. So no thread ever sees a part of a chunk.
+//! The bytes have an address from the start, but no access is allowed. The first access to a page raises a signal. Its
+//! handler reads the page from the file into memory at an address that nobody else knows, and then moves that memory to its
+//! place. So no thread ever sees a part of a page.
 //!
 //! The system does not raise the signal for its own accesses: a call such as `write` fails if it is given bytes that were
 //! never touched. So copy bytes before they go to the system.
@@ -15,24 +15,30 @@ use crate::zeros::map;
 use std::ffi::{c_int, c_void};
 use std::fs::File;
 use std::io;
+use std::iter;
+use std::mem;
 use std::ops::{Deref, Range};
 use std::os::fd::AsRawFd;
 use std::ptr::{null, null_mut};
 use std::slice;
 use std::sync::{Once, OnceLock};
 
-/// This many bytes are filled at once, so that a file of a few hundred blocks takes little memory however long it is.
-const CHUNK: usize = 1 << 15;
-/// After this many chunks, whole groups of chunks are filled at once.
-const SINGLE_CHUNKS: usize = 1 << 13;
+/// Memory is filled in pages, as the machine has them.
+const PAGE: usize = 1 << 12;
+/// At most this many pages are filled at once, until many fills were needed.
+const MOST_AHEAD: usize = 64;
+/// After this many fills, whole groups of pages are filled.
+const SMALL_FILLS: usize = 1 << 13;
 /// A file has at most this many groups.
 ///
-/// Each access that is allowed to a chunk or a group between others splits a map of the system in up to three. So there
-/// are at most 2 * (8,192 + 4,096) + 1 maps, and the system allows 65,530.
+/// Each fill between others that are not there yet splits a map of the system in up to three. So there are at most
+/// 2 * (8,192 + 4,096) + 1 maps, and the system allows 65,530.
 const GROUPS: usize = 1 << 12;
 /// A group has at least this many bytes.
 const LEAST_GROUP: usize = 1 << 20;
 
+/// Memory that belongs to this process alone, and that takes nothing until it is used.
+const PRIVATE_MEMORY: c_int = MAP_PRIVATE | MAP_ANONYMOUS | MAP_NORESERVE;
 /// Where the processor's error code is among the words that a signal handler is given.
 const ERROR_CODE: usize = 24;
 /// The bit of the error code for an access that writes.
@@ -126,7 +132,7 @@ struct Held {
     start: usize,
     length: usize,
     file: File,
-    /// One bit for each chunk: whether it is filled.
+    /// One bit for each page: whether it is filled.
     filled: Vec<u64>,
     /// How many times something was filled.
     fills: usize,
@@ -134,7 +140,7 @@ struct Held {
     sentences: Sentences,
 }
 
-/// Why a chunk is not filled.
+/// Why pages are not filled.
 enum Trouble {
     Shortened,
     Unreadable,
@@ -143,29 +149,27 @@ enum Trouble {
 
 impl Held {
     fn new(file: File, length: usize, sentences: Sentences) -> io::Result<Held> {
-        // Only a map that may be shared can be mapped a second time. Nobody else has it.
-        let flags = MAP_SHARED | MAP_ANONYMOUS | MAP_NORESERVE;
-        let start = map(length, PROT_NONE, flags, NO_FILE)?;
+        let start = map(length, PROT_NONE, PRIVATE_MEMORY, NO_FILE)?;
         Ok(Held {
             start: start as usize,
             length,
             file,
-            filled: vec![0; length.div_ceil(CHUNK).div_ceil(64)],
+            filled: vec![0; length.div_ceil(PAGE).div_ceil(64)],
             fills: 0,
             is_writable: false,
             sentences,
         })
     }
 
-    /// Makes the chunk with this byte accessible. Returns false if an access of this kind is never allowed.
+    /// Makes the page with this byte accessible. Returns false if an access of this kind is never allowed.
     fn touched(&mut self, offset: usize, writes: bool) -> bool {
         if writes && !self.is_writable {
             return false;
         }
-        let chunk = offset / CHUNK;
-        // Otherwise another thread has touched the same chunk and was faster.
-        if !self.is_filled(chunk) {
-            match self.fill(chunk) {
+        let page = offset / PAGE;
+        // Otherwise another thread has touched the same page and was faster.
+        if !self.is_filled(page) {
+            match self.fill(page) {
                 Ok(()) => (),
                 Err(Trouble::Shortened) => end(self.sentences.shortened.as_bytes()),
                 Err(Trouble::Unreadable) => end(self.sentences.unreadable.as_bytes()),
@@ -175,56 +179,81 @@ impl Held {
         true
     }
 
-    /// Fills a chunk or, after many chunks, the whole group around it.
-    fn fill(&mut self, chunk: usize) -> Result<(), Trouble> {
-        let chunks = match self.fills < SINGLE_CHUNKS {
-            true => chunk..chunk + 1,
-            false => self.group_of(chunk),
+    /// Fills a page that was touched, and others with it.
+    fn fill(&mut self, page: usize) -> Result<(), Trouble> {
+        let pages = match self.fills < SMALL_FILLS {
+            true => self.pages_from(page),
+            false => self.group_of(page),
         };
-        let window = Window::new(self.bytes_of(chunks.clone()))?;
-        for chunk in chunks.clone() {
-            if !self.is_filled(chunk) {
-                self.read(chunk, &window)?;
-            }
+        for run in self.runs(pages.clone(), false) {
+            let bytes = self.bytes_of(run);
+            let staged = Staged::new(bytes.len())?;
+            self.read(bytes.clone(), &staged)?;
+            staged.move_to(bytes.start, self.protection())?;
         }
-        drop(window);
-        self.allow(chunks.clone()).map_err(|_| Trouble::NoMemory)?;
-        for chunk in chunks {
-            self.filled[chunk / 64] |= 1 << (chunk % 64);
+        for page in pages {
+            self.filled[page / 64] |= 1 << (page % 64);
         }
         self.fills += 1;
         Ok(())
     }
 
-    fn is_filled(&self, chunk: usize) -> bool {
-        self.filled[chunk / 64] >> (chunk % 64) & 1 == 1
+    fn is_filled(&self, page: usize) -> bool {
+        self.filled[page / 64] >> (page % 64) & 1 == 1
     }
 
-    /// Returns the chunks that are filled together with this one.
-    fn group_of(&self, chunk: usize) -> Range<usize> {
+    fn pages(&self) -> usize {
+        self.length.div_ceil(PAGE)
+    }
+
+    /// Returns this page, and as many after it as were filled before it: bytes that are read one after another are filled in
+    /// ever larger parts, and a header that is far from everything else takes one page.
+    fn pages_from(&self, page: usize) -> Range<usize> {
+        let before = page.saturating_sub(MOST_AHEAD)..page;
+        let before = before.rev().take_while(|&page| self.is_filled(page));
+        let end = (page + before.count().max(1)).min(self.pages());
+        let mut after = page..end;
+        page..after.find(|&page| self.is_filled(page)).unwrap_or(end)
+    }
+
+    /// Returns the group of pages around this one.
+    fn group_of(&self, page: usize) -> Range<usize> {
         let bytes = (self.length / GROUPS).next_power_of_two().max(LEAST_GROUP);
-        let chunks = bytes / CHUNK;
-        let first = chunk / chunks * chunks;
-        first..(first + chunks).min(self.length.div_ceil(CHUNK))
+        let pages = bytes / PAGE;
+        let first = page / pages * pages;
+        first..(first + pages).min(self.pages())
     }
 
-    /// Returns where chunks are in memory.
-    fn bytes_of(&self, chunks: Range<usize>) -> Range<usize> {
-        let end = (chunks.end * CHUNK).min(self.length);
-        self.start + chunks.start * CHUNK..self.start + end
+    /// Returns the parts of a range of pages in which all are filled, or none is.
+    fn runs(&self, pages: Range<usize>, filled: bool) -> impl Iterator<Item = Range<usize>> + '_ {
+        let Range { mut start, end } = pages;
+        iter::from_fn(move || {
+            start = (start..end).find(|&page| self.is_filled(page) == filled)?;
+            let mut rest = start..end;
+            let run_end = rest.find(|&page| self.is_filled(page) != filled);
+            let run = start..run_end.unwrap_or(end);
+            start = run.end;
+            Some(run)
+        })
     }
 
-    /// Reads a chunk from the file into memory.
-    fn read(&self, chunk: usize, window: &Window) -> Result<(), Trouble> {
-        let Range { start, end } = self.bytes_of(chunk..chunk + 1);
+    /// Returns where pages are in memory.
+    fn bytes_of(&self, pages: Range<usize>) -> Range<usize> {
+        let end = (pages.end * PAGE).min(self.length);
+        self.start + pages.start * PAGE..self.start + end
+    }
+
+    /// Reads from the file what belongs at these addresses.
+    fn read(&self, bytes: Range<usize>, staged: &Staged) -> Result<(), Trouble> {
         let file = self.file.as_raw_fd();
-        let mut at = start;
-        while at < end {
-            let (place, offset) = (window.place_of(at), (at - self.start) as i64);
-            // SAFETY: the window is writable there for so many bytes, and nobody else knows it.
-            match unsafe { pread(file, place, end - at, offset) } {
+        let mut done = 0;
+        while done < bytes.len() {
+            let place = staged.start.wrapping_byte_add(done);
+            let offset = (bytes.start - self.start + done) as i64;
+            // SAFETY: so many bytes of this memory are left, and nobody else knows it.
+            match unsafe { pread(file, place, bytes.len() - done, offset) } {
                 0 => return Err(Trouble::Shortened),
-                count if count > 0 => at += count as usize,
+                count if count > 0 => done += count as usize,
                 // SAFETY: every thread has this number.
                 _ => match unsafe { *__errno_location() } {
                     EINTR => (),
@@ -236,26 +265,22 @@ impl Held {
         Ok(())
     }
 
-    /// Allows access to chunks.
-    fn allow(&self, chunks: Range<usize>) -> io::Result<()> {
-        let Range { start, end } = self.bytes_of(chunks);
-        let protection = match self.is_writable {
+    /// Returns what may be done with bytes that are filled.
+    fn protection(&self) -> c_int {
+        match self.is_writable {
             true => PROT_READ | PROT_WRITE,
             false => PROT_READ,
-        };
-        // SAFETY: these chunks are a part of the map, which is ours alone.
-        match unsafe { mprotect(start as Address, end - start, protection) } {
-            0 => Ok(()),
-            _ => Err(io::Error::last_os_error()),
         }
     }
 
     /// Allows writing to all that is filled, and to all that will be.
     fn allow_writing(&mut self) -> io::Result<()> {
         self.is_writable = true;
-        let chunks = 0..self.length.div_ceil(CHUNK);
-        let mut filled = chunks.filter(|&chunk| self.is_filled(chunk));
-        filled.try_for_each(|chunk| self.allow(chunk..chunk + 1))
+        let mut filled = self.runs(0..self.pages(), true);
+        filled.try_for_each(|run| {
+            let bytes = self.bytes_of(run);
+            protect(bytes.start as Address, bytes.len(), self.protection())
+        })
     }
 }
 
@@ -266,38 +291,50 @@ impl Drop for Held {
     }
 }
 
-/// A second map of a part of the bytes, in which they can be written before anybody can read them.
-struct Window {
-    /// The part, at its own address.
-    bytes: Range<usize>,
+/// Memory that is filled before anybody else can see it.
+struct Staged {
     start: Address,
+    length: usize,
 }
 
-impl Window {
-    fn new(bytes: Range<usize>) -> Result<Window, Trouble> {
-        // SAFETY: an old length of 0 makes a second map of the same memory, at an address that the system chooses.
-        let start = unsafe { mremap(bytes.start as Address, 0, bytes.len(), MREMAP_MAYMOVE) };
-        if start as isize == -1 {
-            return Err(Trouble::NoMemory);
-        }
-        let window = Window { bytes, start };
-        // SAFETY: the new map has this length and is ours alone.
-        match unsafe { mprotect(start, window.bytes.len(), PROT_READ | PROT_WRITE) } {
-            0 => Ok(window),
-            _ => Err(Trouble::NoMemory),
-        }
+impl Staged {
+    fn new(length: usize) -> Result<Staged, Trouble> {
+        let (protection, flags) = (PROT_READ | PROT_WRITE, PRIVATE_MEMORY | MAP_POPULATE);
+        let start = map(length, protection, flags, NO_FILE).map_err(|_| Trouble::NoMemory)?;
+        Ok(Staged { start, length })
     }
 
-    /// Returns where the byte with this address is in the window.
-    fn place_of(&self, address: usize) -> Address {
-        self.start.wrapping_byte_add(address - self.bytes.start)
+    /// Moves the memory to its place, where nothing was accessible before.
+    fn move_to(self, place: usize, protection: c_int) -> Result<(), Trouble> {
+        protect(self.start, self.length, protection).map_err(|_| Trouble::NoMemory)?;
+        let flags = MREMAP_MAYMOVE | MREMAP_FIXED;
+        let place = place as Address;
+        // SAFETY: the place is a part of a map of ours, and nobody has seen a byte there.
+        let moved = unsafe { mremap(self.start, self.length, self.length, flags, place) };
+        match moved == place {
+            true => {
+                // There is nothing left to be given back.
+                mem::forget(self);
+                Ok(())
+            }
+            false => Err(Trouble::NoMemory),
+        }
     }
 }
 
-impl Drop for Window {
+impl Drop for Staged {
     fn drop(&mut self) {
         // SAFETY: the map was made with this length, and nobody else knows it.
-        unsafe { munmap(self.start, self.bytes.len()) };
+        unsafe { munmap(self.start, self.length) };
+    }
+}
+
+/// Sets what may be done with memory.
+fn protect(start: Address, length: usize, protection: c_int) -> io::Result<()> {
+    // SAFETY: this is called for maps of ours alone, and never takes away what a slice needs.
+    match unsafe { mprotect(start, length, protection) } {
+        0 => Ok(()),
+        _ => Err(io::Error::last_os_error()),
     }
 }
 
@@ -352,7 +389,7 @@ fn hand_on(signal: c_int, info: *const SignalInfo, context: *const c_void) {
             DEFAULT | IGNORED => {
                 sigaction(signal, &SignalAction::NONE, null_mut());
             }
-            handler => std::mem::transmute::<usize, Handler>(handler)(signal, info, context),
+            handler => mem::transmute::<usize, Handler>(handler)(signal, info, context),
         }
     }
 }

@@ -31,8 +31,10 @@ pub fn edit(path: &Path, text: &Source) -> Result<(), Failure> {
 /// Brings back the tree that the file had before an edit that was not finished.
 pub fn restore(path: &Path) -> Result<(), Failure> {
     let target = Target::open(path)?;
+    // If something else is in the place of what a stopped edit left, that is no obstacle here.
+    let was_left = kept::remove_part(&target).unwrap_or(false);
     let change = match kept::look_beside(&target)? {
-        Beside::Nothing => return nothing_to_restore(&target),
+        Beside::Nothing => return nothing_to_restore(&target, was_left),
         Beside::Strange(reason) => return Err(not_restored(&target, &reason)),
         Beside::Kept(change) => change,
     };
@@ -160,10 +162,10 @@ fn finish(
     }
 }
 
-/// Reports that no interrupted edit has changed the file.
-fn nothing_to_restore(target: &Target) -> Result<(), Failure> {
+/// Reports that no interrupted edit has changed the file. `was_left` says whether one was stopped before it could.
+fn nothing_to_restore(target: &Target, was_left: bool) -> Result<(), Failure> {
     let name = target.shown();
-    if kept::remove_part(target)? {
+    if was_left {
         note(format_args!(
             "an edit of {name} was stopped before it changed anything; what it left was removed"
         ));

@@ -125,33 +125,28 @@ pub fn look_beside(target: &Target) -> Result<Beside, Failure> {
     }
 }
 
-/// Returns why something cannot be a kept room that the caller may believe, if there is a reason.
+/// Returns why something cannot be a kept room that the caller may believe, if there is a reason. It names the owner.
 fn why_not_believed(found: &Metadata, target: &Target) -> Option<String> {
-    let kind = found.file_type();
-    if !kind.is_file() {
-        let kind = match () {
-            () if kind.is_symlink() => "a symbolic link",
-            () if kind.is_dir() => "a folder",
-            () if kind.is_fifo() => "a pipe",
-            () => "not a regular file",
-        };
-        return Some(format!("is {kind}, which no edit makes"));
-    }
     let owner = owner(found);
-    if ![caller(), target.metadata().uid(), ROOT].contains(&found.uid()) {
-        return Some(format!(
-            "belongs to {owner} and is not believed; {owner} can restore the old tree"
-        ));
-    }
-    if found.mode() & WRITABLE_BY_OTHERS != 0 {
-        return Some(format!(
-            "could be written by others than its owner and is not believed; its owner is {owner}"
-        ));
-    }
-    if found.nlink() != 1 {
-        return Some("has several names, which no edit gives it".to_string());
-    }
-    None
+    let kind = found.file_type();
+    let is_trusted = [caller(), target.metadata().uid(), ROOT].contains(&found.uid());
+    let reason = match () {
+        () if kind.is_symlink() => "is a symbolic link, which no edit makes",
+        () if kind.is_dir() => "is a folder, which no edit makes",
+        () if kind.is_fifo() => "is a pipe, which no edit makes",
+        () if !kind.is_file() => "is not a regular file",
+        () if !is_trusted => {
+            return Some(format!(
+                "belongs to {owner} and is not believed; {owner} can restore the old tree"
+            ))
+        }
+        () if found.mode() & WRITABLE_BY_OTHERS != 0 => {
+            "is not believed, because others than its owner could have written it"
+        }
+        () if found.nlink() != 1 => "has several names, which no edit gives it",
+        () => return None,
+    };
+    Some(format!("belongs to {owner} and {reason}"))
 }
 
 /// Returns the owner of a file, by name if the system knows it.
@@ -226,8 +221,8 @@ pub fn keep(target: &Target, change: &Change, steps: &mut Steps) -> Result<(), F
     has_name(target, &kept, &written).map_err(failed)
 }
 
-/// Removes what a stopped edit left while it was writing. It is of no use, because that edit did not change the file. Returns
-/// whether there was anything.
+/// Removes what a stopped edit left while it was writing the kept room. It is of no use: that edit did not change the file, or
+/// the kept room has its name already. Returns whether there was anything.
 pub fn remove_part(target: &Target) -> Result<bool, Failure> {
     let part = with_suffix(&target.name(), PART_SUFFIX);
     match target.folder.remove(&part) {

@@ -219,6 +219,12 @@ fn what_was_left_before_the_file_changed_is_removed() {
     assert_eq!(case.edit(), SILENT);
     case.assert_nothing_beside();
 
+    // On some file systems the kept room has both names for a moment.
+    case.stop_in(State::KeptOld);
+    fs::hard_link(case.kept(), &part).unwrap();
+    assert_eq!((case.restore(), case.state()), (SILENT, State::Old));
+    case.assert_nothing_beside();
+
     // What a stranger puts there is not followed, and what cannot be removed is named.
     case.reset();
     symlink(&case.text, &part).unwrap();

@@ -6,7 +6,8 @@ use common::*;
 use std::fs::{self, File};
 use std::io::{Read, Write};
 use std::path::Path;
-use std::process::{Child, Stdio};
+use std::process::{Child, Command, Stdio};
+use std::time::{Duration, Instant};
 
 /// How often the file holds a file of three levels.
 const TIMES: usize = 4;
@@ -82,5 +83,91 @@ fn million_rows_take_no_memory_but_that_of_their_records() {
         let peak = peak(child);
         assert!(peak < most, "{words:?} takes {peak} bytes of {most}");
     }
+    fs::remove_dir_all(folder).unwrap();
+}
+
+#[test]
+fn lack_of_memory_is_one_sentence() {
+    let folder = folder("memory-lack");
+    let path = folder.join("file");
+    fs::write(&path, [HEADER, &block(&nested(2)).repeat(60)].concat()).unwrap();
+    // The file has 13 MB, and its records have 30. So the first limit does not suffice to read the file, and the second not
+    // for its records.
+    for (limit, sentence) in [
+        (14_000, "Cannot allocate memory (os error 12)\n"),
+        (36_000, "asdf-layout: there is not enough memory for this\n"),
+    ] {
+        let line = format!("ulimit -v {limit}; exec \"$0\" list \"$1\"");
+        let ran = Command::new("sh")
+            .args(["-c", &line, env!("CARGO_BIN_EXE_asdf-layout"), word(&path)])
+            .output()
+            .unwrap();
+        let ran = Ran::from(ran);
+        assert_eq!(
+            (ran.status, ran.output.as_str()),
+            (Some(2), ""),
+            "{limit}: {}",
+            ran.errors
+        );
+        assert!(ran.errors.ends_with(sentence), "{limit}: {}", ran.errors);
+        assert_eq!(ran.errors.lines().count(), 1);
+    }
+    fs::remove_dir_all(folder).unwrap();
+}
+
+/// A multiple of every length in which the tool might read a file.
+const CHUNK: u64 = 1 << 15;
+/// How far apart the blocks of the long file are.
+const APART: u64 = 256 * CHUNK;
+/// Where a chunk ends inside the header of each block of the long file, so that two parts have to be read for it.
+const IN_HEADER: u64 = 20;
+
+/// Makes a file of almost 4 GiB with 500 blocks, each with a chunk that ends in its header, and with 1 MiB outside of them.
+fn long_file(path: &Path) {
+    let length = (1 << 32) - 1;
+    let mut parts = Vec::new();
+    // The first inner file begins here, with its first block directly after its header line.
+    let mut inner = 33 * CHUNK - IN_HEADER - HEADER.len() as u64;
+    let front = [HEADER, TREE].concat();
+    let spaces = vec![b' '; inner as usize - 54 - front.len()];
+    parts.push((0, [front, spaces].concat()));
+    for (number, blocks) in [64, 64, 64, 64, 64, 64, 64, 44].into_iter().enumerate() {
+        let used = HEADER.len() as u64 + blocks * APART;
+        // The next inner file begins at the same place in its chunk.
+        let allocated = match number {
+            7 => length - inner,
+            _ => used.next_multiple_of(CHUNK) + CHUNK - 54,
+        };
+        let mut header = block_header(used);
+        header[14..22].copy_from_slice(&allocated.to_be_bytes());
+        parts.push((inner - 54, header));
+        parts.push((inner, HEADER.to_vec()));
+        let first = inner + HEADER.len() as u64;
+        parts.extend((0..blocks).map(|k| (first + k * APART, block_header(APART - 54))));
+        inner += allocated + 54;
+    }
+    let parts: Vec<(u64, &[u8])> = parts.iter().map(|(at, bytes)| (*at, &bytes[..])).collect();
+    sparse_file(path, length, &parts);
+}
+
+#[test]
+fn long_file_is_listed_without_reading_what_is_not_needed() {
+    let folder = folder("memory-long");
+    let path = folder.join("file");
+    long_file(&path);
+    // Other programs may run at the same time, so the best of some runs counts.
+    let mut best = Duration::MAX;
+    for _ in 0..10 {
+        let begun = Instant::now();
+        let mut child = command(&["list", "--plain", word(&path)])
+            .stdout(Stdio::piped())
+            .spawn()
+            .unwrap();
+        assert_eq!(count(child.stdout.take().unwrap(), b'\n'), 502);
+        let peak = peak(child);
+        best = best.min(begun.elapsed());
+        assert!(peak < 64_000_000, "{peak} bytes");
+    }
+    assert!(best < Duration::from_millis(50), "{best:?}");
     fs::remove_dir_all(folder).unwrap();
 }

@@ -6,7 +6,8 @@ use std::path::PathBuf;
 use std::process::{id, Command, Output};
 use std::thread;
 
-/// Longer than a chunk, and not a multiple of one.
+/// Longer than what is filled at once, and not a multiple of it.
+const CHUNK: usize = MOST_AHEAD * PAGE;
 const LENGTH: usize = 3 * CHUNK + 100;
 
 fn sentences() -> Sentences {
@@ -17,7 +18,7 @@ fn sentences() -> Sentences {
     }
 }
 
-/// Makes a file for a test. Its bytes differ from chunk to chunk.
+/// Makes a file for a test. Its bytes differ from page to page.
 fn file(test: &str, length: usize) -> (PathBuf, File) {
     let path = env::temp_dir().join(format!("asdf-filled-{}-{test}", id()));
     let bytes: Vec<u8> = (0..length).map(|place| (place / 1_000) as u8).collect();
@@ -48,13 +49,13 @@ fn bytes_are_those_of_the_file() {
 fn bytes_stand_still_once_they_were_touched() {
     let (path, file) = file("still", LENGTH);
     let bytes = Filled::new(&file, LENGTH, sentences()).unwrap();
-    assert_eq!((bytes[0], bytes[CHUNK - 1]), (0, 32));
+    assert_eq!((bytes[0], bytes[PAGE - 1]), (0, 4));
     file.write_all_at(&[255; LENGTH], 0).unwrap();
-    assert_eq!((bytes[0], bytes[CHUNK - 1]), (0, 32));
-    // The next chunk was not touched before the change.
-    assert_eq!(bytes[CHUNK], 255);
+    assert_eq!((bytes[0], bytes[PAGE - 1]), (0, 4));
+    // The next page was not touched before the change.
+    assert_eq!(bytes[PAGE], 255);
     file.set_len(0).unwrap();
-    assert_eq!((bytes[0], bytes[CHUNK]), (0, 255));
+    assert_eq!((bytes[0], bytes[PAGE]), (0, 255));
     fs::remove_file(path).unwrap();
 }
 
@@ -64,12 +65,12 @@ fn changes_do_not_reach_the_file() {
     let mut bytes = Filled::new(&file, LENGTH, sentences()).unwrap();
     assert_eq!(bytes[1], 0);
     let lent = bytes.lend().unwrap();
-    // One chunk was filled before, and the other is filled by the change.
-    (lent[1], lent[2 * CHUNK]) = (7, 8);
-    assert_eq!((bytes[0], bytes[1], bytes[2 * CHUNK]), (0, 7, 8));
-    assert_eq!(bytes[2 * CHUNK + 1], 65);
+    // One page was filled before, and the other is filled by the change.
+    (lent[1], lent[16 * PAGE]) = (7, 8);
+    assert_eq!((bytes[0], bytes[1], bytes[16 * PAGE]), (0, 7, 8));
+    assert_eq!(bytes[16 * PAGE + 1], 65);
     let unchanged = fs::read(&path).unwrap();
-    assert_eq!((unchanged[1], unchanged[2 * CHUNK]), (0, 65));
+    assert_eq!((unchanged[1], unchanged[16 * PAGE]), (0, 65));
     fs::remove_file(path).unwrap();
 }
 
@@ -83,7 +84,7 @@ fn no_bytes_are_held_too() {
 }
 
 #[test]
-fn threads_that_touch_the_same_bytes_see_whole_chunks() {
+fn threads_that_touch_the_same_bytes_see_them_complete() {
     let (path, file) = file("threads", 64 * CHUNK);
     let expected = fs::read(&path).unwrap();
     for _ in 0..20 {
@@ -113,10 +114,10 @@ fn touching_a_long_file_everywhere_takes_few_maps() {
     file.set_len(length as u64).unwrap();
     let bytes = Filled::new(&file, length, sentences()).unwrap();
     let mut most = 0;
-    // Every second chunk of the first part, so that no two maps can be one; then one byte in each group.
-    let chunks = (0..SINGLE_CHUNKS).map(|chunk| 2 * chunk * CHUNK);
-    let groups = (0..200).map(|group| (group * 19 % 3_000 + 600) * LEAST_GROUP + 5 * CHUNK);
-    for (count, place) in chunks.chain(groups).enumerate() {
+    // Every second page of the first part, so that no two maps can be one; then one byte in each of some groups.
+    let pages = (0..SMALL_FILLS).map(|page| 2 * page * PAGE);
+    let groups = (0..200).map(|group| (group * 19 % 3_000 + 600) * LEAST_GROUP + 5 * PAGE);
+    for (count, place) in pages.chain(groups).enumerate() {
         assert_eq!(bytes[place], 0);
         if count % 1_000 == 0 {
             most = most.max(maps());
@@ -144,7 +145,7 @@ fn alone_shortened() {
     let bytes = Filled::new(&file, LENGTH, sentences()).unwrap();
     assert_eq!(bytes[0], 0);
     file.set_len(LENGTH as u64 - 1).unwrap();
-    assert_eq!(bytes[CHUNK], 32);
+    assert_eq!(bytes[8 * PAGE], 32);
     println!("{}", bytes[3 * CHUNK]);
 }
 
