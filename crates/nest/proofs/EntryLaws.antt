@@ -23,7 +23,7 @@ use Rattle.format.specs.declared.refusal.Refusal.{Refusal}
 use Rattle.format.specs.Answer.{countAnswer, layoutAnswer}
 use Rattle.format.specs.Bytes.{Bytes, wrapped}
 use Rattle.format.specs.Block.{leastBlock}
-use Rattle.format.specs.Outcome.{Outcome, accepted, refused, refusal}
+use Rattle.format.specs.Outcome.{accepted, refused, refusal}
 use Rattle.format.specs.File.{mostBytes, file, offsetTable, layout}
 use Rattle.format.specs.Nest.{deepest, records, recordCount, recordAt}
 use Rattle.format.specs.Fields.{recordFields, recordBytes, encodeRecord, recordTable, foundNumbers, foundBytes}
@@ -39,12 +39,13 @@ use Rattle.put.proofs.PutLaws.{placed-nothing, placed-none, placed-length, plac
 use Rattle.put.proofs.WrittenLaws.{written-refused, written-short, written-placed, written-taken}
 use Rattle.file.specs.Layout.{Kept}
 use Rattle.file.proofs.LayoutLaws.{file-refused, blocks-kept}
-use Rattle.nest.specs.declared.sink.Form.{Form}
-use Rattle.nest.specs.declared.sink.Form.the-variants.{Rows, Table, One}
-use Rattle.nest.specs.Sink.{encoded, width, allEncoded, delivery, numberAfter, putAll, Delivered}
-use Rattle.nest.specs.Walk.{fileRecords, allRecords}
-use Rattle.nest.proofs.SinkLaws.{record-length, delivered-length}
-use Rattle.nest.proofs.ContentLaws.{refused-records, accepted-records}
+use Rattle.visit.specs.declared.sink.Form.{Form}
+use Rattle.visit.specs.declared.sink.Form.the-variants.{Rows, Table, One}
+use Rattle.visit.specs.Content.{fileRecords}
+use Rattle.visit.specs.Sink.{encoded, width, allEncoded, delivery, numberAfter, putAll, Delivered}
+use Rattle.visit.proofs.ContentLaws.{refused-records, accepted-records}
+use Rattle.visit.proofs.SinkLaws.{record-length, delivered-length}
+use Rattle.nest.specs.Walk.{allRecords}
 
 module _ {s : Bytes} {offsets : List ℕ} {blocks : ℕ} (kept : Kept s offsets blocks) where
   -- The records of an accepted file are the records that the walk finds at depth 0, from offset 0 on.

@@ -1,6 +1,6 @@
 -- Laws about the walk: one for each call and each return. At every step, delivering what is left delivers all that had
 -- to be delivered.
-use Prim.Native.Nat.{ℕ, zero, suc, _+_, _*_, _-_, _^_, _≤_, _<_}
+use Prim.Native.Nat.{ℕ, suc, _+_, _*_, _-_, _≤_, _<_}
 use native.Mathlib.Nat.{le-refl}
 use native.Mathlib.Numerals.{add-one}
 use native.Mathlib.Omega.{arith}
@@ -13,30 +13,28 @@ use mir.Syntax.{w8}
 use mir.Val.{Fits}
 use borrow.Author.Tests.{le-leb}
 use Rattle.format.specs.declared.block.Block.{Block}
-use Rattle.format.specs.declared.block.Inner.{Inner}
 use Rattle.format.specs.declared.block.Record.{Record}
 use Rattle.format.specs.declared.offset.OutermostOffset.{OutermostOffset}
 use Rattle.format.specs.Bytes.{Bytes, wrapped}
-use Rattle.format.specs.Outcome.{accepted}
 use Rattle.format.specs.Block.{headerSize, flags, compression, usedSize, leastBlock, isStreamed, isCompressed, contentStart, bytesLeft, blockWith, soundBlock, Sound}
-use Rattle.format.specs.Chain.{mostBlocks, extent}
-use Rattle.format.specs.File.{mostBytes, File, file}
-use Rattle.format.specs.Nest.{deepest, contentAt, contentOf, Inside, inside, walked, walk}
-use Rattle.format.proofs.BlockLaws.{BlockIs}
+use Rattle.format.specs.Chain.{mostBlocks}
+use Rattle.format.specs.File.{mostBytes}
+use Rattle.format.specs.Nest.{deepest, contentAt, Inside, inside, walked, walk}
 use Rattle.format.proofs.ChainLaws.{blocks-few}
 use Rattle.format.proofs.FileLaws.{blocksStart, file-parts}
 use Rattle.blocks.specs.declared.again.Content.{Content}
 use Rattle.file.specs.Layout.{Kept}
-use Rattle.blocks.specs.Again.{reported, hasContent, contentAgain}
+use Rattle.blocks.specs.Again.{reported, contentAgain}
 use Rattle.format.proofs.PartLaws.{part-all}
-use Rattle.blocks.proofs.AgainLaws.{reported-left, reported-stored}
+use Rattle.blocks.proofs.AgainLaws.{reported-left, reported-stored, block-again}
 use Rattle.file.proofs.KeptLaws.{Each, kept-each, kept-room}
-use Rattle.nest.specs.declared.sink.Form.{Form}
-use Rattle.nest.specs.declared.walk.Found.{Found}
-use Rattle.nest.specs.Sink.{blockRecord, Delivered}
-use Rattle.nest.specs.Walk.{reads, insideOf, contentIn, insideAt, recordsAt, recordsLeft, fileRecords, Opens, ContentIs}
-use Rattle.nest.proofs.SinkLaws.{delivered-none, delivered-append, delivered-length}
-use Rattle.nest.proofs.ContentLaws.{nothing-left}
+use Rattle.visit.specs.declared.content.Found.{Found}
+use Rattle.visit.specs.declared.sink.Form.{Form}
+use Rattle.visit.specs.Content.{reads, insideOf, recordsLeft, fileRecords, Opens, ContentIs}
+use Rattle.visit.specs.Sink.{blockRecord, Delivered}
+use Rattle.visit.proofs.ContentLaws.{nothing-left}
+use Rattle.visit.proofs.SinkLaws.{delivered-none, delivered-append, delivered-length}
+use Rattle.nest.specs.Walk.{insideAt, recordOf, recordsAt}
 
 -- The number of blocks of an accepted file is within the limit.
 pub kept-few : {s : Bytes} {offsets : List ℕ} {blocks : ℕ} → Kept s offsets blocks → blocks ≤ mostBlocks
@@ -74,10 +72,6 @@ module _ (i n : ℕ) (t : Bytes) where
 
 same-offset : (x y : OutermostOffset) → x .0 ≡ y .0 → x ≡ y
 same-offset x y h = ap (λ (m : ℕ). record { 0 = m }) h
-
--- The record of block `b`.
-abbrev recordOf : ℕ → OutermostOffset → Block → Inner → Record
-recordOf depth here b inner = record { depth = depth; at = here; block = b; inner = inner }
 
 -- The state of a walk: `k` blocks of a file are walked, and the next record has number `n`. Delivering the records that
 -- are left delivers all records of the file.
@@ -209,7 +203,7 @@ module _ {t : Bytes} (sound : Sound t) {c : Content} (is : c ≡ contentAgain t)
   pub content-inside : c .to ≤ length t
   content-inside = content-lies t sound c is .inside
 
-  module _ {depth : ℕ} {offsets : List ℕ} {found : Found} (found-is : ContentIs depth (c .compressed) (take (c .to - c .from) (drop (c .from) t)) offsets found) where
+  module _ {depth : ℕ} {before offsets : List ℕ} {found : Found} (found-is : ContentIs depth (c .compressed) (take (c .to - c .from) (drop (c .from) t)) before offsets found) where
     -- If blocks were found in the content, it is an accepted file and is opened.
     pub found-opens : (found .blocks ≡ 0 → ⊥) → Opens depth (c .compressed) (take (c .to - c .from) (drop (c .from) t)) offsets (found .blocks)
     found-opens h = found-is .some h
@@ -230,7 +224,7 @@ module _ {t : Bytes} (sound : Sound t) {c : Content} (is : c ≡ contentAgain t)
           → Delivered form k out (blockRecord depth here i n t (found .inner) ∷ []) after x → Delivered form k out (recordsAt depth here i n t) after x
       content-alone h d =
           let none = ap (λ (x : Inside). x .records) (sym inside-is) ∙ found-is .none h (here .0 + contentStart t) in
-          rw (state-is, none) d
+          rw (state-is, none, ← block-again t sound i n) d
 
       module _ (h : found .blocks ≡ 0 → ⊥) where
         module _ (room : here .0 + length t ≤ mostBytes) (content : OutermostOffset) (content-is : content .0 ≡ wrapped (here .0) (c .from)) where
@@ -250,4 +244,4 @@ module _ {t : Bytes} (sound : Sound t) {c : Content} (is : c ≡ contentAgain t)
               → Delivered form k out (recordsAt depth here i n t) after x
           content-walked d e =
               let all = ap (λ (x : Inside). x .records) (sym inside-is) ∙ found-opens h .records (here .0 + contentStart t) in
-              rw (state-is, all) (delivered-append d (rw content-at at e))
+              rw (state-is, all, ← block-again t sound i n) (delivered-append d (rw content-at at e))

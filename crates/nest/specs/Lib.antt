@@ -1,3 +1,2 @@
 -- The definitions that the contracts of the walk use.
-pub mod Sink
 pub mod Walk

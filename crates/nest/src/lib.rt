@@ -1,5 +1,4 @@
 // The files inside blocks: how many blocks there are in all, their outline and their records, in walking order.
-mod sink;
 mod walk;
 
 ghost use Prim.Native.Nat.{_≤_};
@@ -12,9 +11,8 @@ ghost use Rattle.format.specs.Nest.{recordCount, recordAt};
 ghost use Rattle.format.specs.Outcome.{accepted};
 ghost use Rattle.format.specs.Promise.{Written, OutlineWritten};
 ghost use Rattle.file.specs.Layout.{Kept};
+ghost use Rattle.visit.specs.Sink.{allEncoded, width};
 ghost use Rattle.nest.specs.Walk.{allRecords};
-ghost use Rattle.nest.specs.Sink.{allEncoded, width};
-use crate::sink::Form;
 use file::layout::read_into;
 use format::answer::CountAnswer;
 use format::answer::LayoutAnswer;
@@ -23,6 +21,8 @@ use format::limits::LEAST_BLOCK;
 use format::limits::MOST_BLOCKS;
 use format::limits::RECORD_BYTES;
 use format::refusal::BUFFER_TOO_SHORT;
+use visit::sink;
+use visit::sink::Form;
 
 // The size of a buffer that is enough in the usual case: a record for each block of a file without inner files.
 const OWN_BYTES: usize = MOST_BLOCKS * RECORD_BYTES;

@@ -1,31 +1,21 @@
 // The walk. The reader of a block's content and the walker along the blocks call each other. Every file is judged once,
 // when it is opened. From then on the walk follows the offsets that were kept when it was judged.
-ghost use mathlib.Core.Path.{_≡_};
 ghost use Prim.Native.Nat.{_+_, _≤_};
 ghost use lib.ListN.{length};
 ghost use Rattle.format.specs.Block.{Sound};
 ghost use Rattle.format.specs.File.{mostBytes};
 ghost use Rattle.format.specs.Nest.{deepest};
 ghost use Rattle.file.specs.Layout.{Kept};
-ghost use Rattle.nest.specs.Sink.{Delivered};
-ghost use Rattle.nest.specs.Walk.{recordsAt, fileRecords, ContentIs, allRecords};
-use crate::sink;
-use crate::sink::Form;
+ghost use Rattle.visit.specs.Content.{fileRecords};
+ghost use Rattle.visit.specs.Sink.{Delivered};
+ghost use Rattle.nest.specs.Walk.{recordsAt, allRecords};
 use blocks::again;
-use file::layout;
-use format::answer::LayoutAnswer;
-use format::block::Inner;
-use format::limits::DEEPEST;
 use format::limits::MOST_BLOCKS;
 use format::offset::Offset;
 use format::offset::OutermostOffset;
-use scan::text;
-
-// What a block's content is, and how many blocks in it must be walked: none if it is not opened.
-pub(crate) struct Found {
-    pub inner: Inner,
-    pub blocks: u8,
-}
+use visit::content;
+use visit::sink;
+use visit::sink::Form;
 
 // Walks all blocks of an accepted file. `offsets` holds where each of its `blocks` blocks begins.
 pub(crate) fn walk_all(s: &[u8], offsets: &[u64], blocks: u8, form: Form, out: &mut [u8]) -> u64
@@ -96,7 +86,7 @@ fn walk_content(
     let from = c.from;
     let to = c.to;
     let part = &t[from..to];
-    let found = content_of(part, c.compressed, depth, offsets);
+    let found = content::content_of(part, c.compressed, depth, offsets);
     let inner = found.inner;
     let n = sink::take_block(form, number, t, ordinal, at, depth, here, inner, out);
     if found.blocks == 0 {
@@ -113,39 +103,4 @@ fn walk_content(
         n,
         out,
     )
-}
-
-// Returns what the content `t` of a block at this depth is. If it is opened, the offsets of its blocks come first in
-// the table.
-fn content_of(t: &[u8], compressed: bool, depth: u8, offsets: &mut [u64; MOST_BLOCKS]) -> Found
-    ensures { λ x. ⌜ ContentIs depth compressed (now (t .entry)) (now (offsets .exit)) x ⌝ }
-{
-    if compressed {
-        return Found {
-            inner: Inner::Plain,
-            blocks: 0,
-        };
-    }
-    if !text::begins_at(t, 0, b"#ASDF ") {
-        return Found {
-            inner: Inner::Plain,
-            blocks: 0,
-        };
-    }
-    if DEEPEST <= depth {
-        return Found {
-            inner: Inner::TooDeep,
-            blocks: 0,
-        };
-    }
-    match layout::read_into(t, offsets) {
-        LayoutAnswer::Refused(r) => Found {
-            inner: Inner::Refused(r),
-            blocks: 0,
-        },
-        LayoutAnswer::Accepted(l) => Found {
-            inner: Inner::Opened,
-            blocks: l.blocks,
-        },
-    }
 }

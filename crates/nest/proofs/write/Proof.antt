@@ -1,7 +1,7 @@
 -- `nest::write` meets its contract: the buffer is surely long enough, or it has to be measured.
 use borrow.Author.Needs.{needs}
 use Rattle.nest.proofs.EntryLaws.{each-some, told-fits, sure-put}
-use Rattle.nest.proofs.SinkLaws.{delivered-length}
+use Rattle.visit.proofs.SinkLaws.{delivered-length}
 use Rattle.nest.proofs.write.Statement.{statement}
 use Rattle.nest.proofs.write.Tie as tie
 

@@ -2,7 +2,7 @@
 -- from the function's own buffer.
 use borrow.Author.Needs.{needs}
 use Rattle.nest.proofs.EntryLaws.{told-fits, each-some, measured-short, measured-put, own-room, room-for, own-put}
-use Rattle.nest.proofs.SinkLaws.{delivered-length}
+use Rattle.visit.proofs.SinkLaws.{delivered-length}
 use Rattle.nest.proofs.write_measured.Statement.{statement}
 use Rattle.nest.proofs.write_measured.Tie as tie
 

@@ -1,6 +1,6 @@
 -- `nest::write_one` meets its contract: there is no such record, it does not fit, or it is put.
 use borrow.Author.Needs.{needs}
-use Rattle.nest.proofs.SinkLaws.{delivered-length}
+use Rattle.visit.proofs.SinkLaws.{delivered-length}
 use Rattle.nest.proofs.EntryLaws.{one-none, one-short, one-written}
 use Rattle.nest.proofs.write_one.Statement.{statement}
 use Rattle.nest.proofs.write_one.Tie as tie

@@ -3,7 +3,7 @@
 use borrow.Author.Needs.{needs}
 use Prim.Native.Nat.{ℕ, _+_, _*_, _-_, _<_}
 use Rattle.format.specs.Nest.{deepest}
-use Rattle.nest.proofs.SinkLaws.{delivered-length}
+use Rattle.visit.proofs.SinkLaws.{delivered-length}
 use Rattle.nest.proofs.WalkLaws.{Walking, walking-start, walking-inside, walking-kept, walking-sound, walking-ordinal, walking-room, walking-next, walking-done, less-inside, less-opened, content-order, content-inside, content-alone, found-opens, deeper-fits, content-room, content-walked}
 use borrow.Fn.Kinds.{In}
 use borrow.Fn.PlainCycle.{Measures, is, falls, and}
@@ -15,8 +15,8 @@ use Rattle.nest.proofs.walk.walk_content.Kinds as walk-content-kinds
 use Rattle.nest.proofs.walk.+walk_blocks+walk_content.Lts-walk_content as walk-content-lts
 use Rattle.blocks.proofs.again.content_of.Reads as again-content-of-reads
 use Rattle.format.proofs.offset.Offset.outermost.Reads as outermost-reads
-use Rattle.nest.proofs.sink.take_block.Reads as take-block-reads
-use Rattle.nest.proofs.walk.content_of.Reads as walk-content-of-reads
+use Rattle.visit.proofs.sink.take_block.Reads as take-block-reads
+use Rattle.visit.proofs.content.content_of.Reads as content-of-reads
 use Rattle.nest.proofs.walk.+walk_blocks+walk_content.{statement}
 use Rattle.nest.proofs.walk.+walk_blocks+walk_content.Tie.{close}
 
@@ -84,8 +84,8 @@ pub +walk-blocks+walk-content-spec : {M : Type 1} → statement M
     λ t. walk-content-lts.spec (
       again-content-of-reads.Asked,
       again-content-of-reads.Learnt,
-      walk-content-of-reads.Asked,
-      walk-content-of-reads.Learnt,
+      content-of-reads.Asked,
+      content-of-reads.Learnt,
       take-block-reads.Asked,
       take-block-reads.Learnt,
       outermost-reads.Asked,

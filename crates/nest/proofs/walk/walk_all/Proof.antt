@@ -1,7 +1,7 @@
 -- `nest::walk::walk_all` meets its contract: the walk begins at the first block of an accepted file.
 use borrow.Author.Needs.{needs}
 use Rattle.nest.proofs.EntryLaws.{walk-room, walk-whole}
-use Rattle.nest.proofs.SinkLaws.{delivered-length}
+use Rattle.visit.proofs.SinkLaws.{delivered-length}
 use Rattle.nest.proofs.walk.walk_all.Statement.{statement}
 use Rattle.nest.proofs.walk.walk_all.Tie as tie
 

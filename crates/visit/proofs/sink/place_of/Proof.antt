@@ -1,8 +1,8 @@
--- `nest::sink::place_of` meets its contract: there is no place, a place for a row, or a place for the numbers.
+-- `visit::sink::place_of` meets its contract: there is no place, a place for a row, or a place for the numbers.
 use borrow.Author.Needs.{needs}
-use Rattle.nest.proofs.SinkLaws.{no-row, no-numbers, other-wanted, this-wanted, row-place, numbers-place}
-use Rattle.nest.proofs.sink.place_of.Statement.{statement}
-use Rattle.nest.proofs.sink.place_of.Tie as tie
+use Rattle.visit.proofs.SinkLaws.{no-row, no-numbers, other-wanted, this-wanted, row-place, numbers-place}
+use Rattle.visit.proofs.sink.place_of.Statement.{statement}
+use Rattle.visit.proofs.sink.place_of.Tie as tie
 
 pub place-of-spec : {M : Type 1} → statement M
 place-of-spec =

@@ -1,8 +1,8 @@
--- `nest::walk::content_of` meets its contract. There is one law for each return.
+-- `visit::content::content_of` meets its contract. There is one law for each return.
 use borrow.Author.Needs.{needs}
-use Rattle.nest.proofs.ContentLaws.{content-compressed, content-plain, content-deep, content-refused, content-opened}
-use Rattle.nest.proofs.walk.content_of.Statement.{statement}
-use Rattle.nest.proofs.walk.content_of.Tie as tie
+use Rattle.visit.proofs.ContentLaws.{content-compressed, content-plain, content-deep, content-refused, content-opened}
+use Rattle.visit.proofs.content.content_of.Statement.{statement}
+use Rattle.visit.proofs.content.content_of.Tie as tie
 
 pub content-of-spec : {M : Type 1} → statement M
 content-of-spec =

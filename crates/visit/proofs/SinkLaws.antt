@@ -2,12 +2,12 @@
 use Prim.Native.Nat.{ℕ, suc, _+_, _*_, _/_, _≤_}
 use native.Mathlib.Nat.{mul-zero}
 use native.Mathlib.Omega.{arith}
-use mathlib.Core.Path.{_≡_, refl, sym, ap, _∙_}
+use mathlib.Core.Path.{_≡_, refl, ap, _∙_}
 use mathlib.Core.Bool.{Bool, true, false}
 use mathlib.Core.List.{List, [], _∷_, _++_}
 use lib.ListN.{length}
-use lib.Dec.{eqb, leb}
-use borrow.Author.Tests.{eq-eqb, ne-eqb, le-leb}
+use lib.Dec.{leb}
+use borrow.Author.Tests.{eq-eqb, ne-eqb}
 use Rattle.format.specs.declared.block.Block.{Block}
 use Rattle.format.specs.declared.block.Inner.{Inner}
 use Rattle.format.specs.declared.block.Inner.the-variants.{Plain, Opened, Refused, TooDeep}
@@ -15,7 +15,7 @@ use Rattle.format.specs.declared.block.Record.{Record}
 use Rattle.format.specs.declared.offset.OutermostOffset.{OutermostOffset}
 use Rattle.format.specs.declared.row.Row.{Row}
 use Rattle.format.specs.Bytes.{Bytes, wrapped}
-use Rattle.format.specs.Block.{flags, allocatedSize, usedSize, leastBlock, isStreamed, blockWith, soundBlock, Sound}
+use Rattle.format.specs.Block.{leastBlock, blockWith}
 use Rattle.format.specs.Fields.{numberBytes, refusalFields, blockFields, recordFields, recordBytes, encodeRecord}
 use Rattle.format.specs.Lent.{placed}
 use Rattle.format.specs.Outline.{innerNumber, rowOf, rowBytes, encodeRow}
@@ -24,12 +24,11 @@ use Rattle.put.proofs.NumberLaws.{numbers-length}
 use Rattle.put.proofs.PutLaws.{placed-none, placed-nothing, placed-length}
 use Rattle.blocks.specs.declared.again.Summary.{Summary}
 use Rattle.blocks.specs.Again.{blockAgain, summaryAgain}
-use Rattle.blocks.proofs.AgainLaws.{reported-left, reported-stored, block-again}
-use Rattle.nest.specs.declared.sink.Form.{Form}
-use Rattle.nest.specs.declared.sink.Form.the-variants.{Rows, Table, One}
-use Rattle.nest.specs.declared.sink.Place.{Place}
-use Rattle.nest.specs.declared.sink.Place.the-variants as Place·is
-use Rattle.nest.specs.Sink.{blockRecord, width, delivery, numberAfter, putAll, Delivered, PlaceIs}
+use Rattle.visit.specs.declared.sink.Form.{Form}
+use Rattle.visit.specs.declared.sink.Form.the-variants.{Rows, Table, One}
+use Rattle.visit.specs.declared.sink.Place.{Place}
+use Rattle.visit.specs.declared.sink.Place.the-variants as Place·is
+use Rattle.visit.specs.Sink.{blockRecord, width, delivery, numberAfter, putAll, Delivered, PlaceIs}
 
 -- A record has fifteen numbers, so it takes `recordBytes` bytes.
 pub record-length : (r : Record) → length (encodeRecord r) ≡ recordBytes
@@ -83,11 +82,11 @@ module _ (form : Form) (n room : ℕ) (place : Place) (is : PlaceIs form n room 
     pub put-numbers : place ≡ Place·is.Numbers p → after ≡ placed out p (encodeRecord r) → after ≡ placed out (n * width form) (delivery form n r)
     put-numbers h f = f ∙ (rw h at is) out r
 
-module _ (t : Bytes) (sound : Sound t) (depth : ℕ) (here : OutermostOffset) (i : ℕ) (inner : Inner) where
-  -- The row of a sound block is made of its summary.
-  pub row-made : (s : Summary) → s ≡ summaryAgain t → (state : ℕ) → state ≡ innerNumber inner
-      → (n : ℕ)
-      → _≡_ {A = Row} (record {
+module _ (t : Bytes) (depth : ℕ) (here : OutermostOffset) (i : ℕ) (inner : Inner) where
+  -- The row that is made of a summary and the number of an inner state.
+  abbrev rowWith : Summary → ℕ → Row
+  rowWith s state =
+      record {
         depth = depth;
         streamed = s .streamed;
         compressed = s .compressed;
@@ -98,35 +97,24 @@ module _ (t : Bytes) (sound : Sound t) (depth : ℕ) (here : OutermostOffset) (i
         at = here;
         allocated = s .allocated;
         used = s .used;
-      }) (rowOf (blockRecord depth here i n t inner))
-  unfolding rowOf soundBlock blockWith summaryAgain
-  row-made s e state f n = go (isStreamed (flags t)) refl
+      }
+
+  -- The row of a block that is read again is made of its summary.
+  pub row-made : (s : Summary) → s ≡ summaryAgain t → (state : ℕ) → state ≡ innerNumber inner
+      → (n : ℕ) → rowWith s state ≡ rowOf (blockRecord depth here i n t inner)
+  unfolding rowOf blockAgain blockWith summaryAgain
+  row-made s e state f n = rw (e, f) (go (leb leastBlock (length t)) refl)
     where
-      long : leb leastBlock (length t) ≡ true
-      long = le-leb leastBlock (length t) (omega (arith, sound .least, sound .whole))
+      go : (y : Bool) → leb leastBlock (length t) ≡ y → rowWith (summaryAgain t) (innerNumber inner) ≡ rowOf (blockRecord depth here i n t inner)
+      go true k = rw (summaryAgain, blockAgain, k)
+      go false k = rw (summaryAgain, blockAgain, k)
 
-      go : (y : Bool) → isStreamed (flags t) ≡ y
-          → _≡_ {A = Row} (record {
-            depth = depth;
-            streamed = s .streamed;
-            compressed = s .compressed;
-            checksum = s .checksum;
-            inner = state;
-            ordinal = i;
-            «header_size» = s .«header_size»;
-            at = here;
-            allocated = s .allocated;
-            used = s .used;
-          }) (rowOf (blockRecord depth here i n t inner))
-      go true k = rw (e, f, summaryAgain, long, reported-left t (allocatedSize t) k, reported-left t (usedSize t) k, soundBlock, k, k)
-      go false k = rw (e, f, summaryAgain, long, reported-stored t (allocatedSize t) k, reported-stored t (usedSize t) k, soundBlock, k, k)
-
-  -- Putting the numbers of a sound block that is read again puts its record.
+  -- Putting the numbers of a block that is read again puts its record.
   pub record-put : (n : ℕ) (b : Block) → b ≡ blockAgain i n t → (numbers : List ℕ)
       → numbers ≡ recordFields (record { depth = depth; at = here; block = b; inner = inner }) → (out after : Bytes) (p : ℕ)
       → after ≡ placed out p (numberBytes numbers) → after ≡ placed out p (encodeRecord (blockRecord depth here i n t inner))
   unfolding encodeRecord
-  record-put n b e numbers f out after p g = rw (encodeRecord, ← block-again t sound i n, ← e, ← f) g
+  record-put n b e numbers f out after p g = rw (encodeRecord, ← e, ← f) g
 
 -- If what is wanted of one record is put, that record is delivered.
 pub delivered-one : (form : Form) (n : ℕ) (r : Record) (out after : Bytes) → after ≡ placed out (n * width form) (delivery form n r)

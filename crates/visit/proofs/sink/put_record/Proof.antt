@@ -1,8 +1,8 @@
--- `nest::sink::put_record` meets its contract: a record is put as its numbers.
+-- `visit::sink::put_record` meets its contract: a record is put as its numbers.
 use borrow.Author.Needs.{needs}
-use Rattle.nest.proofs.SinkLaws.{record-put}
-use Rattle.nest.proofs.sink.put_record.Statement.{statement}
-use Rattle.nest.proofs.sink.put_record.Tie as tie
+use Rattle.visit.proofs.SinkLaws.{record-put}
+use Rattle.visit.proofs.sink.put_record.Statement.{statement}
+use Rattle.visit.proofs.sink.put_record.Tie as tie
 
 pub put-record-spec : {M : Type 1} → statement M
 put-record-spec =

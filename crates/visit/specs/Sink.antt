@@ -9,19 +9,19 @@ use Rattle.format.specs.declared.block.Inner.{Inner}
 use Rattle.format.specs.declared.block.Record.{Record}
 use Rattle.format.specs.declared.offset.OutermostOffset.{OutermostOffset}
 use Rattle.format.specs.Bytes.{Bytes, wrapped}
-use Rattle.format.specs.Block.{soundBlock}
 use Rattle.format.specs.Fields.{encodeRecord, recordBytes}
 use Rattle.format.specs.Lent.{placed}
 use Rattle.format.specs.Outline.{rowOf, encodeRow, rowBytes}
-use Rattle.nest.specs.declared.sink.Form.{Form}
-use Rattle.nest.specs.declared.sink.Form.the-variants.{Rows, Table, One}
-use Rattle.nest.specs.declared.sink.Place.{Place}
-use Rattle.nest.specs.declared.sink.Place.the-variants.{Nowhere, Row, Numbers}
+use Rattle.blocks.specs.Again.{blockAgain}
+use Rattle.visit.specs.declared.sink.Form.{Form}
+use Rattle.visit.specs.declared.sink.Form.the-variants.{Rows, Table, One}
+use Rattle.visit.specs.declared.sink.Place.{Place}
+use Rattle.visit.specs.declared.sink.Place.the-variants.{Nowhere, Row, Numbers}
 
--- The record of block `i`, with which `t` begins. The block is at offset `n` of its file and at `here` of the outermost
--- file, and its inner state is `inner`.
+-- The record of block `i`, read again from `t`, which begins with it. The block is at offset `n` of its file and at
+-- `here` of the outermost file, and its inner state is `inner`.
 abbrev pub blockRecord : ℕ → OutermostOffset → ℕ → ℕ → Bytes → Inner → Record
-blockRecord depth here i n t inner = record { depth = depth; at = here; block = soundBlock i n t; inner = inner }
+blockRecord depth here i n t inner = record { depth = depth; at = here; block = blockAgain i n t; inner = inner }
 
 -- What is put for every record. In the form `One` these are no bytes: `delivery` states what is put for the wanted
 -- record.

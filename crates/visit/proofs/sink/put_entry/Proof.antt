@@ -1,8 +1,8 @@
--- `nest::sink::put_entry` meets its contract: nothing is put, a row is put, or the numbers are put.
+-- `visit::sink::put_entry` meets its contract: nothing is put, a row is put, or the numbers are put.
 use borrow.Author.Needs.{needs}
-use Rattle.nest.proofs.SinkLaws.{put-nowhere, put-row, put-numbers}
-use Rattle.nest.proofs.sink.put_entry.Statement.{statement}
-use Rattle.nest.proofs.sink.put_entry.Tie as tie
+use Rattle.visit.proofs.SinkLaws.{put-nowhere, put-row, put-numbers}
+use Rattle.visit.proofs.sink.put_entry.Statement.{statement}
+use Rattle.visit.proofs.sink.put_entry.Tie as tie
 
 pub put-entry-spec : {M : Type 1} → statement M
 put-entry-spec =

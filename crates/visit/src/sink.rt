@@ -1,13 +1,13 @@
 // What is done with the blocks of a walk, which come one after another. What the form wants of a block is made from the
-// block's bytes, at the point where it is wanted.
+// block's bytes, at the point where it is wanted. Nothing is judged here: whatever the bytes are, what is put is what
+// `blocks::again` reads of them.
 ghost use mathlib.Core.Path.{_≡_};
 ghost use mathlib.Core.List.{[], _∷_};
 ghost use Prim.Native.Nat.{ℕ, _*_};
-ghost use Rattle.format.specs.Block.{Sound};
 ghost use Rattle.format.specs.Fields.{encodeRecord};
 ghost use Rattle.format.specs.Lent.{placed};
 ghost use Rattle.format.specs.Outline.{rowOf};
-ghost use Rattle.nest.specs.Sink.{Delivered, PlaceIs, delivery, blockRecord, width};
+ghost use Rattle.visit.specs.Sink.{Delivered, PlaceIs, delivery, blockRecord, width};
 use blocks::again;
 use fields::inner_number;
 use format::block::Inner;
@@ -18,7 +18,7 @@ use format::offset::OutermostOffset;
 use format::row::Row;
 use outline::row;
 
-pub(crate) enum Form {
+pub enum Form {
     // A row is put for each block. If the buffer is too short for a row, blocks are only counted.
     Rows,
     // The record of each block is put as numbers.
@@ -28,7 +28,7 @@ pub(crate) enum Form {
 }
 
 // What is put of a block, and where.
-pub(crate) enum Place {
+enum Place {
     Nowhere,
     // Its row, at this offset.
     Row(usize),
@@ -38,7 +38,7 @@ pub(crate) enum Place {
 
 // Returns how many bytes each block takes in the buffer. In the form `One` this is 0, because only one record is put,
 // at the start.
-pub(crate) fn width_of(form: Form) -> u64
+pub fn width_of(form: Form) -> u64
     ensures { λ r. ⌜ r ≡ width form ⌝ }
 {
     match form {
@@ -49,7 +49,7 @@ pub(crate) fn width_of(form: Form) -> u64
 }
 
 // Takes the block that `t` begins with as number `n`, and returns the number of the next block.
-pub(crate) fn take_block(
+pub fn take_block(
     form: Form,
     n: u64,
     t: &[u8],
@@ -60,7 +60,6 @@ pub(crate) fn take_block(
     inner: Inner,
     out: &mut [u8],
 ) -> u64
-    requires { ⌜ Sound (now t) ⌝ }
     ensures { λ x. ⌜ Delivered form n (now (out .entry)) (blockRecord depth here ordinal at (now (t .entry)) inner ∷ []) (now (out .exit)) x ⌝ }
 {
     put_entry(form, n, t, ordinal, at, depth, here, inner, out);
@@ -79,7 +78,6 @@ fn put_entry(
     inner: Inner,
     out: &mut [u8],
 )
-    requires { ⌜ Sound (now t) ⌝ }
     ensures { λ _. ⌜ now (out .exit) ≡ placed (now (out .entry)) (n * width form) (delivery form n (blockRecord depth here ordinal at (now (t .entry)) inner)) ⌝ }
 {
     match place_of(form, n, out.len()) {
@@ -121,7 +119,6 @@ fn place_of(form: Form, n: u64, room: usize) -> Place
 
 // Returns the row of the block that `t` begins with. It does not depend on where the block is in its own file.
 fn row_of(t: &[u8], ordinal: u8, depth: u8, here: OutermostOffset, inner: Inner) -> Row
-    requires { ⌜ Sound (now t) ⌝ }
     ensures { λ r. ⌜ ((at : ℕ) → r ≡ rowOf (blockRecord depth here ordinal at (now (t .entry)) inner)) ⌝ }
 {
     let b = again::summary_of(t);
@@ -150,7 +147,6 @@ fn put_record(
     here: OutermostOffset,
     inner: Inner,
 )
-    requires { ⌜ Sound (now t) ⌝ }
     ensures { λ _. ⌜ now (out .exit) ≡ placed (now (out .entry)) place (encodeRecord (blockRecord depth here ordinal at (now (t .entry)) inner)) ⌝ }
 {
     let block = again::block_of(t, ordinal, at);

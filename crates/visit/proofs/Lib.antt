@@ -1,0 +1,3 @@
+-- Laws that the proofs of a visit use.
+pub mod SinkLaws
+pub mod ContentLaws
