@@ -26,7 +26,7 @@ use std::sync::{Once, OnceLock};
 /// Memory is filled in pages, as the machine has them.
 const PAGE: usize = 1 << 12;
 /// At most this many pages are filled at once, until many fills were needed.
-const MOST_AHEAD: usize = 64;
+const MOST_AHEAD: usize = 256;
 /// After this many fills, whole groups of pages are filled.
 const SMALL_FILLS: usize = 1 << 13;
 /// A file has at most this many groups.

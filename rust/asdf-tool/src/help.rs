@@ -98,7 +98,11 @@ asdf-layout edit FILE TREE
 Replaces the tree of FILE by the text in TREE, in place.
 
 The text has to be exactly one tree and has to fit into the room of the old tree. The rest of the room is filled with
-spaces, and no other byte of FILE changes. If the edit is refused, nothing changes. TREE may be `-`, FILE may not.
+spaces, and no other byte of FILE changes. If the edit is refused, nothing changes. TREE may be `-`, FILE may not. A
+file with several names (hard links) is not edited.
+
+The edit waits until no other call reads or edits FILE, and says so. If FILE is replaced or removed in the meantime,
+the edit says that too, with status 2.
 
 The old room is kept in FILE.old-room until the new one is on the disk. If the edit is interrupted while
 FILE.old-room exists, FILE may be half edited: `asdf-layout restore FILE` brings the old tree back, and until then FILE
@@ -110,8 +114,10 @@ asdf-layout restore FILE [--set-aside]
 
 Brings back the tree that FILE had before an edit that was not finished, from FILE.old-room.
 
-If there is no FILE.old-room, or if it is damaged or does not fit FILE, nothing changes and the exit status is 2. If
-FILE is complete without it, set FILE.old-room aside; until then FILE cannot be edited.
+FILE.old-room is believed only if you, the owner of FILE or root own it and nobody else may write it. It is put back
+only into the file that was edited, and only if no other program has changed that file since. Otherwise nothing
+changes, a sentence says why, and the exit status is 2.
 
-  --set-aside   leaves FILE as it is and gives FILE.old-room another name, so that FILE can be edited again
+  --set-aside   leaves FILE as it is and gives FILE.old-room another name, which is printed, so that FILE can be edited
+                again. Nothing is overwritten. A half edited file that can be restored is not left like this.
 ";

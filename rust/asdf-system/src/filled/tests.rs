@@ -85,10 +85,10 @@ fn no_bytes_are_held_too() {
 
 #[test]
 fn threads_that_touch_the_same_bytes_see_them_complete() {
-    let (path, file) = file("threads", 64 * CHUNK);
+    let (path, file) = file("threads", 4 * CHUNK);
     let expected = fs::read(&path).unwrap();
     for _ in 0..20 {
-        let bytes = Filled::new(&file, 64 * CHUNK, sentences()).unwrap();
+        let bytes = Filled::new(&file, 4 * CHUNK, sentences()).unwrap();
         let bytes = &bytes[..];
         thread::scope(|scope| {
             for _ in 0..4 {
