@@ -79,7 +79,7 @@ pub struct Records {
 impl Records {
     /// Reads all records of a file.
     ///
-    /// For up to 64 records, and for files of up to some hundred thousand bytes, one call of the
+    /// For up to 64 records, and for files of up to about 470,000 bytes, one call of the
     /// proved function is enough. Otherwise they are counted, and a second call reads them.
     pub fn read(file: &[u8]) -> Result<Records, Refusal> {
         let bytes = written_rows(file, RECORD_BYTES, asdf_sys::records)?;

@@ -22,7 +22,7 @@ pub const RECORD_NUMBERS: usize = 15;
 pub const ROW_NUMBERS: usize = 10;
 /// How many bytes a row of an outline has.
 pub const ROW_BYTES: usize = 16;
-/// The smallest block has this many bytes, so a file has at most one row for as many.
+/// The smallest block has this many bytes, so a file has at most one row for each 54 bytes.
 pub const LEAST_BLOCK: usize = 54;
 /// The maximum length of an index that is written, in bytes. An index that is read may be longer.
 pub const LONGEST_INDEX: usize = 809;

@@ -57,6 +57,8 @@ extern "C" {
     pub fn pread(file: c_int, bytes: Address, length: usize, offset: i64) -> isize;
     pub fn write(file: c_int, bytes: *const c_void, length: usize) -> isize;
     pub fn sigaction(signal: c_int, new: *const SignalAction, old: *mut SignalAction) -> c_int;
+    pub fn pthread_sigmask(how: c_int, set: *const [u64; 16], old: *mut [u64; 16]) -> c_int;
+    pub fn raise(signal: c_int) -> c_int;
     pub fn _exit(status: c_int) -> !;
     pub fn __errno_location() -> *mut c_int;
     pub fn fcntl(file: c_int, command: c_int, ...) -> c_int;
@@ -68,6 +70,12 @@ extern "C" {
         to_folder: c_int,
         to: *const c_char,
         flags: c_int,
+    ) -> c_int;
+    pub fn renameat(
+        from_folder: c_int,
+        from: *const c_char,
+        to_folder: c_int,
+        to: *const c_char,
     ) -> c_int;
     pub fn renameat2(
         from_folder: c_int,
@@ -94,6 +102,7 @@ pub const MREMAP_FIXED: c_int = 2;
 
 pub const SIGSEGV: c_int = 11;
 pub const SIGXFSZ: c_int = 25;
+pub const SIG_UNBLOCK: c_int = 1;
 pub const DEFAULT: usize = 0;
 pub const IGNORED: usize = 1;
 /// The handler is given the signal's details.

@@ -19,8 +19,8 @@ pub(crate) fn end(sentence: &[u8]) -> ! {
     }
 }
 
-/// Lets a write fail that passes the largest length that the user allows for files (`ulimit -f`). Otherwise the system would
-/// end the process by a signal.
+/// If a write would make a file longer than the user allows (`ulimit -f`), it fails with an error. Otherwise the system would end
+/// the process by a signal.
 pub fn survive_size_limit() {
     let action = SignalAction {
         handler: IGNORED,
@@ -38,8 +38,8 @@ pub struct Memory {
 }
 
 impl Memory {
-    /// Passes memory on, if there is any.
-    fn given(&self, memory: *mut u8) -> *mut u8 {
+    /// Returns the memory. If it is null, the process ends.
+    fn or_end(&self, memory: *mut u8) -> *mut u8 {
         if memory.is_null() {
             end(self.sentence.as_bytes());
         }
@@ -50,15 +50,15 @@ impl Memory {
 // SAFETY: every call is passed on to the system's allocator as it is.
 unsafe impl GlobalAlloc for Memory {
     unsafe fn alloc(&self, layout: Layout) -> *mut u8 {
-        self.given(System.alloc(layout))
+        self.or_end(System.alloc(layout))
     }
 
     unsafe fn alloc_zeroed(&self, layout: Layout) -> *mut u8 {
-        self.given(System.alloc_zeroed(layout))
+        self.or_end(System.alloc_zeroed(layout))
     }
 
     unsafe fn realloc(&self, memory: *mut u8, layout: Layout, size: usize) -> *mut u8 {
-        self.given(System.realloc(memory, layout, size))
+        self.or_end(System.realloc(memory, layout, size))
     }
 
     unsafe fn dealloc(&self, memory: *mut u8, layout: Layout) {

@@ -2,8 +2,8 @@
 //! stands still from then on, whatever becomes of the file.
 //!
 //! The bytes have an address from the start, but no access is allowed. The first access to a page raises a signal. Its
-//! handler reads the page from the file into memory at an address that nobody else knows, and then moves that memory to its
-//! place. So no thread ever sees a part of a page.
+//! handler reads the page from the file into memory at an address that nobody else knows, and then moves that memory to the
+//! address of the page. So no thread ever sees a part of a page.
 //!
 //! The system does not raise the signal for its own accesses: a call such as `write` fails if it is given bytes that were
 //! never touched. So copy bytes before they go to the system.
@@ -25,13 +25,13 @@ use std::sync::{Once, OnceLock};
 
 /// Memory is filled in pages, as the machine has them.
 const PAGE: usize = 1 << 12;
-/// At most this many pages are filled at once, until many fills were needed.
+/// At most this many pages are filled at once, until `SMALL_FILLS` fills were needed.
 const MOST_AHEAD: usize = 256;
 /// After this many fills, whole groups of pages are filled.
 const SMALL_FILLS: usize = 1 << 13;
 /// A file has at most this many groups.
 ///
-/// Each fill between others that are not there yet splits a map of the system in up to three. So there are at most
+/// Each fill in the middle of pages that are not filled splits a map of the system into up to three. So there are at most
 /// 2 * (8,192 + 4,096) + 1 maps, and the system allows 65,530.
 const GROUPS: usize = 1 << 12;
 /// A group has at least this many bytes.
@@ -39,16 +39,17 @@ const LEAST_GROUP: usize = 1 << 20;
 
 /// Memory that belongs to this process alone, and that takes nothing until it is used.
 const PRIVATE_MEMORY: c_int = MAP_PRIVATE | MAP_ANONYMOUS | MAP_NORESERVE;
-/// Where the processor's error code is among the words that a signal handler is given.
+/// The index of the processor's error code in the `ucontext_t` that a signal handler is given, in words of eight bytes: five
+/// words come before the registers, and it is register 19.
 const ERROR_CODE: usize = 24;
 /// The bit of the error code for an access that writes.
 const WRITES: u64 = 1 << 1;
-/// The bit of the error code for a jump.
-const JUMPS: u64 = 1 << 4;
+/// The bit of the error code for the fetch of an instruction.
+const FETCHES: u64 = 1 << 4;
 
 /// All bytes that may be touched now. The signal handler looks here.
 static HELD: Spin<Vec<Held>> = Spin::new(Vec::new());
-/// What was done before when the signal arrived.
+/// What the process did on this signal before `install`.
 static FORMER: OnceLock<SignalAction> = OnceLock::new();
 static INSTALLED: Once = Once::new();
 
@@ -111,7 +112,7 @@ impl Deref for Filled {
             return &[];
         }
         // SAFETY: the map has this length, and can be read wherever it is touched until it is dropped. A byte never
-        // changes after it was read for the first time, but through `lend`.
+        // changes after it was read for the first time, except through `lend`.
         unsafe { slice::from_raw_parts(self.start.cast(), self.length) }
     }
 }
@@ -119,8 +120,8 @@ impl Deref for Filled {
 impl Drop for Filled {
     fn drop(&mut self) {
         let held = HELD.with(|all| {
-            let place = all.iter().position(|held| self.is(held));
-            place.map(|place| all.swap_remove(place))
+            let position = all.iter().position(|held| self.is(held));
+            position.map(|position| all.swap_remove(position))
         });
         drop(held);
     }
@@ -162,7 +163,7 @@ impl Held {
     }
 
     /// Makes the page with this byte accessible. Returns false if an access of this kind is never allowed.
-    fn touched(&mut self, offset: usize, writes: bool) -> bool {
+    fn make_accessible(&mut self, offset: usize, writes: bool) -> bool {
         if writes && !self.is_writable {
             return false;
         }
@@ -248,10 +249,10 @@ impl Held {
         let file = self.file.as_raw_fd();
         let mut done = 0;
         while done < bytes.len() {
-            let place = staged.start.wrapping_byte_add(done);
+            let address = staged.start.wrapping_byte_add(done);
             let offset = (bytes.start - self.start + done) as i64;
-            // SAFETY: so many bytes of this memory are left, and nobody else knows it.
-            match unsafe { pread(file, place, bytes.len() - done, offset) } {
+            // SAFETY: this many bytes of this memory are left, and nobody else knows it.
+            match unsafe { pread(file, address, bytes.len() - done, offset) } {
                 0 => return Err(Trouble::Shortened),
                 count if count > 0 => done += count as usize,
                 // SAFETY: every thread has this number.
@@ -304,14 +305,14 @@ impl Staged {
         Ok(Staged { start, length })
     }
 
-    /// Moves the memory to its place, where nothing was accessible before.
-    fn move_to(self, place: usize, protection: c_int) -> Result<(), Trouble> {
+    /// Moves the memory to an address where nothing was accessible before.
+    fn move_to(self, address: usize, protection: c_int) -> Result<(), Trouble> {
         protect(self.start, self.length, protection).map_err(|_| Trouble::NoMemory)?;
         let flags = MREMAP_MAYMOVE | MREMAP_FIXED;
-        let place = place as Address;
-        // SAFETY: the place is a part of a map of ours, and nobody has seen a byte there.
-        let moved = unsafe { mremap(self.start, self.length, self.length, flags, place) };
-        match moved == place {
+        let address = address as Address;
+        // SAFETY: there is a part of a map of ours, and nobody has seen a byte of it.
+        let moved = unsafe { mremap(self.start, self.length, self.length, flags, address) };
+        match moved == address {
             true => {
                 // There is nothing left to be given back.
                 mem::forget(self);
@@ -347,11 +348,15 @@ fn install() {
             flags: SA_SIGINFO | SA_ONSTACK,
             ..SignalAction::NONE
         };
+        let mut signals = [0; 16];
+        signals[0] = 1 << (SIGSEGV - 1);
         // SAFETY: all pointers are valid. The former handler is known before ours can be called.
         unsafe {
             sigaction(SIGSEGV, null(), &mut former);
             FORMER.get_or_init(|| former);
             sigaction(SIGSEGV, &action, null_mut());
+            // Whoever started the process may have blocked the signal. Then the first access would end the process.
+            pthread_sigmask(SIG_UNBLOCK, &signals, null_mut());
         }
     });
 }
@@ -363,19 +368,30 @@ extern "C" fn handle(signal: c_int, info: *const SignalInfo, context: *const c_v
         let words: *const u64 = context.cast();
         (&*info, *words.add(ERROR_CODE), *__errno_location())
     };
-    // A signal that another process sent has no address.
-    let is_access = details.code > 0 && error_code & JUMPS == 0;
-    let is_ours = is_access
+    // A signal that another process sent has no address. It ends the process, as whoever sent it wants.
+    if details.code <= 0 {
+        return end_by(signal);
+    }
+    let is_ours = error_code & FETCHES == 0
         && HELD.with(|all| {
             let offset = |held: &Held| details.address.wrapping_sub(held.start);
             let held = all.iter_mut().find(|held| offset(held) < held.length);
-            held.is_some_and(|held| held.touched(offset(held), error_code & WRITES != 0))
+            held.is_some_and(|held| held.make_accessible(offset(held), error_code & WRITES != 0))
         });
     if !is_ours {
         hand_on(signal, info, context);
     }
     // SAFETY: every thread has an error number. The code that was interrupted may be about to look at it.
     unsafe { *__errno_location() = error_number };
+}
+
+/// Ends the process by a signal.
+fn end_by(signal: c_int) {
+    // SAFETY: the action is valid. The signal is blocked until the handler returns.
+    unsafe {
+        sigaction(signal, &SignalAction::NONE, null_mut());
+        raise(signal);
+    }
 }
 
 /// Lets the former handler decide.

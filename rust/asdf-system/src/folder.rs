@@ -4,7 +4,10 @@
 use crate::calls::*;
 use std::ffi::{c_int, c_uint, CString, OsStr};
 use std::fs::{File, OpenOptions};
-use std::io::{self, ErrorKind};
+use std::io::{
+    self,
+    ErrorKind::{InvalidInput, NotFound, PermissionDenied},
+};
 use std::os::fd::{AsRawFd, FromRawFd};
 use std::os::unix::ffi::OsStrExt;
 use std::os::unix::fs::OpenOptionsExt;
@@ -29,7 +32,7 @@ impl Folder {
     /// device. Returns `None` if nothing has this name.
     pub fn look_at(&self, name: &OsStr) -> io::Result<Option<File>> {
         match self.open_with(name, O_PATH, 0) {
-            Err(error) if error.kind() == ErrorKind::NotFound => Ok(None),
+            Err(error) if error.kind() == NotFound => Ok(None),
             found => found.map(Some),
         }
     }
@@ -67,13 +70,21 @@ impl Folder {
         // SAFETY: both names end with 0.
         match done(unsafe { renameat2(folder, old, folder, new, RENAME_NOREPLACE) }) {
             // Some file systems cannot do this. A second name for the file does not replace another either.
-            Err(error) if error.kind() == ErrorKind::InvalidInput => {
+            Err(error) if error.kind() == InvalidInput => {
                 // SAFETY: as above.
                 done(unsafe { linkat(folder, old, folder, new, 0) })?;
                 self.remove(from)
             }
             result => result.map(|_| ()),
         }
+    }
+
+    /// Gives a file the name of another one, which it replaces.
+    pub fn rename_over(&self, from: &OsStr, to: &OsStr) -> io::Result<()> {
+        let folder = self.folder.as_raw_fd();
+        let (old, new) = (c_name(from)?, c_name(to)?);
+        // SAFETY: both names end with 0.
+        done(unsafe { renameat(folder, old.as_ptr(), folder, new.as_ptr()) }).map(|_| ())
     }
 
     /// Removes a name that is not a folder's.
@@ -83,13 +94,16 @@ impl Folder {
         done(unsafe { unlinkat(self.folder.as_raw_fd(), name.as_ptr(), 0) }).map(|_| ())
     }
 
-    /// Brings the names in the folder to the disk. If the folder cannot be read, everything in the file system of `file` is
-    /// brought there.
+    /// Brings the names in the folder to the disk. If the folder cannot be read, or its file system does not do this for a
+    /// folder, everything in the file system of `file` is brought there.
     pub fn sync(&self, file: &File) -> io::Result<()> {
-        match self.open_with(OsStr::new("."), O_DIRECTORY, 0) {
-            Ok(folder) => folder.sync_all(),
-            // SAFETY: the file is open.
-            Err(_) => done(unsafe { syncfs(file.as_raw_fd()) }).map(|_| ()),
+        let folder = self.open_with(OsStr::new("."), O_DIRECTORY, 0);
+        match folder.and_then(|folder| folder.sync_all()) {
+            Err(error) if matches!(error.kind(), PermissionDenied | InvalidInput) => {
+                // SAFETY: the file is open.
+                done(unsafe { syncfs(file.as_raw_fd()) }).map(|_| ())
+            }
+            result => result,
         }
     }
 }
@@ -106,7 +120,7 @@ fn done(result: c_int) -> io::Result<c_int> {
 fn c_name(name: &OsStr) -> io::Result<CString> {
     let bytes = name.as_bytes();
     if bytes.contains(&b'/') {
-        return Err(ErrorKind::InvalidInput.into());
+        return Err(InvalidInput.into());
     }
     Ok(CString::new(bytes)?)
 }
@@ -115,6 +129,7 @@ fn c_name(name: &OsStr) -> io::Result<CString> {
 mod tests {
     use super::*;
     use std::fs;
+    use std::io::ErrorKind;
     use std::os::unix::fs::symlink;
     use std::path::PathBuf;
     use std::process::id;

@@ -1,6 +1,6 @@
 //! Whether the standard streams were there when the process began.
 //!
-//! Rust opens `/dev/null` in the place of a standard stream that is closed, so that no other file gets its number. Then a
+//! Rust opens `/dev/null` instead of a standard stream that is closed, so that no other file gets its number. Then a
 //! closed input looks like an empty one, and what is written to a closed output seems to arrive.
 
 use crate::calls::{fcntl, F_GETFD};

@@ -2,6 +2,10 @@
 
 use crate::calls::{geteuid, getpwuid};
 use std::ffi::CStr;
+use std::sync::Mutex;
+
+/// The C library keeps one entry for all threads.
+static ENTRY: Mutex<()> = Mutex::new(());
 
 /// Returns the number of the user with whose rights the process runs.
 pub fn caller() -> u32 {
@@ -9,9 +13,10 @@ pub fn caller() -> u32 {
     unsafe { geteuid() }
 }
 
-/// Returns the name of a user, if the system knows one. Not for two threads at the same time.
+/// Returns the name of a user, if the system knows one.
 pub fn name_of(user: u32) -> Option<String> {
-    // SAFETY: the entry, if there is one, holds a text that ends with 0, and stays until the next call.
+    let _entry = ENTRY.lock().ok()?;
+    // SAFETY: the entry, if there is one, holds a text that ends with 0. It stays until the next call, which waits.
     unsafe {
         let entry = getpwuid(user).as_ref()?;
         let name = CStr::from_ptr(entry.name);

@@ -10,7 +10,7 @@ use std::ops::Range;
 use std::os::unix::fs::MetadataExt;
 
 /// The first line of the stored form.
-const TITLE: &str = "asdf-layout old room, form 2";
+pub const TITLE: &str = "asdf-layout old room, form 2";
 /// The words at the start of the other lines.
 const WORDS: [&str; 6] = ["inode", "device", "length", "room", "around", "whole"];
 
@@ -81,39 +81,71 @@ impl Change {
         format!("{TITLE}\n{lines}")
     }
 
+    /// Returns how long the stored form is that begins with these bytes.
+    pub fn stored_length(start: &[u8]) -> Option<u64> {
+        let stated = Stated::read(start)?;
+        let rooms = stated.room.len() as u64 * 2;
+        rooms.checked_add(stated.lines as u64)
+    }
+
     /// Reads the stored form, which has to be exact.
     pub fn parse(stored: &[u8]) -> Option<Change> {
-        let mut lines = stored.splitn(WORDS.len() + 2, |&byte| byte == b'\n');
-        let title = lines.next()?;
-        let mut values = Vec::new();
-        for word in WORDS {
-            let line = str::from_utf8(lines.next()?).ok()?;
-            values.push(line.strip_prefix(word)?.strip_prefix(' ')?);
-        }
-        let rooms = lines.next()?;
-        let number = |text: &str| text.parse::<u64>().ok();
-        let (start, end) = values[3].split_once(' ')?;
-        let start = number(start)?;
-        let length = usize::try_from(number(end)?.checked_sub(start)?).ok()?;
-        let (old, new) = rooms.split_at_checked(length)?;
+        let stated = Stated::read(stored)?;
+        let (old, new) = stored[stated.lines..].split_at_checked(stated.room.len())?;
+        let [inode, device, length] = stated.numbers;
         let change = Change {
-            inode: number(values[0])?,
-            device: number(values[1])?,
-            length: number(values[2])?,
-            start: usize::try_from(start).ok()?,
+            inode,
+            device,
+            length,
+            start: stated.room.start,
             old: old.to_vec(),
             new: new.to_vec(),
-            around: values[4].to_string(),
+            around: stated.around.to_string(),
         };
-        let is_exact = title == TITLE.as_bytes()
-            && new.len() == length
-            && stored.starts_with(change.lines().as_bytes());
+        let is_exact = new.len() == old.len() && stored.starts_with(change.lines().as_bytes());
         is_exact.then_some(change)
     }
 }
 
-/// Returns a digest of what is before the room of a file, and of the headers of its blocks with their places. The file need not
-/// have its final room, because nothing of the room is in the digest.
+/// What the lines of a stored form state.
+struct Stated<'a> {
+    /// The inode, the device and the length of the file.
+    numbers: [u64; 3],
+    room: Range<usize>,
+    around: &'a str,
+    /// How many bytes the lines have.
+    lines: usize,
+}
+
+impl Stated<'_> {
+    fn read(stored: &[u8]) -> Option<Stated<'_>> {
+        let mut parts = stored.splitn(WORDS.len() + 2, |&byte| byte == b'\n');
+        if parts.next()? != TITLE.as_bytes() {
+            return None;
+        }
+        let mut values = [""; WORDS.len()];
+        for (value, word) in values.iter_mut().zip(WORDS) {
+            let line = str::from_utf8(parts.next()?).ok()?;
+            *value = line.strip_prefix(word)?.strip_prefix(' ')?;
+        }
+        let [inode, device, length, room, around, _] = values;
+        let (start, end) = room.split_once(' ')?;
+        let room = start.parse().ok()?..end.parse().ok()?;
+        Some(Stated {
+            numbers: [
+                inode.parse().ok()?,
+                device.parse().ok()?,
+                length.parse().ok()?,
+            ],
+            room: (room.start <= room.end).then_some(room)?,
+            around,
+            lines: stored.len() - parts.next()?.len(),
+        })
+    }
+}
+
+/// Returns a digest of what is before the room of a file, and of the headers of its blocks with their offsets. It does not
+/// matter which room the file has, because nothing of the room is in the digest.
 pub fn around(file: &[u8], start: usize, layout: &Layout) -> Result<String, Refusal> {
     let mut digest = Digest::new();
     digest.take(&file[..start]);
@@ -148,7 +180,10 @@ mod tests {
 
     #[test]
     fn stored_change_reads_back() {
-        assert_eq!(Change::parse(&stored(&change())), Some(change()));
+        let whole = stored(&change());
+        assert_eq!(Change::parse(&whole), Some(change()));
+        let lines = &whole[..change().lines().len()];
+        assert_eq!(Change::stored_length(lines), Some(whole.len() as u64));
         let empty = Change {
             old: Vec::new(),
             new: Vec::new(),
@@ -160,13 +195,16 @@ mod tests {
     #[test]
     fn stored_change_with_any_byte_changed_missing_or_added_is_refused() {
         let whole = stored(&change());
-        for place in 0..whole.len() {
+        for offset in 0..whole.len() {
             let mut other = whole.clone();
-            other[place] ^= 1;
-            assert_eq!(Change::parse(&other), None, "{place}");
-            assert_eq!(Change::parse(&whole[..place]), None, "{place}");
+            other[offset] ^= 1;
+            assert_eq!(Change::parse(&other), None, "{offset}");
+            assert_eq!(Change::parse(&whole[..offset]), None, "{offset}");
         }
         assert_eq!(Change::parse(&[&whole[..], b" "].concat()), None);
+        // A room that ends before it begins is no room.
+        let backwards = String::from_utf8_lossy(&whole).replace("room 12 20", "room 12 2");
+        assert_eq!(Change::stored_length(backwards.as_bytes()), None);
         // Numbers have one form only.
         let padded = String::from_utf8_lossy(&whole).replace("inode 7", "inode 07");
         assert_eq!(Change::parse(padded.as_bytes()), None);

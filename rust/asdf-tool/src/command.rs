@@ -43,7 +43,7 @@ struct Usage {
     /// Its options besides `-h` and `--help`.
     options: &'static [&'static str],
     /// Makes the command of words whose options fit each other.
-    make: fn(Words) -> Sorted<Command>,
+    make: fn(Words) -> Parsed<Command>,
 }
 
 const USAGES: [Usage; 6] = [
@@ -84,22 +84,26 @@ const USAGES: [Usage; 6] = [
         make: Words::restore,
     },
 ];
-/// Options that exclude each other.
-const EXCLUSIVE: [[&str; 2]; 2] = [["--plain", "--json"], ["--read", "-o"]];
+/// Options that cannot be used together.
+const EXCLUSIVE: [[&str; 2]; 3] = [
+    ["--plain", "--json"],
+    ["--read", "-o"],
+    ["--read", "--force"],
+];
 /// Options that have a meaning only beside another one, if the command has that one.
 const DEPENDENT: [[&str; 2]; 2] = [["--force", "-o"], ["-o", "--write"]];
 
 /// Turns the words of the command line into a command.
 pub fn parse(words: Vec<OsString>) -> Result<Command, Failure> {
     let Some((first, rest)) = words.split_first() else {
-        return Err(unknown("no command was given"));
+        return Err(wrong_call("no command was given"));
     };
     if is_help(first) || first == "help" {
         return help_about(rest);
     }
     match rest {
         [] if first == "--version" => Ok(Command::Version),
-        [surplus, ..] if first == "--version" => Err(unknown(format!(
+        [surplus, ..] if first == "--version" => Err(wrong_call(format!(
             "`--version` takes no other word; {} is one too many",
             backquoted(surplus)
         ))),
@@ -116,20 +120,21 @@ fn is_help(word: &OsString) -> bool {
 fn help_about(words: &[OsString]) -> Result<Command, Failure> {
     match words {
         [] => Ok(Command::Help(help::ALL)),
+        [word] if is_help(word) || word == "help" => Ok(Command::Help(help::ALL)),
         [name] => Ok(Command::Help(Usage::of(name)?.help)),
-        [_, surplus, ..] => Err(unknown(format!(
+        [_, surplus, ..] => Err(wrong_call(format!(
             "`help` takes one command; {} is one too many",
             backquoted(surplus)
         ))),
     }
 }
 
-/// Reports a call that names no command.
-fn unknown(problem: impl Into<String>) -> Failure {
-    Failure::usage(problem).with_advice("`asdf-layout --help` lists the commands")
+/// Reports a wrong call that belongs to no command.
+fn wrong_call(problem: impl Into<String>) -> Failure {
+    Failure::not_done(problem).with_advice("`asdf-layout --help` lists the commands")
 }
 
-/// Returns a word for a message.
+/// Returns a word between backquotes, with escapes.
 fn backquoted(word: &OsStr) -> String {
     format!("`{}`", names::shown(Path::new(word)))
 }
@@ -144,7 +149,7 @@ impl Usage {
     fn of(name: &OsStr) -> Result<&'static Usage, Failure> {
         let mut usages = USAGES.iter();
         let usage = usages.find(|usage| name == usage.name);
-        usage.ok_or_else(|| unknown(format!("{} is not a command", backquoted(name))))
+        usage.ok_or_else(|| wrong_call(format!("{} is not a command", backquoted(name))))
     }
 
     /// Returns the command with the words after its name.
@@ -156,7 +161,7 @@ impl Usage {
         let command = Words::sorted(self, words).and_then(Words::command);
         command.map_err(|problem| {
             let advice = format!("`asdf-layout {} --help` shows how to call it", self.name);
-            Failure::usage(problem).with_advice(advice)
+            Failure::not_done(problem).with_advice(advice)
         })
     }
 }
@@ -170,12 +175,12 @@ struct Words {
     out: Option<PathBuf>,
 }
 
-/// A result, or what is wrong with the words.
-type Sorted<T> = Result<T, String>;
+/// A result, or a sentence about what is wrong with the words.
+type Parsed<T> = Result<T, String>;
 
 impl Words {
     /// Separates options from files.
-    fn sorted(usage: &'static Usage, words: &[OsString]) -> Sorted<Words> {
+    fn sorted(usage: &'static Usage, words: &[OsString]) -> Parsed<Words> {
         let mut sorted = Words {
             usage,
             options: Vec::new(),
@@ -196,11 +201,18 @@ impl Words {
     }
 
     /// Adds an option, and the name that comes after it if it is `-o`.
-    fn add_option(&mut self, word: &OsStr, words: &mut slice::Iter<OsString>) -> Sorted<()> {
+    fn add_option(&mut self, word: &OsStr, words: &mut slice::Iter<OsString>) -> Parsed<()> {
         let mut options = self.usage.options.iter();
         let Some(option) = options.find(|option| word == **option) else {
             let name = self.usage.name;
-            return Err(format!("{} is not an option of `{name}`", backquoted(word)));
+            let problem = format!("{} is not an option of `{name}`", backquoted(word));
+            return Err(match Path::new(word).exists() {
+                true => format!(
+                    "{problem}; the file is given as {}",
+                    names::quoted(Path::new(word))
+                ),
+                false => problem,
+            });
         };
         if self.has(option) {
             return Err(format!("`{option}` was given twice"));
@@ -218,10 +230,10 @@ impl Words {
     }
 
     /// Checks that the options fit each other.
-    fn check_options(&self) -> Sorted<()> {
+    fn check_options(&self) -> Parsed<()> {
         let both = |[one, other]: &&[&str; 2]| self.has(one) && self.has(other);
         if let Some([one, other]) = EXCLUSIVE.iter().find(both) {
-            return Err(format!("`{one}` and `{other}` exclude each other"));
+            return Err(format!("`{one}` and `{other}` cannot be used together"));
         }
         let is_alone = |[option, needed]: &&[&str; 2]| {
             self.has(option) && self.usage.options.contains(needed) && !self.has(needed)
@@ -233,7 +245,7 @@ impl Words {
     }
 
     /// Checks that every file has a name, and that standard input is read only once.
-    fn check_files(&self) -> Sorted<()> {
+    fn check_files(&self) -> Parsed<()> {
         if self.files.iter().any(|file| file.as_os_str().is_empty()) {
             return Err("the name of a file is empty".to_string());
         }
@@ -244,13 +256,13 @@ impl Words {
     }
 
     /// Returns the command with these words.
-    fn command(self) -> Sorted<Command> {
+    fn command(self) -> Parsed<Command> {
         self.check_options()?;
         self.check_files()?;
         (self.usage.make)(self)
     }
 
-    fn list(self) -> Sorted<Command> {
+    fn list(self) -> Parsed<Command> {
         let form = match (self.has("--plain"), self.has("--json")) {
             (true, _) => Form::Plain,
             (_, true) => Form::Json,
@@ -265,12 +277,12 @@ impl Words {
         }
     }
 
-    fn tree(self) -> Sorted<Command> {
+    fn tree(self) -> Parsed<Command> {
         let [file] = self.exactly(["FILE"])?;
         Ok(Command::Tree { file })
     }
 
-    fn index(mut self) -> Sorted<Command> {
+    fn index(mut self) -> Parsed<Command> {
         let writes = self.has("--write");
         let out = self.out();
         let [file] = self.exactly(["FILE"])?;
@@ -280,7 +292,7 @@ impl Words {
         })
     }
 
-    fn outline(mut self) -> Sorted<Command> {
+    fn outline(mut self) -> Parsed<Command> {
         if self.has("--read") {
             let [stored] = self.exactly(["OUT"])?;
             return Ok(Command::ReadOutline { stored });
@@ -293,13 +305,13 @@ impl Words {
         Ok(Command::Outline { file, out })
     }
 
-    fn edit(self) -> Sorted<Command> {
+    fn edit(self) -> Parsed<Command> {
         self.check_changeable()?;
         let [file, tree] = self.exactly(["FILE", "TREE"])?;
         Ok(Command::Edit { file, tree })
     }
 
-    fn restore(self) -> Sorted<Command> {
+    fn restore(self) -> Parsed<Command> {
         self.check_changeable()?;
         let sets_aside = self.has("--set-aside");
         let [file] = self.exactly(["FILE"])?;
@@ -318,7 +330,7 @@ impl Words {
     }
 
     /// Checks that the file to be changed is not standard input.
-    fn check_changeable(&self) -> Sorted<()> {
+    fn check_changeable(&self) -> Parsed<()> {
         let name = self.usage.name;
         match self.files.first().is_some_and(|file| is_standard(file)) {
             true => Err(format!("`{name}` changes FILE, so FILE cannot be `-`")),
@@ -327,7 +339,7 @@ impl Words {
     }
 
     /// Returns the files, if there are as many as `names`.
-    fn exactly<const N: usize>(self, names: [&str; N]) -> Sorted<[PathBuf; N]> {
+    fn exactly<const N: usize>(self, names: [&str; N]) -> Parsed<[PathBuf; N]> {
         if let Some(surplus) = self.files.get(N) {
             let (name, surplus) = (self.usage.name, backquoted(surplus.as_os_str()));
             let files = if N == 1 { "one file" } else { "two files" };
@@ -337,17 +349,17 @@ impl Words {
         self.files.try_into().map_err(|_| missing)
     }
 
-    /// Says which of the files with these names are missing.
+    /// Says which of the files with these names were not given.
     fn missing(&self, names: &[&str]) -> String {
         let missing = &names[self.files.len()..];
-        let verb = if missing.len() == 1 { "is" } else { "are" };
+        let verb = if missing.len() == 1 { "was" } else { "were" };
         let (name, needed, missing) = (self.usage.name, names.join(" and "), missing.join(" and "));
-        format!("`{name}` needs {needed}; {missing} {verb} missing")
+        format!("`{name}` needs {needed}; {missing} {verb} not given")
     }
 }
 
 /// Returns the name that comes after `-o`. An option there is taken for a forgotten name.
-fn out_name(word: Option<&OsString>) -> Sorted<PathBuf> {
+fn out_name(word: Option<&OsString>) -> Parsed<PathBuf> {
     match word {
         None => Err("`-o` needs a name after it".to_string()),
         Some(word) if is_option(word) || word.is_empty() => Err(format!(
@@ -435,7 +447,7 @@ mod tests {
 
     #[test]
     fn help_is_there_for_the_tool_and_for_each_command() {
-        for line in ["--help", "-h", "help"] {
+        for line in ["--help", "-h", "help", "help -h", "help help"] {
             assert_eq!(parsed(line), Ok(Command::Help(help::ALL)));
         }
         for line in ["edit --help", "edit a b c -h", "help edit", "-h edit"] {
@@ -475,8 +487,8 @@ mod tests {
     fn wrong_call_is_told_which_word_is_wrong() {
         let empty = "the name of a file is empty";
         for (line, problem) in [
-            ("list", "`list` needs FILE; FILE is missing"),
-            ("list --", "`list` needs FILE; FILE is missing"),
+            ("list", "`list` needs FILE; FILE was not given"),
+            ("list --", "`list` needs FILE; FILE was not given"),
             ("list ''", empty),
             ("list a --jsno", "`--jsno` is not an option of `list`"),
             ("list a --\x1B", r"`--\u{1b}` is not an option of `list`"),
@@ -484,23 +496,23 @@ mod tests {
             ("list a --json --json", "`--json` was given twice"),
             (
                 "list a --json --plain",
-                "`--plain` and `--json` exclude each other",
+                "`--plain` and `--json` cannot be used together",
             ),
             (
                 "list - a -",
                 "`-` was given twice, but standard input is read only once",
             ),
-            ("tree", "`tree` needs FILE; FILE is missing"),
+            ("tree", "`tree` needs FILE; FILE was not given"),
             ("tree a b", "`tree` takes one file; `b` is one too many"),
             ("tree a \n", r"`tree` takes one file; `\n` is one too many"),
             ("tree a --json", "`--json` is not an option of `tree`"),
-            ("index", "`index` needs FILE; FILE is missing"),
+            ("index", "`index` needs FILE; FILE was not given"),
             ("index a -o b", "`-o` needs `--write`"),
             ("index a --write --force", "`--force` needs `-o`"),
             ("index a --read", "`--read` is not an option of `index`"),
             ("outline a", "`outline` needs `-o OUT` or `--read`"),
-            ("outline -o b", "`outline` needs FILE; FILE is missing"),
-            ("outline --read", "`outline` needs OUT; OUT is missing"),
+            ("outline -o b", "`outline` needs FILE; FILE was not given"),
+            ("outline --read", "`outline` needs OUT; OUT was not given"),
             ("outline a -o", "`-o` needs a name after it"),
             (
                 "outline a -o --force",
@@ -512,18 +524,18 @@ mod tests {
             ("outline a --force", "`--force` needs `-o`"),
             (
                 "outline --read a -o b",
-                "`--read` and `-o` exclude each other",
+                "`--read` and `-o` cannot be used together",
             ),
             (
                 "edit",
-                "`edit` needs FILE and TREE; FILE and TREE are missing",
+                "`edit` needs FILE and TREE; FILE and TREE were not given",
             ),
-            ("edit a", "`edit` needs FILE and TREE; TREE is missing"),
+            ("edit a", "`edit` needs FILE and TREE; TREE was not given"),
             ("edit a b c", "`edit` takes two files; `c` is one too many"),
             ("edit - a", "`edit` changes FILE, so FILE cannot be `-`"),
             ("edit a ''", empty),
             ("restore -", "`restore` changes FILE, so FILE cannot be `-`"),
-            ("restore", "`restore` needs FILE; FILE is missing"),
+            ("restore", "`restore` needs FILE; FILE was not given"),
             (
                 "restore - --set-aside",
                 "`restore` changes FILE, so FILE cannot be `-`",

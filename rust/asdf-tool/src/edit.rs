@@ -31,8 +31,7 @@ pub fn edit(path: &Path, text: &Source) -> Result<(), Failure> {
 /// Brings back the tree that the file had before an edit that was not finished.
 pub fn restore(path: &Path) -> Result<(), Failure> {
     let target = Target::open(path)?;
-    // If something else is in the place of what a stopped edit left, that is no obstacle here.
-    let was_left = kept::remove_part(&target).unwrap_or(false);
+    let was_left = kept::remove_parts(&target);
     let change = match kept::look_beside(&target)? {
         Beside::Nothing => return nothing_to_restore(&target, was_left),
         Beside::Strange(reason) => return Err(not_restored(&target, &reason)),
@@ -50,24 +49,42 @@ pub fn restore(path: &Path) -> Result<(), Failure> {
     )
 }
 
-/// Moves a kept room that cannot be restored out of the way, and returns where it was and where it is.
+/// Moves what has the name of the kept room out of the way, unless the file is half edited and can be restored. Returns its path
+/// before and after.
 pub fn set_aside(path: &Path) -> Result<[PathBuf; 2], Failure> {
     let target = Target::open(path)?;
     let kept = kept::path_for(&target);
     match kept::look_beside(&target)? {
         Beside::Nothing => {
             let kept = shown(&kept);
-            return Err(Failure::usage(format!(
+            return Err(Failure::not_done(format!(
                 "nothing to set aside: there is no {kept}"
             )));
         }
-        // If it can be restored, the file may be half edited, and then this is all that is left of the old tree.
-        Beside::Kept(change) if is_half_edited(&change, &target)? => {
-            return Err(Failure::usage(kept::unfinished(path)));
-        }
-        Beside::Kept(_) | Beside::Strange(_) => (),
+        Beside::Kept(change) => settle(&change, &target)?,
+        Beside::Strange(_) => target.sync()?,
     }
     Ok([kept, kept::set_aside(&target)?])
+}
+
+/// Brings the file to the disk as it is, before its old room is set aside. A file that is half edited and can be restored is not
+/// settled, because the kept room is all that is left of the old tree.
+fn settle(change: &Change, target: &Target) -> Result<(), Failure> {
+    if why_unfit(change, target)?.is_some() {
+        return target.sync();
+    }
+    let room = kept::present_room(change, target)?;
+    if room != change.old && room != change.new {
+        return Err(Failure::not_done(format!(
+            "{file} is half edited and can be restored, so {kept} was not moved; \
+             run `asdf-layout restore {name}`",
+            file = target.shown(),
+            kept = shown(&kept::path_for(target)),
+            name = quoted(&target.given)
+        )));
+    }
+    // What is read may be in memory only, even if the system reported that it could not be brought to the disk.
+    target.write(&room, change.start, &mut Steps::new())
 }
 
 /// Refuses to edit a file with several names: an edit that is interrupted would be known under one of them only.
@@ -76,7 +93,7 @@ fn refuse_several_names(target: &Target) -> Result<(), Failure> {
     if names == 1 {
         return Ok(());
     }
-    Err(Failure::usage(format!(
+    Err(Failure::not_done(format!(
         "{} has {names} names (hard links), and the edit would change the file under all of them; \
          it was not edited; copy it to a file of its own and edit that",
         target.shown()
@@ -85,23 +102,33 @@ fn refuse_several_names(target: &Target) -> Result<(), Failure> {
 
 /// Refuses to begin an edit while something has the name of the kept room.
 fn refuse_unfinished(target: &Target) -> Result<(), Failure> {
-    let kept = shown(&kept::path_for(target));
+    // On some file systems an edit that was stopped leaves a second name of what is kept.
+    kept::remove_parts(target);
+    let (file, kept) = (target.shown(), shown(&kept::path_for(target)));
+    let unused = |reason| {
+        format!(
+            "{kept} {reason}; {}; then edit again",
+            kept::way_out(target)
+        )
+    };
     let sentence = match kept::look_beside(target)? {
         Beside::Nothing => return Ok(()),
-        Beside::Strange(reason) => format!("{kept} {reason}; {}", kept::way_out(target)),
+        Beside::Strange(reason) => unused(reason),
         Beside::Kept(change) => match why_unfit(&change, target)? {
-            Some(reason) => format!("{kept} {reason}; {}", kept::way_out(target)),
+            Some(reason) => unused(reason),
             None if kept::present_room(&change, target)? == change.new => format!(
-                "the last edit of {file} was completed, but {kept} was not removed; \
+                "it has the whole new tree of the last edit, but {kept} was not removed; \
                  `asdf-layout restore --set-aside {name}` keeps the new tree, \
-                 and `asdf-layout restore {name}` brings the old one back",
-                file = target.shown(),
+                 and `asdf-layout restore {name}` brings the old one back; \
+                 do one of these, then edit again",
                 name = quoted(&target.given)
             ),
-            None => kept::unfinished(&target.given),
+            None => format!("{}; then edit again", kept::unfinished(&target.given)),
         },
     };
-    Err(Failure::usage(format!("{sentence}; then edit again")))
+    Err(Failure::not_done(format!(
+        "{file} was not edited: {sentence}"
+    )))
 }
 
 /// Lets the proved edit make the new room, and returns the change. Nothing of the file changes yet, and nothing more is read of
@@ -121,24 +148,25 @@ fn changed(target: &Target, text: &Source) -> Result<Change, Failure> {
     Change::new(target.metadata(), room.start, old, file, &layout).map_err(refused)
 }
 
-/// Says more about a text that is refused.
+/// Says more about a text that is refused: its size, that of the room, and what to do.
 fn about_text(refusal: Refusal, text: &Source, room: usize) -> Option<String> {
-    let sizes = || {
-        format!(
-            "{} has {} bytes, and the room has {room}",
-            text.name(),
-            text.len()
-        )
-    };
+    let (name, length) = (text.name(), text.len());
     let is_unended = text.last().is_some_and(|&byte| byte != b'\n');
-    match refusal.number {
-        Refusal::TEXT_NOT_ONE_TREE if is_unended => Some(format!(
-            "{}; the last line of the text has no line end, and a tree needs one",
-            sizes()
-        )),
-        Refusal::TEXT_NOT_ONE_TREE | Refusal::TEXT_LONGER_THAN_ROOM => Some(sizes()),
-        _ => None,
-    }
+    let advice = match refusal.number {
+        Refusal::TEXT_NOT_ONE_TREE if is_unended => {
+            "its last line has no line end, which a tree needs; add one".to_string()
+        }
+        Refusal::TEXT_NOT_ONE_TREE => {
+            "a tree goes from its line `%YAML 1.1` through its line `...`, \
+             with nothing before or after it"
+                .to_string()
+        }
+        Refusal::TEXT_LONGER_THAN_ROOM => format!("shorten it by {} bytes", length - room),
+        _ => return None,
+    };
+    Some(format!(
+        "{name} has {length} bytes, and the room has {room}; {advice}"
+    ))
 }
 
 /// Writes the room to the file, then removes the kept room. `holds` says what the file has then.
@@ -154,15 +182,16 @@ fn finish(
     kept::remove(target, holds, steps)?;
     match target.is_named() {
         true => Ok(()),
-        false => Err(Failure::usage(format!(
+        false => Err(Failure::not_done(format!(
             "{name} was replaced or removed by another program in the meantime; \
-             the file that was locked {holds}, but {name} is no longer that file",
+             the file that had this name {holds}, and what has it now was not changed; \
+             look at it before you repeat the command",
             name = target.shown()
         ))),
     }
 }
 
-/// Reports that no interrupted edit has changed the file. `was_left` says whether one was stopped before it could.
+/// Reports that no interrupted edit is known. `was_left` says whether one was stopped before it changed anything.
 fn nothing_to_restore(target: &Target, was_left: bool) -> Result<(), Failure> {
     let name = target.shown();
     if was_left {
@@ -171,27 +200,19 @@ fn nothing_to_restore(target: &Target, was_left: bool) -> Result<(), Failure> {
         ));
         return Ok(());
     }
-    Err(Failure::usage(format!(
-        "nothing to restore: no interrupted edit has changed {name}"
+    let kept = shown(&kept::path_for(target));
+    Err(Failure::not_done(format!(
+        "nothing to restore: there is no {kept}"
     )))
 }
 
 /// Reports that the kept room cannot be restored.
 fn not_restored(target: &Target, reason: &str) -> Failure {
     let kept = shown(&kept::path_for(target));
-    Failure::usage(format!(
+    Failure::not_done(format!(
         "{kept} {reason}; nothing was restored; {}",
         kept::way_out(target)
     ))
-}
-
-/// Whether the room of the file is neither wholly the old one nor wholly the new one, and could be restored.
-fn is_half_edited(change: &Change, target: &Target) -> Result<bool, Failure> {
-    if why_unfit(change, target)?.is_some() {
-        return Ok(false);
-    }
-    let room = kept::present_room(change, target)?;
-    Ok(room != change.old && room != change.new)
 }
 
 /// Says why the old room does not fit the file as it is now, if it does not.
@@ -203,27 +224,18 @@ fn why_unfit(change: &Change, target: &Target) -> Result<Option<String>, Failure
     let file = bytes
         .lend()
         .map_err(|error| Failure::at("cannot make a private copy of", &target.given, error))?;
-    Ok(why_no_half_edit(change, file))
+    Ok(put_old_room(change, file))
 }
 
-/// Says why the bytes cannot be those that the edit found with a part of the new room, if that is so. Puts the old room into
-/// them.
-fn why_no_half_edit(change: &Change, file: &mut [u8]) -> Option<String> {
+/// Puts the old room into the bytes of a file that may be half edited. Returns why they cannot be those of such a file, if
+/// they cannot.
+fn put_old_room(change: &Change, file: &mut [u8]) -> Option<String> {
     // A file that is too long for an edit is held in part only.
     let Some(room) = file.get_mut(change.room()) else {
         return Some("does not fit: its room is outside the file".to_string());
     };
-    let rooms = change.old.iter().zip(&change.new);
-    let is_other = |(byte, (old, new)): &(&u8, (&u8, &u8))| byte != old && byte != new;
-    let mut others = room.iter().zip(rooms).enumerate();
-    let first = others.find(|(_, bytes)| is_other(bytes));
-    if let Some((place, _)) = first {
-        let more = others.filter(|(_, bytes)| is_other(bytes)).count();
-        let place = change.start + place;
-        return Some(format!(
-            "does not fit: the byte at {place} and {more} others in the room of the tree \
-             are neither those of the old tree nor those of the new one"
-        ));
+    if let Some(reason) = why_other_room(change, room) {
+        return Some(reason);
     }
     room.copy_from_slice(&change.old);
     // The proved reader has to find the old room where it was, and everything around it as it was.
@@ -241,4 +253,23 @@ fn why_no_half_edit(change: &Change, file: &mut [u8]) -> Option<String> {
         ),
         Some(_) => None,
     }
+}
+
+/// Says which bytes of the room are neither those of the old tree nor those of the new one, if there are any.
+fn why_other_room(change: &Change, room: &[u8]) -> Option<String> {
+    let rooms = change.old.iter().zip(&change.new);
+    let bytes = room.iter().zip(rooms).enumerate();
+    let mut others = bytes.filter(|(_, (byte, (old, new)))| byte != old && byte != new);
+    let (first, _) = others.next()?;
+    let offset = change.start + first;
+    Some(match others.count() {
+        0 => format!(
+            "does not fit: the byte at offset {offset} is neither that of the old tree nor that of the new one"
+        ),
+        more => format!(
+            "does not fit: {} bytes of the room, the first at offset {offset}, \
+             are neither those of the old tree nor those of the new one",
+            more + 1
+        ),
+    })
 }

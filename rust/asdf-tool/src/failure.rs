@@ -34,8 +34,8 @@ impl Failure {
         }
     }
 
-    /// Reports that the command cannot be carried out as it was called.
-    pub fn usage(sentence: impl Into<String>) -> Failure {
+    /// Reports that the command was not carried out.
+    pub fn not_done(sentence: impl Into<String>) -> Failure {
         Failure {
             status: NOT_DONE,
             sentence: sentence.into(),
@@ -44,7 +44,7 @@ impl Failure {
 
     /// Reports that the system did not carry out an operation.
     pub fn system(what: impl Display, error: io::Error) -> Failure {
-        Failure::usage(format!("{what}: {error}"))
+        Failure::not_done(format!("{what}: {error}"))
     }
 
     /// Reports that the system did not carry out an operation on a file.

@@ -11,6 +11,7 @@ Shows where everything is in an ASDF file, including the ASDF files inside its b
   asdf-layout outline --read OUT                      prints the rows of a stored outline
   asdf-layout edit FILE TREE                          replaces the tree in place
   asdf-layout restore FILE [--set-aside]              undoes an edit that was not finished
+  asdf-layout --help                                  prints this, as -h and help do
   asdf-layout help COMMAND                            prints more about a command, as COMMAND -h and COMMAND --help do
   asdf-layout --version                               prints the version of this tool
 
@@ -21,8 +22,8 @@ name after `-o`, such a name is given as `./-name`.
 A file that is only read can be given as `-`, which means standard input, also after `--`. A file with the name `-` is
 given as `./-`.
 
-The exit status is 0 if the command succeeded, 1 if something was refused, and 2 if the call was wrong or a file could
-not be read or written. If it is not 0, a sentence on standard error says why. If the reader of standard output closes
+The exit status is 0 if the command succeeded, 1 if something was refused, and 2 if the call was wrong or the command
+could not be carried out. If it is not 0, a sentence on standard error says why. If the reader of standard output closes
 it early, as `head` does, the command ends without a message.
 ";
 
@@ -36,8 +37,9 @@ counts from the first byte of FILE; only the place of an inner file's refusal co
 byte. The room of the tree is the space that an edit may fill: from the tree's first byte to the first block, or to
 the end of the file.
 
-Several files are listed in order, with an empty line between two listings. If one of them is refused or cannot be
-read, the others are still listed. The exit status is 2 if one could not be read, otherwise 1 if one was refused.
+Several files are listed in order; two tables have an empty line between them. If one of them is refused or cannot be
+opened, the others are still listed. If one becomes shorter while it is read, the command ends. The exit status is 2 if
+one could not be read, otherwise 1 if one was refused.
 
   --plain   prints lines for programs:
               - if several files are listed, `file NAME`, with an escape for what could mislead a terminal;
@@ -58,7 +60,8 @@ A long listing into a file or a pipe shows its progress on standard error, if th
 pub const TREE: &str = "\
 asdf-layout tree FILE
 
-Prints the text of the tree, from `%YAML 1.1` through `...`. If the file has no tree, it prints nothing.
+Prints the text of the tree, from `%YAML 1.1` through `...` and its line end. If the file has no tree, it prints
+nothing.
 ";
 
 pub const INDEX: &str = "\
@@ -77,7 +80,7 @@ After `good` and `ignored` the reason follows. The offsets in the index are neve
             not change. A sentence on standard error says at which offset of FILE the text belongs, which is directly
             after the last block, and how many bytes have to be removed there first.
   -o OUT    stores the text in OUT, which must not exist yet. If OUT is `-`, the text goes to standard output.
-  --force   overwrites OUT if it exists. If that fails, OUT is as it was.
+  --force   overwrites OUT if it exists. If that fails, OUT is as it was. OUT must not be FILE itself.
 ";
 
 pub const OUTLINE: &str = "\
@@ -97,9 +100,10 @@ asdf-layout edit FILE TREE
 
 Replaces the tree of FILE by the text in TREE, in place.
 
-The text has to be exactly one tree and has to fit into the room of the old tree. The rest of the room is filled with
-spaces, and no other byte of FILE changes. If the edit is refused, nothing changes. TREE may be `-`, FILE may not. A
-file with several names (hard links) is not edited.
+The text has to be exactly one tree, from `%YAML 1.1` through `...` and its line end, with nothing before or after, and
+has to fit into the room of the old tree. `asdf-layout tree FILE` prints the old one. The rest of the room is filled
+with spaces, and no other byte of FILE changes. If the edit is refused, nothing changes. TREE may be `-`, FILE may not.
+A file with several names (hard links) is not edited.
 
 The edit waits until no other call reads or edits FILE, and says so. If FILE is replaced or removed in the meantime,
 the edit says that too, with status 2.
@@ -114,10 +118,11 @@ asdf-layout restore FILE [--set-aside]
 
 Brings back the tree that FILE had before an edit that was not finished, from FILE.old-room.
 
-FILE.old-room is believed only if you, the owner of FILE or root own it and nobody else may write it. It is put back
-only into the file that was edited, and only if no other program has changed that file since. Otherwise nothing
-changes, a sentence says why, and the exit status is 2.
+FILE.old-room is believed only if you, the owner of FILE or root own it and nobody else may write it. The old tree is put
+back only into the file that was edited, and only if that file has its length, the bytes before its tree and the
+headers of its blocks as before, and its room holds only bytes of the old tree and of the new one. Otherwise FILE and
+FILE.old-room do not change, a sentence says why, and the exit status is 2.
 
   --set-aside   leaves FILE as it is and gives FILE.old-room another name, which is printed, so that FILE can be edited
-                again. Nothing is overwritten. A half edited file that can be restored is not left like this.
+                again. Nothing is overwritten. If FILE is half edited and can be restored, this is refused.
 ";

@@ -1,4 +1,4 @@
-//! What tests can make happen in the steps of a change. Only the feature `hooks` has this in the tool.
+//! What tests can make happen in the steps of a change. The tool has this only if it is built with the feature `hooks`.
 
 use crate::failure::note;
 use std::env;
@@ -33,7 +33,7 @@ pub struct Hooks {
 }
 
 impl Hooks {
-    /// Begins with no step done.
+    /// Reads from the environment what a test asked for.
     pub fn from_environment() -> Hooks {
         let asked = env::var(HOOK).ok();
         Hooks {
@@ -42,7 +42,7 @@ impl Hooks {
         }
     }
 
-    /// Is called before a step.
+    /// Counts a step that begins, and makes it fail if a test asked for that.
     pub fn before(&mut self) -> io::Result<()> {
         self.begun += 1;
         match self.asked == Some((Event::Fail, self.begun)) {
@@ -51,7 +51,7 @@ impl Hooks {
         }
     }
 
-    /// Is called after a step.
+    /// Stops or waits after a step if a test asked for that.
     pub fn after(&self) {
         match self.asked {
             Some((Event::Stop, step)) if step == self.begun => process::abort(),

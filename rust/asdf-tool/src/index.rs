@@ -5,7 +5,7 @@ use crate::output::{Output, Stop};
 use crate::source::Source;
 use crate::store::Out;
 use crate::words;
-use asdf_layout::{index_text, Block, Layout, Refusal};
+use asdf_layout::{index_text, Block, Layout, Refusal, Verdict};
 use std::path::Path;
 
 /// Prints the verdict on the index.
@@ -20,8 +20,7 @@ pub fn print_verdict(file: &Path) -> Result<(), Stop> {
 pub fn write(file: &Path, out: &Out) -> Result<(), Stop> {
     let source = Source::file(file)?;
     let text = source.accepted(index_text(&source))?;
-    let offset = source.accepted(end_of_blocks(&source))?;
-    let sentence = where_it_belongs(&text, &source, offset);
+    let sentence = source.accepted(where_it_belongs(&text, &source))?;
     out.check_is_not(file, &source)?;
     // The file can be edited while somebody reads the text.
     drop(source);
@@ -30,27 +29,24 @@ pub fn write(file: &Path, out: &Out) -> Result<(), Stop> {
     Ok(())
 }
 
-/// Returns the offset directly after the last block of a file that has blocks.
-fn end_of_blocks(file: &[u8]) -> Result<usize, Refusal> {
-    let blocks = Layout::read(file)?.blocks;
-    let last = Block::read(file, u64::from(blocks) - 1)?;
-    Ok(last
-        .expect("a file that can have an index has a last block")
-        .end())
-}
-
-/// Says where the text of the index belongs, and what is there now.
-fn where_it_belongs(text: &[u8], source: &Source, offset: usize) -> String {
-    let name = source.name();
-    let follows = match source[offset..].len() {
-        _ if source[offset..] == *text => {
-            return format!("this text is already at offset {offset} of {name}")
-        }
-        0 => String::new(),
-        1 => "; the byte that follows there now has to be removed first".to_string(),
-        rest => format!("; the {rest} bytes that follow there now have to be removed first"),
+/// Says where the text of the index belongs, and what is there now. The file has a last block, because it can have an index.
+fn where_it_belongs(text: &[u8], source: &Source) -> Result<String, Refusal> {
+    let layout = Layout::read(source)?;
+    let last = Block::read(source, u64::from(layout.blocks) - 1)?;
+    let offset = last.expect("a file with an index has a last block").end();
+    let (name, rest) = (source.name(), &source[offset..]);
+    let bytes = match rest.len() {
+        1 => "the byte that follows there now has".to_string(),
+        length => format!("the {length} bytes that follow there now have"),
     };
-    format!(
-        "this text belongs at offset {offset} of {name}, directly after the last block{follows}"
-    )
+    let belongs =
+        format!("this text belongs at offset {offset} of {name}, directly after the last block");
+    Ok(match layout.index {
+        _ if rest == text => format!("this text is already at offset {offset} of {name}"),
+        _ if rest.is_empty() => belongs,
+        Verdict::Good => {
+            format!("{name} has a good index already; {belongs}; {bytes} to be removed first")
+        }
+        _ => format!("{belongs}; {bytes} to be removed first"),
+    })
 }

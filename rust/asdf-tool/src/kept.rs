@@ -1,10 +1,11 @@
 //! The old room of a file that is being edited, kept in a second file beside it until the edit is finished.
 //!
 //! The second file is first written under another name, and gets its own name only when it is complete and on the disk. So if
-//! it is there, the file may be half edited; if it is not, the file is whole. What is found under that name may also be a
-//! stranger's, so it is believed only if nobody but the caller, the file's owner or root can have written it.
+//! it is there, the file may be half edited; if it is not, the file is whole, unless somebody who may rename files in the
+//! folder took it away. What is found under that name may also be a stranger's, so it is believed only if nobody but the
+//! caller, the file's owner or root can have written it.
 
-use crate::change::Change;
+use crate::change::{self, Change};
 use crate::digest::Digest;
 use crate::failure::Failure;
 use crate::names::{quoted, shown};
@@ -20,15 +21,22 @@ use std::path::{Path, PathBuf};
 
 /// What the name of a kept room has after the name of its file.
 const SUFFIX: &str = ".old-room";
-/// The suffix while it is being written.
-const PART_SUFFIX: &str = ".old-room.part";
-/// The longest suffix. A kept room that is set aside has a number of up to four digits and a point in the place of `.part`.
-const LONGEST_SUFFIX: usize = PART_SUFFIX.len();
+/// The suffixes while it is being written. If somebody else has a file with the first one, the next one is taken.
+const PART_SUFFIXES: [&str; 4] = [
+    ".old-room.part",
+    ".old-room.pt-2",
+    ".old-room.pt-3",
+    ".old-room.pt-4",
+];
+/// The longest suffix. A kept room that is set aside has a point and a number of up to four digits instead of `.part`.
+const LONGEST_SUFFIX: usize = PART_SUFFIXES[0].len();
+/// The lines of a kept room have fewer bytes than this.
+const MOST_LINES: u64 = 4_096;
 /// The last number of a kept room that is set aside.
 const MOST_ASIDE: u32 = 9_999;
 /// The longest name of a file that Linux allows, in bytes.
 const LONGEST_NAME: usize = 255;
-/// How many digits of its digest a long name gets in the place of its end.
+/// How many digits of its digest a long name gets instead of its end.
 const DIGITS: usize = 16;
 /// Only the owner may read the kept room, because the file itself may be private.
 const MODE: u32 = 0o600;
@@ -73,8 +81,15 @@ pub fn path_for(target: &Target) -> PathBuf {
 pub fn warning(path: &Path) -> Option<String> {
     let file = fs::canonicalize(path).ok()?;
     let kept = file.with_file_name(with_suffix(file.file_name()?, SUFFIX));
-    fs::symlink_metadata(kept).ok()?;
-    Some(unfinished(path))
+    fs::symlink_metadata(&kept).ok()?;
+    Some(format!(
+        "there is {kept}, so an edit of {file} may be unfinished, and {file} half edited; \
+         `asdf-layout restore {name}` brings the old tree back, \
+         and `asdf-layout restore --set-aside {name}` keeps {file} as it is",
+        kept = shown(&kept),
+        file = shown(path),
+        name = quoted(path)
+    ))
 }
 
 /// Returns the sentence that reports an edit that was not finished.
@@ -90,14 +105,13 @@ pub fn unfinished(path: &Path) -> String {
 /// Returns the advice for a kept room that cannot be used.
 pub fn way_out(target: &Target) -> String {
     format!(
-        "if {} is good as it is, `asdf-layout restore --set-aside {}` moves {} out of the way",
+        "if {} is good as it is, `asdf-layout restore --set-aside {}` moves this out of the way",
         target.shown(),
-        quoted(&target.given),
-        shown(&path_for(target))
+        quoted(&target.given)
     )
 }
 
-/// Finds out what has the name of the kept room. Nothing is followed or waited for.
+/// Finds out what has the name of the kept room. Follows no link and waits for no pipe.
 pub fn look_beside(target: &Target) -> Result<Beside, Failure> {
     let name = with_suffix(&target.name(), SUFFIX);
     let failed = |error| Failure::at("cannot look at", &path_for(target), error);
@@ -110,43 +124,54 @@ pub fn look_beside(target: &Target) -> Result<Beside, Failure> {
     }
     let opened = target.folder.open_to_read(&name);
     let opened = opened.and_then(|file| Ok((file.metadata()?, file)));
-    match opened {
-        Err(error) if error.kind() == ErrorKind::PermissionDenied => {
-            let owner = owner(&found);
-            let reason = format!("belongs to {owner}, who can restore the old tree");
-            Ok(Beside::Strange(reason))
-        }
-        Err(error) => Err(failed(error)),
-        // What was opened may be another file than the one that was looked at.
-        Ok((metadata, file)) => match why_not_believed(&metadata, target) {
+    // What was opened may be another file than the one that was looked at.
+    let judged = opened.and_then(
+        |(metadata, file)| match why_not_believed(&metadata, target) {
             Some(reason) => Ok(Beside::Strange(reason)),
-            None => read(file).map_err(failed),
+            None => read(file),
         },
-    }
+    );
+    Ok(judged.unwrap_or_else(|error| {
+        Beside::Strange(match error.kind() {
+            ErrorKind::PermissionDenied => {
+                format!("belongs to {}, who can restore the old tree", owner(&found))
+            }
+            _ => format!("cannot be read: {error}"),
+        })
+    }))
 }
 
-/// Returns why something cannot be a kept room that the caller may believe, if there is a reason. It names the owner.
+/// Returns why what was found cannot be believed, if it cannot. The reason names the owner.
 fn why_not_believed(found: &Metadata, target: &Target) -> Option<String> {
-    let owner = owner(found);
     let kind = found.file_type();
-    let is_trusted = [caller(), target.metadata().uid(), ROOT].contains(&found.uid());
     let reason = match () {
         () if kind.is_symlink() => "is a symbolic link, which no edit makes",
         () if kind.is_dir() => "is a folder, which no edit makes",
         () if kind.is_fifo() => "is a pipe, which no edit makes",
         () if !kind.is_file() => "is not a regular file",
-        () if !is_trusted => {
+        () if !is_trusted(found, target) => {
+            let (owner, file) = (owner(found), target.shown());
             return Some(format!(
-                "belongs to {owner} and is not believed; {owner} can restore the old tree"
-            ))
+                "belongs to {owner}, and only what you, the owner of {file} or root wrote is believed; \
+                 if {owner} edited {file}, {owner} can restore it"
+            ));
         }
-        () if found.mode() & WRITABLE_BY_OTHERS != 0 => {
+        () if is_writable_by_others(found) => {
             "is not believed, because others than its owner could have written it"
         }
         () if found.nlink() != 1 => "has several names, which no edit gives it",
         () => return None,
     };
-    Some(format!("belongs to {owner} and {reason}"))
+    Some(format!("belongs to {} and {reason}", owner(found)))
+}
+
+/// Whether the owner of a file is one that is believed.
+fn is_trusted(found: &Metadata, target: &Target) -> bool {
+    [caller(), target.metadata().uid(), ROOT].contains(&found.uid())
+}
+
+fn is_writable_by_others(found: &Metadata) -> bool {
+    found.mode() & WRITABLE_BY_OTHERS != 0
 }
 
 /// Returns the owner of a file, by name if the system knows it.
@@ -158,18 +183,23 @@ fn owner(file: &Metadata) -> String {
     }
 }
 
-/// Reads a kept room as a whole, once, and judges what was read.
-fn read(mut file: File) -> io::Result<Beside> {
+/// Reads a kept room as a whole, once, and judges what was read. A file that has another length than its first lines state is not
+/// read further, because it may be so long that there is no memory for it.
+fn read(file: File) -> io::Result<Beside> {
+    let length = file.metadata()?.len();
     let mut stored = Vec::new();
-    file.read_to_end(&mut stored)?;
-    let damaged = || {
-        let reason = "is damaged, or another version of this tool wrote it";
-        Beside::Strange(reason.to_string())
-    };
+    (&file).take(MOST_LINES).read_to_end(&mut stored)?;
+    if Change::stored_length(&stored) == Some(length) {
+        file.take(length - stored.len() as u64)
+            .read_to_end(&mut stored)?;
+    }
     let change = Change::parse(&stored);
     // A room that is not inside the file belongs to no edit of it.
     let change = change.filter(|change| change.room().end as u64 <= change.length);
-    Ok(change.map_or_else(damaged, |change| Beside::Kept(Box::new(change))))
+    Ok(match change {
+        Some(change) => Beside::Kept(Box::new(change)),
+        None => Beside::Strange("is damaged, or another version of this tool wrote it".to_string()),
+    })
 }
 
 /// Says why a kept room does not belong to the file as it is, if that is so.
@@ -181,16 +211,17 @@ pub fn why_other_file(change: &Change, target: &Target) -> Option<String> {
     };
     if change.inode != now.ino() {
         return Some(format!(
-            "is about another file that had this name before{device}: \
-             it has the inode {}, and this one {}",
+            "was kept for another file{device}, with the inode {}; {} has the inode {}",
             change.inode,
+            target.shown(),
             now.ino()
         ));
     }
     if change.length != now.len() {
         return Some(format!(
-            "is about a file of {} bytes, and this one has {}",
+            "was kept for a file of {} bytes, and {} has {} now",
             change.length,
+            target.shown(),
             now.len()
         ));
     }
@@ -199,63 +230,110 @@ pub fn why_other_file(change: &Change, target: &Target) -> Option<String> {
 
 /// Keeps the old room of a file. When this returns without a failure, it is on the disk under its name.
 pub fn keep(target: &Target, change: &Change, steps: &mut Steps) -> Result<(), Failure> {
-    let (part, kept) = (
-        with_suffix(&target.name(), PART_SUFFIX),
-        with_suffix(&target.name(), SUFFIX),
-    );
-    remove_part(target)?;
-    let failed = |error| {
-        // Neither is of any use, because the file has not changed.
-        let _ = target.folder.remove(&part);
-        let failure = Failure::at("cannot keep the old tree in", &path_for(target), error);
-        failure.with_advice(UNCHANGED)
-    };
-    let written = write_part(target, change, &part, steps).map_err(failed)?;
+    let kept = with_suffix(&target.name(), SUFFIX);
+    remove_parts(target);
+    let failed = |error| not_kept(target, error);
+    let (part, written) = write_part(target, change, steps).map_err(failed)?;
     let named = steps.run(|| target.folder.rename_to_new(&part, &kept));
-    named.map_err(failed)?;
+    named.map_err(|error| {
+        // It is of no use, because the file has not changed.
+        let _ = target.folder.remove(&part);
+        failed(error)
+    })?;
     let safe = steps.run(|| target.folder.sync(&target.file));
     safe.map_err(|error| {
         let _ = target.folder.remove(&kept);
         failed(error)
     })?;
-    has_name(target, &kept, &written).map_err(failed)
+    check_name(target, &kept, &written).map_err(failed)
 }
 
-/// Removes what a stopped edit left while it was writing the kept room. It is of no use: that edit did not change the file, or
-/// the kept room has its name already. Returns whether there was anything.
-pub fn remove_part(target: &Target) -> Result<bool, Failure> {
-    let part = with_suffix(&target.name(), PART_SUFFIX);
-    match target.folder.remove(&part) {
-        Ok(()) => Ok(true),
-        Err(error) if error.kind() == ErrorKind::NotFound => Ok(false),
-        Err(error) => {
-            let part = target.beside(&part);
-            let failure = Failure::at("cannot remove", &part, error).with_advice(UNCHANGED);
-            Err(failure.with_advice("move it away by hand, because an edit needs its name"))
+/// Reports that the old room cannot be kept, so that the edit was not made.
+fn not_kept(target: &Target, error: io::Error) -> Failure {
+    let advice = match error.kind() {
+        ErrorKind::PermissionDenied | ErrorKind::ReadOnlyFilesystem => Some(
+            "an edit needs a folder in which you may make files; \
+             copy the file to one, and edit the copy",
+        ),
+        ErrorKind::Unsupported => Some("copy the file to another file system, and edit the copy"),
+        ErrorKind::AlreadyExists => Some("edit again"),
+        _ => None,
+    };
+    let failure = Failure::at("cannot keep the old tree in", &path_for(target), error);
+    failure.with_advice(UNCHANGED).with_advice_if(advice)
+}
+
+/// Removes what stopped edits left while they were writing the kept room. It is of no use: those edits did not change the file,
+/// or the kept room has its name already. Returns whether there was anything.
+pub fn remove_parts(target: &Target) -> bool {
+    let remove = |suffix| {
+        let part = with_suffix(&target.name(), suffix);
+        is_part(target, &part) && target.folder.remove(&part).is_ok()
+    };
+    PART_SUFFIXES.map(remove).contains(&true)
+}
+
+/// Whether an edit wrote what has this name. Whatever somebody else put there is left alone.
+fn is_part(target: &Target, part: &OsStr) -> bool {
+    let begins_right = |file: File| {
+        let mut start = Vec::new();
+        let title = change::TITLE.as_bytes();
+        file.take(title.len() as u64)
+            .read_to_end(&mut start)
+            .is_ok()
+            && title.starts_with(&start)
+    };
+    let Ok(Some(found)) = target.folder.look_at(part) else {
+        return false;
+    };
+    let is_possible = found.metadata().is_ok_and(|found| {
+        found.is_file() && is_trusted(&found, target) && !is_writable_by_others(&found)
+    });
+    is_possible && target.folder.open_to_read(part).is_ok_and(begins_right)
+}
+
+/// Writes the kept room under its first name, and brings it to the disk. Returns that name and the file.
+fn write_part(target: &Target, change: &Change, steps: &mut Steps) -> io::Result<(OsString, File)> {
+    let (part, file) = create_part(target, steps)?;
+    let written = fill_part(target, change, &file, steps);
+    written.map(|()| (part.clone(), file)).inspect_err(|_| {
+        let _ = target.folder.remove(&part);
+    })
+}
+
+/// Makes a new file for the kept room, under the first name that is free.
+fn create_part(target: &Target, steps: &mut Steps) -> io::Result<(OsString, File)> {
+    let mut result = Err(ErrorKind::AlreadyExists.into());
+    for suffix in PART_SUFFIXES {
+        let part = with_suffix(&target.name(), suffix);
+        let created = steps.run(|| target.folder.create(&part, MODE));
+        result = created.map(|file| (part, file));
+        match &result {
+            Err(error) if error.kind() == ErrorKind::AlreadyExists => (),
+            _ => break,
         }
     }
+    result
 }
 
-/// Writes the kept room under its first name, and brings it to the disk.
-fn write_part(
-    target: &Target,
-    change: &Change,
-    part: &OsStr,
-    steps: &mut Steps,
-) -> io::Result<File> {
-    let file = steps.run(|| target.folder.create(part, MODE))?;
-    let lines = change.lines();
-    let mut place = 0;
-    for bytes in [lines.as_bytes(), &change.old, &change.new] {
-        write_at(&file, bytes, place, steps)?;
-        place += bytes.len() as u64;
+/// Writes the kept room into its file.
+fn fill_part(target: &Target, change: &Change, file: &File, steps: &mut Steps) -> io::Result<()> {
+    // Some file systems show other owners or rights than they were asked for. Then `restore` would not believe it.
+    if let Some(reason) = why_not_believed(&file.metadata()?, target) {
+        let reason = format!("on this file system it {reason}");
+        return Err(io::Error::new(ErrorKind::Unsupported, reason));
     }
-    steps.run(|| file.sync_all())?;
-    Ok(file)
+    let lines = change.lines();
+    let mut offset = 0;
+    for bytes in [lines.as_bytes(), &change.old, &change.new] {
+        write_at(file, bytes, offset, steps)?;
+        offset += bytes.len() as u64;
+    }
+    steps.run(|| file.sync_all())
 }
 
 /// Makes sure that the name is that of the file that was written, and not of one that somebody else put there.
-fn has_name(target: &Target, name: &OsStr, written: &File) -> io::Result<()> {
+fn check_name(target: &Target, name: &OsStr, written: &File) -> io::Result<()> {
     let named = target.folder.look_at(name)?;
     let is_ours = match named {
         Some(named) => is_same(&named.metadata()?, &written.metadata()?),
@@ -263,7 +341,8 @@ fn has_name(target: &Target, name: &OsStr, written: &File) -> io::Result<()> {
     };
     match is_ours {
         true => Ok(()),
-        false => Err(io::Error::other(
+        false => Err(io::Error::new(
+            ErrorKind::AlreadyExists,
             "another program removed or replaced it at once",
         )),
     }
@@ -286,8 +365,9 @@ pub fn remove(target: &Target, holds: &str, steps: &mut Steps) -> Result<(), Fai
             error,
         );
         let back = format!(
-            "if {kept} is there again after a restart, {}",
-            way_out(target)
+            "if {kept} is there again after a restart, `asdf-layout restore --set-aside {}` \
+             moves it out of the way",
+            quoted(&target.given)
         );
         failure.with_advice(format_args!("{file} {holds}; {back}"))
     })
@@ -299,10 +379,14 @@ pub fn set_aside(target: &Target) -> Result<PathBuf, Failure> {
     let failed = |error| {
         let failure = Failure::at("cannot move", &path_for(target), error);
         let found = target.folder.look_at(&kept).ok().flatten();
-        match found.and_then(|found| found.metadata().ok()) {
-            Some(found) => failure.with_advice(format_args!("it belongs to {}", owner(&found))),
-            None => failure,
-        }
+        let found = found.and_then(|found| found.metadata().ok());
+        failure.with_advice_if(found.map(|found| {
+            let (owner, file) = (owner(&found), target.shown());
+            format!(
+                "it belongs to {owner}, who can remove it; \
+                 or copy {file} to another folder and edit the copy"
+            )
+        }))
     };
     for number in 1..=MOST_ASIDE {
         let aside = with_suffix(&target.name(), &format!("{SUFFIX}.{number}"));
@@ -313,7 +397,10 @@ pub fn set_aside(target: &Target) -> Result<PathBuf, Failure> {
         .map_err(failed)?;
         return Ok(target.beside(&aside));
     }
-    Err(failed(ErrorKind::AlreadyExists.into()))
+    Err(Failure::not_done(format!(
+        "{MOST_ASIDE} old rooms of {} are set aside already; remove some of them",
+        target.shown()
+    )))
 }
 
 /// Reads the room of the file as it is now.

@@ -9,7 +9,7 @@ use asdf_layout::{Layout, Outline, Records, Refusal};
 use std::mem;
 use std::path::{Path, PathBuf};
 
-/// Lists files in order. If one of them cannot be read or is refused, the others are still listed,
+/// Lists files in order. If one of them cannot be opened or is refused, the others are still listed,
 /// and the worst status counts.
 pub fn list(files: &[PathBuf], form: Form) -> Result<(), Stop> {
     let mut worst = 0;

@@ -85,12 +85,20 @@ fn write_outline(file: &Path, out: &Out) -> Result<(), Stop> {
     out.store(outline.as_bytes())
 }
 
-/// Moves a kept room that cannot be restored out of the way, and says where it is.
+/// Moves what has the name of the kept room out of the way, and says where it is.
 fn set_aside(file: &Path) -> Result<(), Stop> {
     let (kept, aside) = edit::set_aside(file)?
         .map(|path| names::shown(&path))
         .into();
-    Output::print(format!("{kept} is now {aside}\n").as_bytes())
+    let sentence = format!("{kept} is now {aside}");
+    Output::print(
+        format!(
+            "{sentence}
+"
+        )
+        .as_bytes(),
+    )
+    .map_err(|stop| stop.with_advice(&sentence))
 }
 
 /// Prints the rows of a stored outline.

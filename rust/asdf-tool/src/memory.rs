@@ -4,5 +4,5 @@ use asdf_system::Memory;
 
 #[global_allocator]
 static MEMORY: Memory = Memory {
-    sentence: "asdf-layout: there is not enough memory for this\n",
+    sentence: "asdf-layout: there is not enough memory, so the command was not completed\n",
 };

@@ -13,7 +13,7 @@ pub fn shown(path: &Path) -> String {
     }
 }
 
-/// Returns a name as one word of a command line for a shell.
+/// Returns a name as one word of a command line. If it holds anything unusual, only bash and shells like it read that word.
 pub fn quoted(path: &Path) -> String {
     // A name that begins with a dash would be taken for an option.
     let start = match path.as_os_str().as_bytes() {
@@ -35,9 +35,9 @@ pub fn quoted(path: &Path) -> String {
 pub fn is_harmless(c: char) -> bool {
     let is_invisible = matches!(c, '\u{AD}' | '\u{61C}' | '\u{FEFF}' | '\u{180E}');
     // Marks without a width, marks that change the direction of text, and ends of lines.
-    let is_direction =
+    let is_unseen =
         matches!(c, '\u{200B}'..='\u{200F}' | '\u{2028}'..='\u{202E}' | '\u{2060}'..='\u{206F}');
-    !c.is_control() && !is_invisible && !is_direction
+    !c.is_control() && !is_invisible && !is_unseen
 }
 
 /// Escapes what does not show itself, and each backslash. Bytes that are not UTF-8 are escaped too.
@@ -57,7 +57,7 @@ fn escaped(name: &[u8]) -> String {
     text
 }
 
-/// Escapes every byte but letters, digits and a few signs, as shells read it between `$'` and `'`.
+/// Escapes every byte but letters, digits and a few signs, as bash reads it between `$'` and `'`.
 fn bytes_escaped(name: &[u8]) -> String {
     name.iter().fold(String::new(), |mut text, &byte| {
         match byte.is_ascii_alphanumeric() || b" _./,:@%+=-".contains(&byte) {

@@ -32,6 +32,15 @@ impl Stop {
             Stop::Reported(status) => *status,
         }
     }
+
+    /// Adds what holds now or what to do next, if something failed.
+    pub fn with_advice(self, advice: &str) -> Stop {
+        match self {
+            Stop::Unwritten(failure) => Stop::Unwritten(failure.with_advice(advice)),
+            Stop::Failed(failure) => Stop::Failed(failure.with_advice(advice)),
+            stop => stop,
+        }
+    }
 }
 
 impl From<Failure> for Stop {
@@ -46,7 +55,7 @@ pub struct Output {
 }
 
 impl Output {
-    /// Opens standard output. No other place does so.
+    /// Opens standard output. Nothing else in the tool does so.
     ///
     /// It is written as a file, because `io::Stdout` writes each line by itself, and takes it for a
     /// success if standard output is not open for writing.

@@ -4,7 +4,7 @@ use crate::words;
 use std::io::{self, IsTerminal, Write};
 use std::time::{Duration, Instant};
 
-/// Most listings are done before anything has to be shown.
+/// The time until the line is shown for the first time. Most listings are done by then.
 const FIRST: Duration = Duration::from_secs(1);
 /// The time until the line is written again.
 const NEXT: Duration = Duration::from_millis(100);

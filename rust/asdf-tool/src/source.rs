@@ -3,12 +3,12 @@
 use crate::failure::{note, Failure};
 use crate::kept;
 use crate::names::shown;
+use crate::target::is_same;
 use asdf_layout::Refusal;
 use asdf_system::{input_was_closed, Filled, Sentences};
 use std::fs::{self, File, TryLockError};
 use std::io::{self, Read};
 use std::ops::Deref;
-use std::os::unix::fs::MetadataExt;
 use std::path::{Path, PathBuf};
 use std::thread::sleep;
 use std::time::{Duration, Instant};
@@ -17,7 +17,7 @@ use std::time::{Duration, Instant};
 const STANDARD: &str = "-";
 /// A file of this length or more is refused, whatever it holds. So no more of it is ever looked at.
 pub const TOO_LONG: u64 = 1 << 32;
-/// A command that only reads waits so long for the end of an edit.
+/// A command that only reads waits this long for an edit to end.
 const PATIENCE: Duration = Duration::from_secs(1);
 /// How long it waits before it tries again.
 const PAUSE: Duration = Duration::from_millis(10);
@@ -52,18 +52,27 @@ impl Source {
     /// Opens an ASDF file. Waits for a while if an edit of it is running, and warns if an edit was not finished.
     pub fn file(path: &Path) -> Result<Source, Failure> {
         let source = Source::open(path, TOO_LONG)?;
-        if let Bytes::Filled(_, file) = &source.bytes {
-            lock(path, file);
-        }
-        if let Some(warning) = kept::warning(path) {
+        // While an edit is running, its old room is kept, and that means nothing. What is not a regular file has none.
+        let no_edit_runs = match &source.bytes {
+            Bytes::Filled(_, file) => lock(path, file),
+            Bytes::Read(_) => false,
+        };
+        if let Some(warning) = kept::warning(path).filter(|_| no_edit_runs) {
             note(format_args!("warning: {warning}"));
         }
         Ok(source)
     }
 
-    /// Opens any other input, whose length has no limit here.
+    /// Opens any other input. A file may have any length. What has to be read whole into memory, such as a pipe, may not.
     pub fn whole(path: &Path) -> Result<Source, Failure> {
-        Source::open(path, u64::MAX)
+        let source = Source::open(path, u64::MAX)?;
+        match &source.bytes {
+            Bytes::Read(bytes) if bytes.len() as u64 > TOO_LONG => Err(Failure::not_done(format!(
+                "{} has more than 4 GiB; store it in a file, and give that",
+                source.name()
+            ))),
+            _ => Ok(source),
+        }
     }
 
     /// Opens an input, but takes no more than `enough` bytes of it.
@@ -93,9 +102,8 @@ impl Source {
 
     /// Whether these bytes are those of the file at `path`, even if its name differs.
     pub fn is_at(&self, path: &Path) -> bool {
-        let identity = |path: &Path| fs::metadata(path).map(|file| (file.dev(), file.ino()));
-        match (identity(&self.path), identity(path)) {
-            (Ok(here), Ok(there)) => here == there,
+        match (fs::metadata(&self.path), fs::metadata(path)) {
+            (Ok(here), Ok(there)) => is_same(&here, &there),
             _ => false,
         }
     }
@@ -124,17 +132,24 @@ fn bytes_of(file: File, path: &Path, enough: u64) -> io::Result<Bytes> {
     Ok(Bytes::Filled(bytes, file))
 }
 
-/// Holds the first bytes of a regular file, to be filled from it when they are touched. `advice` says what holds if the
-/// file cannot be read then.
-pub fn filled(file: &File, length: u64, name: &str, advice: &str) -> io::Result<Filled> {
+/// Holds the first bytes of a regular file, to be filled from it when they are touched. `holds` is what the message says, if
+/// the file cannot be read then, between what happened and what to do.
+pub fn filled(file: &File, length: u64, name: &str, holds: &str) -> io::Result<Filled> {
     let length = usize::try_from(length).map_err(io::Error::other)?;
-    let sentence = |what: &str| format!("asdf-layout: {what}{advice}\n");
+    let sentence = |what: String, advice: &str| format!("asdf-layout: {what}; {holds}{advice}\n");
     let sentences = Sentences {
-        shortened: sentence(&format!("{name} became shorter while it was read")),
-        unreadable: sentence(&format!(
-            "cannot read {name}: its disk or file system failed"
-        )),
-        no_memory: sentence(&format!("there is not enough memory to read {name}")),
+        shortened: sentence(
+            format!("{name} has fewer bytes than its length said, as if it had become shorter"),
+            "try again",
+        ),
+        unreadable: sentence(
+            format!("cannot read {name}"),
+            "its disk or its file system failed",
+        ),
+        no_memory: sentence(
+            format!("there is not enough memory to read {name}"),
+            "try a machine with more",
+        ),
     };
     Filled::new(file, length, sentences)
 }
@@ -142,12 +157,16 @@ pub fn filled(file: &File, length: u64, name: &str, advice: &str) -> io::Result<
 /// Reads to the end, but no more than `enough` bytes.
 fn read(input: impl Read, enough: u64) -> io::Result<Bytes> {
     let mut bytes = Vec::new();
-    input.take(enough).read_to_end(&mut bytes)?;
+    // One more byte shows that there are too many.
+    input
+        .take(enough.min(TOO_LONG + 1))
+        .read_to_end(&mut bytes)?;
     Ok(Bytes::Read(bytes))
 }
 
-/// Locks a file against edits. If an edit goes on for too long, or the file cannot be locked, it is read as it is.
-fn lock(path: &Path, file: &File) {
+/// Locks a file against edits. If an edit goes on for too long, or the file cannot be locked, it is read as it is. Returns
+/// false if an edit goes on.
+fn lock(path: &Path, file: &File) -> bool {
     let begun = Instant::now();
     while let Err(TryLockError::WouldBlock) = file.try_lock_shared() {
         if begun.elapsed() >= PATIENCE {
@@ -155,8 +174,9 @@ fn lock(path: &Path, file: &File) {
             note(format_args!(
                 "warning: another program has locked {name} and may be editing it; it is read as it is"
             ));
-            return;
+            return false;
         }
         sleep(PAUSE);
     }
+    true
 }

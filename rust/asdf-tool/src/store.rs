@@ -4,10 +4,13 @@ use crate::failure::Failure;
 use crate::names::shown;
 use crate::output::{Output, Stop};
 use crate::source::{is_standard, Source};
+use crate::target::is_same;
+use asdf_system::Folder;
+use std::ffi::{OsStr, OsString};
 use std::fs::{self, File, Metadata};
 use std::io::{self, ErrorKind, Write};
 use std::os::fd::AsFd;
-use std::os::unix::fs::{fchown, MetadataExt, OpenOptionsExt};
+use std::os::unix::fs::{fchown, MetadataExt};
 use std::path::{Path, PathBuf};
 use std::process;
 
@@ -33,7 +36,7 @@ impl Out {
         }
         let name = shown(&self.path);
         let sentence = format!("FILE and OUT are the same file, {name}, which was not changed");
-        Err(Failure::usage(sentence).with_advice("choose another name for OUT"))
+        Err(Failure::not_done(sentence).with_advice("choose another name for OUT"))
     }
 
     /// Stores a result, or prints it.
@@ -68,17 +71,19 @@ impl Out {
 
     /// Reports that there is something under the name of the new file.
     fn exists(&self) -> Failure {
-        let name = shown(&self.path);
-        let (what, advice) = match self.force {
-            false => ("exists", "or overwrite it with `--force`"),
-            // Every other file would have been overwritten.
-            true => (
-                "is a link to a file that does not exist",
-                "or remove the link",
+        let (what, advice) = match fs::metadata(&self.path) {
+            Ok(found) if found.is_dir() => ("is a folder", "give the name of a file in it"),
+            Ok(_) => (
+                "exists",
+                "choose another name for OUT, or overwrite it with `--force`",
+            ),
+            Err(_) => (
+                "is a link that leads nowhere",
+                "choose another name for OUT, or remove the link",
             ),
         };
-        let sentence = format!("{name} {what} and was not changed");
-        Failure::usage(sentence).with_advice(format_args!("choose another name for OUT, {advice}"))
+        let name = shown(&self.path);
+        Failure::not_done(format!("{name} {what} and was not changed")).with_advice(advice)
     }
 
     /// Overwrites what exists under the name, or creates it. What is not a regular file, such as a
@@ -103,15 +108,30 @@ impl Out {
     /// link, the link stays, and the file it leads to is replaced.
     fn replace(&self, old: &Metadata, bytes: &[u8]) -> io::Result<()> {
         let path = fs::canonicalize(&self.path)?;
-        let (name, file) = new_file_beside(&path)?;
+        let (Some(parent), Some(name)) = (path.parent(), path.file_name()) else {
+            return Err(ErrorKind::IsADirectory.into());
+        };
+        let folder = Folder::open(parent)?;
+        let (new, file) = new_file_in(&folder)?;
         let replaced = take_over(&file, old)
             .and_then(|()| write(file, bytes))
-            .and_then(|()| fs::rename(&name, &path));
+            .and_then(|()| check_name(&folder, name, old))
+            .and_then(|()| folder.rename_over(&new, name));
         if replaced.is_err() {
             // The failure is reported in any case.
-            let _ = fs::remove_file(&name);
+            let _ = folder.remove(&new);
         }
         replaced
+    }
+}
+
+/// Makes sure that the name is still that of the old file, which the user may write to.
+fn check_name(folder: &Folder, name: &OsStr, old: &Metadata) -> io::Result<()> {
+    let found = folder.look_at(name)?;
+    let found = found.map(|found| found.metadata()).transpose()?;
+    match found.is_some_and(|found| is_same(&found, old)) {
+        true => Ok(()),
+        false => Err(io::Error::other("another program has replaced it")),
     }
 }
 
@@ -123,20 +143,17 @@ fn is_read_from(file: &Path, source: &Source, out: &Path) -> bool {
     let input = io::stdin().as_fd().try_clone_to_owned();
     let input = input.and_then(|input| File::from(input).metadata());
     match (input, fs::metadata(out)) {
-        (Ok(input), Ok(out)) => (input.dev(), input.ino()) == (out.dev(), out.ino()),
+        (Ok(input), Ok(out)) => is_same(&input, &out),
         _ => false,
     }
 }
 
-/// Makes a new file in the folder of `path`, under a name that nothing has there.
-fn new_file_beside(path: &Path) -> io::Result<(PathBuf, File)> {
+/// Makes a new file in a folder, under a name that nothing has there.
+fn new_file_in(folder: &Folder) -> io::Result<(OsString, File)> {
     let mut result = Err(ErrorKind::AlreadyExists.into());
     for number in 0..TRIES {
-        let name = format!(".asdf-layout-{}-{number}.new", process::id());
-        let name = path.with_file_name(name);
-        let mut options = File::options();
-        let options = options.write(true).create_new(true).mode(PRIVATE);
-        result = options.open(&name).map(|file| (name, file));
+        let name = OsString::from(format!(".asdf-layout-{}-{number}.new", process::id()));
+        result = folder.create(&name, PRIVATE).map(|file| (name, file));
         match &result {
             Err(error) if error.kind() == ErrorKind::AlreadyExists => (),
             _ => break,

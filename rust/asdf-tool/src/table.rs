@@ -70,8 +70,8 @@ fn print_tree(tree: Tree, out: &mut Output) -> Result<(), Stop> {
     )
 }
 
-/// Prints the table of all blocks. The records are gone over twice, because only the last one tells
-/// how wide the columns are.
+/// Prints the table of all blocks. The records are read twice, because the widths of the columns are
+/// known only after the last one.
 fn print_blocks(records: &Records, out: &mut Output) -> Result<(), Stop> {
     let mut row = Row::default();
     let mut widths = HEADINGS.map(str::len);

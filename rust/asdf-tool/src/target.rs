@@ -1,5 +1,5 @@
-//! A file to be changed in place. Everything goes through the descriptor of its folder, so that nobody can put another folder
-//! in its place.
+//! A file to be changed in place. Everything goes through the descriptor of its folder, so that nobody can exchange
+//! that folder for another.
 
 use crate::failure::{note, Failure};
 use crate::names::shown;
@@ -35,7 +35,7 @@ impl Target {
         let path = fs::canonicalize(given).map_err(failed)?;
         let irregular = || {
             let name = shown(given);
-            Failure::usage(format!(
+            Failure::not_done(format!(
                 "{name} is not a regular file and cannot be changed in place"
             ))
         };
@@ -46,7 +46,7 @@ impl Target {
         // Something else than a file is not opened, because that alone may have an effect.
         let found = folder.look_at(name).map_err(failed)?;
         let is_file = |file: &File| file.metadata().is_ok_and(|metadata| metadata.is_file());
-        if !found.as_ref().is_some_and(is_file) {
+        if found.is_some_and(|found| !is_file(&found)) {
             return Err(irregular());
         }
         let file = folder.open_to_change(name).map_err(failed)?;
@@ -61,7 +61,7 @@ impl Target {
         };
         match target.is_named() {
             true => Ok(target),
-            false => Err(Failure::usage(format!(
+            false => Err(Failure::not_done(format!(
                 "{} was replaced or removed before it could be locked; nothing was changed; try again",
                 shown(given)
             ))),
@@ -79,15 +79,15 @@ impl Target {
         named.is_ok_and(|named| is_same(&named, &self.metadata))
     }
 
-    /// Returns what is known about the file since it was locked.
+    /// Returns the metadata that the file had when it was locked.
     pub fn metadata(&self) -> &Metadata {
         &self.metadata
     }
 
-    /// Holds the bytes of the file. Nothing has been changed as long as they are read.
+    /// Holds the bytes of the file. While they are read, nothing of the file is changed.
     pub fn bytes(&self) -> Result<Filled, Failure> {
         let length = self.metadata.len().min(source::TOO_LONG);
-        let advice = format!("; {UNCHANGED}");
+        let advice = format!("{UNCHANGED}; ");
         source::filled(&self.file, length, &self.shown(), &advice)
             .map_err(|error| Failure::at("cannot read", &self.given, error).with_advice(UNCHANGED))
     }
@@ -97,6 +97,12 @@ impl Target {
         write_at(&self.file, bytes, start as u64, steps)
             .and_then(|()| steps.run(|| self.file.sync_all()))
             .map_err(|error| Failure::at("cannot write", &self.given, error))
+    }
+
+    /// Brings the file to the disk as it is.
+    pub fn sync(&self) -> Result<(), Failure> {
+        let synced = self.file.sync_all();
+        synced.map_err(|error| Failure::at("cannot bring to the disk", &self.given, error))
     }
 
     /// Returns the path of another name in the folder, for messages.
@@ -121,7 +127,7 @@ fn lock(file: &File, path: &Path) -> Result<(), Failure> {
         Err(TryLockError::WouldBlock) => {
             let name = shown(path);
             note(format_args!(
-                "waiting for {name}, which another program is reading or editing"
+                "waiting for {name}, which another program has locked"
             ));
             file.lock()
         }
@@ -131,11 +137,11 @@ fn lock(file: &File, path: &Path) -> Result<(), Failure> {
     locked.map_err(|error| Failure::at("cannot lock", path, error).with_advice(UNCHANGED))
 }
 
-/// Writes bytes at a place in a file. Each piece is one step.
-pub fn write_at(file: &File, bytes: &[u8], place: u64, steps: &mut Steps) -> io::Result<()> {
-    let places = (place..).step_by(PIECE);
-    for (piece, place) in bytes.chunks(PIECE).zip(places) {
-        steps.run(|| file.write_all_at(piece, place))?;
+/// Writes bytes at an offset of a file. Each piece is one step.
+pub fn write_at(file: &File, bytes: &[u8], offset: u64, steps: &mut Steps) -> io::Result<()> {
+    let offsets = (offset..).step_by(PIECE);
+    for (piece, offset) in bytes.chunks(PIECE).zip(offsets) {
+        steps.run(|| file.write_all_at(piece, offset))?;
     }
     Ok(())
 }

@@ -1,4 +1,4 @@
-//! Tests every command on files that another program changes, shortens and replaces all the time. The proved functions rest on
+//! Tests every command on files that another program changes, shortens and lengthens all the time. The proved functions rest on
 //! bytes that stand still, so a run may refuse the file or report that it became shorter, but never ends with a signal.
 
 mod common;
@@ -10,12 +10,12 @@ use std::path::Path;
 use std::sync::atomic::{AtomicBool, AtomicUsize, Ordering};
 use std::thread;
 
-/// How many times each command is run on each file.
-const RUNS: usize = 250;
-/// The files are longer than what is read at once, so that a change can come between two parts.
+/// How many times each command is run.
+const RUNS: usize = 1_000;
+/// The files are so long that several parts are read, and a change can come between two of them.
 const SPACES: usize = 100_000;
 
-/// Numbers that look random. Every run of the test has other ones, because the programs race.
+/// Numbers that look random. They are the same in every run, but the programs race, so no two runs are alike.
 struct Numbers(u64);
 
 impl Numbers {
@@ -44,14 +44,14 @@ fn change(path: &Path, whole: &[u8], stop: &AtomicBool, seed: u64) {
     let file = File::options().write(true).open(path).unwrap();
     let mut numbers = Numbers(seed);
     while !stop.load(Ordering::Relaxed) {
-        let place = numbers.below(whole.len());
+        let offset = numbers.below(whole.len());
         match numbers.below(6) {
-            0 => file.set_len(place as u64).unwrap(),
-            1 => file.set_len((whole.len() + place) as u64).unwrap(),
+            0 => file.set_len(offset as u64).unwrap(),
+            1 => file.set_len((whole.len() + offset) as u64).unwrap(),
             2 | 3 => {
-                let length = (whole.len() - place).min(1 + numbers.below(200));
+                let length = (whole.len() - offset).min(1 + numbers.below(200));
                 let bytes: Vec<u8> = (0..length).map(|_| numbers.below(256) as u8).collect();
-                file.write_all_at(&bytes, place as u64).unwrap();
+                file.write_all_at(&bytes, offset as u64).unwrap();
             }
             _ => {
                 // Most of the time the file is right, so that it is read to its end.

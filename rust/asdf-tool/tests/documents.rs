@@ -111,11 +111,11 @@ fn picture_of_the_house_has_every_crate() {
         .filter_map(|line| line.split_once(':'));
     for (name, _) in names {
         // A field of the picture begins with the name; one crate is named below it.
-        let places = [
+        let entries = [
             format!("│ {name} "),
             format!("`{name}` is not part of the house"),
         ];
-        assert!(places.iter().any(|place| house.contains(place)), "{name}");
+        assert!(entries.iter().any(|entry| house.contains(entry)), "{name}");
     }
 }
 
@@ -141,7 +141,7 @@ fn links_in_the_documents_lead_somewhere() {
             if link.starts_with("https://") {
                 continue;
             }
-            let (path, place) = link.split_once('#').unwrap_or((link, ""));
+            let (path, heading) = link.split_once('#').unwrap_or((link, ""));
             let target = if path.is_empty() {
                 root().join(&name)
             } else {
@@ -150,9 +150,9 @@ fn links_in_the_documents_lead_somewhere() {
             assert!(target.exists(), "{name}: {link}");
             let is_there = |text: String| {
                 text.lines()
-                    .any(|line| line.starts_with('#') && anchor(line) == place)
+                    .any(|line| line.starts_with('#') && anchor(line) == heading)
             };
-            if !place.is_empty() {
+            if !heading.is_empty() {
                 assert!(
                     is_there(fs::read_to_string(target).unwrap()),
                     "{name}: {link}"

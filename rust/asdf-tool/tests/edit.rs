@@ -35,18 +35,20 @@ fn refused_edit_changes_nothing_and_says_why() {
         refused(b"no tree\n"),
         format!(
             "asdf-layout: {file} was not edited: text is not exactly one tree (refusal 19); \
-             standard input has 8 bytes, and the room has {room}\n"
+             standard input has 8 bytes, and the room has {room}; a tree goes from its line `%YAML 1.1` \
+             through its line `...`, with nothing before or after it\n"
         )
     );
     assert!(refused(&TREE[..TREE.len() - 1])
-        .ends_with("; the last line of the text has no line end, and a tree needs one\n"));
+        .ends_with("; its last line has no line end, which a tree needs; add one\n"));
     let long = format!("%YAML 1.1\n---\n{}\n...\n", "x".repeat(SPACES));
     assert_eq!(
         refused(long.as_bytes()),
         format!(
             "asdf-layout: {file} was not edited: text is longer than the room of the tree (refusal 20); \
-             standard input has {} bytes, and the room has {room}\n",
-            long.len()
+             standard input has {} bytes, and the room has {room}; shorten it by {} bytes\n",
+            long.len(),
+            long.len() - room
         )
     );
     // The file itself, given as the text, is not exactly one tree either.

@@ -53,7 +53,7 @@ fn edit_and_restore_say_what_they_wait_for() {
     let name = word(&case.file);
     assert_eq!(
         line,
-        format!("asdf-layout: waiting for {name}, which another program is reading or editing\n")
+        format!("asdf-layout: waiting for {name}, which another program has locked\n")
     );
     file.unlock().unwrap();
     assert_eq!(
@@ -130,32 +130,4 @@ fn reading_waits_for_a_second_and_then_reads_and_says_so() {
     // Another reader is no reason to wait.
     file.lock_shared().unwrap();
     assert_eq!(printed(&["list", "--plain", name]), expected);
-}
-
-#[test]
-fn edit_does_not_wait_for_a_reader_whose_output_is_not_taken() {
-    let case = Case::new("locks-pager");
-    let rows = [HEADER, TREE, &block_header(0).repeat(64)].concat();
-    let nested = [block_header(rows.len() as u64), rows].concat();
-    fs::write(
-        &case.file,
-        [HEADER, TREE, b"     ", &nested.repeat(64)].concat(),
-    )
-    .unwrap();
-    // The listing is longer than a pipe takes, so this call cannot end.
-    let mut list = command(&["list", word(&case.file)])
-        .stdout(Stdio::piped())
-        .spawn()
-        .unwrap();
-    // It has begun to print when its first byte has come.
-    let mut first = [0];
-    list.stdout
-        .as_mut()
-        .unwrap()
-        .read_exact(&mut first)
-        .unwrap();
-    let ran = run_with_input(&["edit", word(&case.file), "-"], TREE);
-    assert_eq!(ran, SILENT);
-    list.kill().unwrap();
-    list.wait().unwrap();
 }

@@ -95,7 +95,10 @@ fn lack_of_memory_is_one_sentence() {
     // for its records.
     for (limit, sentence) in [
         (14_000, "Cannot allocate memory (os error 12)\n"),
-        (36_000, "asdf-layout: there is not enough memory for this\n"),
+        (
+            36_000,
+            "asdf-layout: there is not enough memory, so the command was not completed\n",
+        ),
     ] {
         let line = format!("ulimit -v {limit}; exec \"$0\" list \"$1\"");
         let ran = Command::new("sh")
@@ -115,14 +118,14 @@ fn lack_of_memory_is_one_sentence() {
     fs::remove_dir_all(folder).unwrap();
 }
 
-/// A multiple of every length in which the tool might read a file.
+/// A multiple of a page.
 const CHUNK: u64 = 1 << 15;
 /// How far apart the blocks of the long file are.
 const APART: u64 = 256 * CHUNK;
-/// Where a chunk ends inside the header of each block of the long file, so that two parts have to be read for it.
+/// Where a page ends inside the header of each block of the long file, so that two pages have to be read for it.
 const IN_HEADER: u64 = 20;
 
-/// Makes a file of almost 4 GiB with 500 blocks, each with a chunk that ends in its header, and with 1 MiB outside of them.
+/// Makes a file of almost 4 GiB with 500 blocks, each with a page that ends in its header, and with 1 MiB outside of them.
 fn long_file(path: &Path) {
     let length = (1 << 32) - 1;
     let mut parts = Vec::new();
@@ -133,7 +136,7 @@ fn long_file(path: &Path) {
     parts.push((0, [front, spaces].concat()));
     for (number, blocks) in [64, 64, 64, 64, 64, 64, 64, 44].into_iter().enumerate() {
         let used = HEADER.len() as u64 + blocks * APART;
-        // The next inner file begins at the same place in its chunk.
+        // The next inner file begins at the same offset in its page.
         let allocated = match number {
             7 => length - inner,
             _ => used.next_multiple_of(CHUNK) + CHUNK - 54,

@@ -5,14 +5,16 @@ mod common;
 use common::*;
 use std::fs::{self, File};
 use std::io::{self, Read};
-use std::process::Stdio;
+use std::process::{Command, Stdio};
 use std::thread;
 use std::time::Duration;
 
 /// A file that is refused.
 const BROKEN: &[u8] = b"#ASDF 2.0.0\n";
 const REFUSAL: &str = "first version number is not 1, at 6 (refusal 4)";
-/// Closes standard error, then runs the tool.
+/// Each closes a standard stream, then runs the tool.
+const CLOSED_INPUT: &str = r#"exec "$0" "$@" <&-"#;
+const CLOSED_OUTPUT: &str = r#"exec "$0" "$@" >&-"#;
 const CLOSED_ERRORS: &str = r#"exec "$0" "$@" 2>&-"#;
 
 /// Files for the calls below.
@@ -77,6 +79,14 @@ fn run_into(output: impl Into<Stdio>, words: &[&str]) -> Ran {
     command.stdout(output).output().unwrap().into()
 }
 
+/// Runs the tool by a line of a shell.
+fn run_in_shell(line: &str, words: &[&str]) -> Ran {
+    let tool = command(words);
+    let mut shell = Command::new("sh");
+    let shell = shell.args(["-c", line]).arg(tool.get_program());
+    shell.args(tool.get_args()).output().unwrap().into()
+}
+
 /// Returns a pipe that nobody reads.
 fn closed_pipe() -> io::PipeWriter {
     io::pipe().unwrap().1
@@ -112,6 +122,29 @@ fn standard_output_that_is_open_for_reading_only_is_a_failure() {
         let ran = run_into(File::open("/dev/null").unwrap(), &words);
         assert_eq!(ran.status, Some(2), "{words:?}");
         assert_eq!(ran.errors.lines().count(), 1, "{words:?}");
+    }
+}
+
+#[test]
+fn standard_stream_that_is_closed_from_the_start_is_a_failure() {
+    let files = Files::new("output-none");
+    for words in files.printing_calls() {
+        let ran = run_in_shell(CLOSED_OUTPUT, &words);
+        let sentence = "asdf-layout: cannot write to standard output: it is closed\n";
+        assert_eq!((ran.status, ran.errors.as_str()), (Some(2), sentence));
+    }
+    for words in [
+        &["list", "-"][..],
+        &["tree", "-"],
+        &["edit", &files.good, "-"],
+    ] {
+        let ran = run_in_shell(CLOSED_INPUT, words);
+        let sentence = "asdf-layout: cannot read standard input: it is closed\n";
+        assert_eq!(
+            (ran.status, ran.errors.as_str()),
+            (Some(2), sentence),
+            "{words:?}"
+        );
     }
 }
 
@@ -176,15 +209,9 @@ fn closed_or_full_standard_error_changes_no_status() {
         assert_eq!(into_full.status.code(), Some(status), "{words:?}");
         let unread = command(&words).stderr(closed_pipe()).output().unwrap();
         assert_eq!(unread.status.code(), Some(status), "{words:?}");
-        let tool = command(&words);
-        let closed = std::process::Command::new("sh")
-            .args(["-c", CLOSED_ERRORS])
-            .arg(tool.get_program())
-            .args(tool.get_args())
-            .output()
-            .unwrap();
-        assert_eq!(closed.status.code(), Some(status), "{words:?}");
-        assert_eq!(closed.stdout, run(&words).output.as_bytes());
+        let closed = run_in_shell(CLOSED_ERRORS, &words);
+        assert_eq!(closed.status, Some(status), "{words:?}");
+        assert_eq!(closed.output, run(&words).output);
     }
 }
 

@@ -72,7 +72,7 @@ fn written_index_is_good_where_the_sentence_says() {
     last[30..38].copy_from_slice(&2u64.to_be_bytes());
     let blocks = [HEADER, &block(b"abc"), &last, b"de   "].concat();
     let end = blocks.len();
-    let place = format!(
+    let sentence = format!(
         "this text belongs at offset {end} of standard input, directly after the last block"
     );
     for (tail, rest) in [
@@ -87,7 +87,7 @@ fn written_index_is_good_where_the_sentence_says() {
         ),
     ] {
         let ran = run_with_input(&["index", "-", "--write"], &[&blocks, tail].concat());
-        assert_eq!(ran.errors, format!("asdf-layout: {place}{rest}\n"));
+        assert_eq!(ran.errors, format!("asdf-layout: {sentence}{rest}\n"));
         assert_eq!(ran.status, Some(0));
         let indexed = [&blocks[..end], ran.output.as_bytes()].concat();
         let verdict = run_with_input(&["index", "-"], &indexed).output;

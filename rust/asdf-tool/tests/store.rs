@@ -94,8 +94,21 @@ fn existing_file_is_not_overwritten() {
     case.make("out", OLD);
     symlink("nothing", case.path("link")).unwrap();
     for call in ["outline file -o", "index file --write -o"] {
-        for out in ["out", "link", "/dev/null"] {
+        for out in ["out", "/dev/null"] {
             assert_eq!(case.sentence(&format!("{call} {out}")), exists(out));
+        }
+        for (out, advice) in [
+            (
+                "link",
+                "link is a link that leads nowhere and was not changed; choose another",
+            ),
+            (
+                "/tmp",
+                "/tmp is a folder and was not changed; give the name of a file in it",
+            ),
+        ] {
+            let sentence = case.sentence(&format!("{call} {out}"));
+            assert!(sentence.contains(advice), "{sentence}");
         }
     }
     assert_eq!(case.bytes("out"), OLD);
@@ -129,7 +142,7 @@ fn forced_file_is_replaced_as_a_whole() {
 fn forced_link_that_leads_nowhere_is_not_followed() {
     let case = Case::new("store-nowhere");
     symlink("nothing", case.path("link")).unwrap();
-    let what = "link is a link to a file that does not exist and was not changed";
+    let what = "link is a link that leads nowhere and was not changed";
     let advice = "choose another name for OUT, or remove the link";
     let sentence = format!("asdf-layout: {what}; {advice}\n");
     assert_eq!(case.sentence("outline file -o link --force"), sentence);

@@ -51,7 +51,7 @@ fn may_act_as_other(test: &str) -> bool {
 }
 
 impl Case {
-    /// Puts another file in the place of the file, which then has another inode.
+    /// Replaces the file by another one, which has another inode.
     fn replace(&self, bytes: &[u8]) {
         let other = self.beside(".other");
         fs::write(&other, bytes).unwrap();
@@ -59,9 +59,9 @@ impl Case {
     }
 
     /// Changes bytes of the file in place.
-    fn overwrite(&self, place: usize, bytes: &[u8]) {
+    fn overwrite(&self, offset: usize, bytes: &[u8]) {
         let file = File::options().write(true).open(&self.file).unwrap();
-        file.write_all_at(bytes, place as u64).unwrap();
+        file.write_all_at(bytes, offset as u64).unwrap();
     }
 }
 
@@ -73,7 +73,7 @@ fn another_night_under_the_same_name_does_not_get_the_old_tree() {
     let mut night = case.old.clone();
     night[12 + TREE.len()] = b'#';
     case.replace(&night);
-    case.assert_only_set_aside("is about another file that had this name before");
+    case.assert_only_set_aside("was kept for another file, with the inode ");
     assert!(case.bytes() == night);
     assert_eq!(case.edit(), SILENT);
 }
@@ -86,18 +86,24 @@ fn another_night_in_the_same_inode_does_not_get_the_old_tree() {
     let mut night = case.old.clone();
     night[20_000] = b'#';
     case.overwrite(0, &night);
-    case.assert_only_set_aside(
-        "the byte at 20000 and 0 others in the room of the tree are neither",
-    );
+    case.assert_only_set_aside("the byte at offset 20000 is neither that of the old tree nor ");
     assert!(case.bytes() == night);
     assert_eq!(case.edit(), SILENT);
+}
+
+#[test]
+fn all_bytes_that_are_neither_old_nor_new_are_counted() {
+    let case = Case::new("strangers-bytes");
+    case.stop_in(State::KeptHalf);
+    case.overwrite(30_000, b"####");
+    case.assert_only_set_aside("4 bytes of the room, the first at offset 30000, are neither");
 }
 
 #[test]
 fn file_whose_surroundings_changed_does_not_get_the_old_tree() {
     let case = Case::new("strangers-around");
     let block = case.old.len() - 57;
-    for (place, byte) in [
+    for (offset, byte) in [
         // The version, the checksum of the block, and its used size.
         (6 + 2, b'1'),
         (block + 38, 1),
@@ -105,7 +111,7 @@ fn file_whose_surroundings_changed_does_not_get_the_old_tree() {
     ] {
         let _ = fs::remove_file(case.beside(".old-room.1"));
         case.stop_in(State::KeptHalf);
-        case.overwrite(place, &[byte]);
+        case.overwrite(offset, &[byte]);
         case.assert_only_set_aside("does not fit: ");
     }
 }
@@ -118,7 +124,7 @@ fn file_that_grew_or_shrank_does_not_get_the_old_tree() {
         case.stop_in(State::KeptNew);
         let file = File::options().write(true).open(&case.file).unwrap();
         file.set_len(length as u64).unwrap();
-        case.assert_only_set_aside(&format!("and this one has {length}"));
+        case.assert_only_set_aside(&format!(" has {length} now"));
     }
 }
 
@@ -129,7 +135,8 @@ fn half_edited_file_that_can_be_restored_is_not_set_aside() {
     let ran = case.set_aside();
     assert_eq!((ran.status, case.state()), (Some(2), State::KeptHalf));
     assert!(
-        ran.errors.contains("; run `asdf-layout restore "),
+        ran.errors
+            .contains("is half edited and can be restored, so "),
         "{}",
         ran.errors
     );
@@ -151,6 +158,24 @@ fn half_edited_file_that_can_be_restored_is_not_set_aside() {
 }
 
 #[test]
+fn old_room_is_set_aside_only_when_the_file_is_on_the_disk() {
+    let case = Case::new("strangers-disk");
+    case.stop_in(State::KeptNew);
+    let words = ["restore", "--set-aside", word(&case.file)];
+    let mut failed = 0;
+    for step in 1..MOST_STEPS {
+        let ran = run_with_hook(&format!("fail {step}"), &words);
+        if ran.status == Some(0) {
+            break;
+        }
+        assert_eq!((ran.status, case.state()), (Some(2), State::KeptNew));
+        failed += 1;
+    }
+    // The room is written in pieces, and then brought to the disk.
+    assert_eq!((failed, case.state()), (5, State::New));
+}
+
+#[test]
 fn what_no_edit_wrote_is_not_restored() {
     let case = Case::new("strangers-damaged");
     case.stop_in(State::KeptOld);
@@ -167,6 +192,15 @@ fn what_no_edit_wrote_is_not_restored() {
         fs::set_permissions(case.kept(), Permissions::from_mode(0o600)).unwrap();
         case.assert_only_set_aside("is damaged, or another version of this tool wrote it");
     }
+}
+
+#[test]
+fn long_file_in_the_name_of_a_kept_room_takes_no_memory() {
+    let case = Case::new("strangers-huge");
+    let huge = File::create(case.kept()).unwrap();
+    huge.set_len(1 << 42).unwrap();
+    fs::set_permissions(case.kept(), Permissions::from_mode(0o600)).unwrap();
+    case.assert_only_set_aside("is damaged, or another version of this tool wrote it");
 }
 
 #[test]
@@ -233,15 +267,11 @@ fn strangers_file_is_not_believed_and_its_owner_is_named() {
     let ran = case.restore();
     assert_eq!(ran.status, Some(2));
     assert!(
-        ran.errors.contains(" and is not believed; "),
+        ran.errors.contains("or root wrote is believed; if "),
         "{}",
         ran.errors
     );
-    assert!(
-        ran.errors.contains(" can restore the old tree; "),
-        "{}",
-        ran.errors
-    );
+    assert!(ran.errors.contains(" can restore it; "), "{}", ran.errors);
     assert!(case.bytes() == half);
     // The owner of the file itself is believed.
     chown(&case.file, Some(OTHER_USER), None).unwrap();
@@ -269,7 +299,12 @@ fn users_file_that_root_was_editing_is_left_to_root() {
     // Nobody may move it from this folder but root, and the message says so.
     let ran = run_as_other("", &["restore", "--set-aside", word(&case.file)]);
     assert_eq!(ran.status, Some(2));
-    assert!(ran.errors.contains("it belongs to root"), "{}", ran.errors);
+    assert!(
+        ran.errors
+            .contains("it belongs to root, who can remove it; or copy "),
+        "{}",
+        ran.errors
+    );
     assert_eq!((case.restore(), case.state()), (SILENT, State::Old));
 }
 
@@ -328,7 +363,7 @@ fn longest_names_are_edited_and_restored() {
         assert!(half);
         assert!(kept().unwrap().starts_with(&name[..200]));
         let warning = run(&["list", word(&case.file)]).errors;
-        assert!(warning.contains("was not finished"), "{warning}");
+        assert!(warning.contains("may be unfinished"), "{warning}");
         assert_eq!((case.restore(), case.state()), (SILENT, State::Old));
         case.assert_nothing_beside();
     }

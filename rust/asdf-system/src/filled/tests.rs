@@ -6,8 +6,9 @@ use std::path::PathBuf;
 use std::process::{id, Command, Output};
 use std::thread;
 
-/// Longer than what is filled at once, and not a multiple of it.
+/// The most that is filled at once.
 const CHUNK: usize = MOST_AHEAD * PAGE;
+/// Longer than that, and not a multiple of it.
 const LENGTH: usize = 3 * CHUNK + 100;
 
 fn sentences() -> Sentences {
@@ -21,7 +22,7 @@ fn sentences() -> Sentences {
 /// Makes a file for a test. Its bytes differ from page to page.
 fn file(test: &str, length: usize) -> (PathBuf, File) {
     let path = env::temp_dir().join(format!("asdf-filled-{}-{test}", id()));
-    let bytes: Vec<u8> = (0..length).map(|place| (place / 1_000) as u8).collect();
+    let bytes: Vec<u8> = (0..length).map(|offset| (offset / 1_000) as u8).collect();
     fs::write(&path, bytes).unwrap();
     let file = File::options().read(true).write(true).open(&path).unwrap();
     (path, file)
@@ -117,8 +118,8 @@ fn touching_a_long_file_everywhere_takes_few_maps() {
     // Every second page of the first part, so that no two maps can be one; then one byte in each of some groups.
     let pages = (0..SMALL_FILLS).map(|page| 2 * page * PAGE);
     let groups = (0..200).map(|group| (group * 19 % 3_000 + 600) * LEAST_GROUP + 5 * PAGE);
-    for (count, place) in pages.chain(groups).enumerate() {
-        assert_eq!(bytes[place], 0);
+    for (count, offset) in pages.chain(groups).enumerate() {
+        assert_eq!(bytes[offset], 0);
         if count % 1_000 == 0 {
             most = most.max(maps());
         }
@@ -193,4 +194,40 @@ fn alone_outside() {
     let _bytes = Filled::new(&file, LENGTH, sentences()).unwrap();
     // SAFETY: none; the system has to notice it.
     unsafe { (16 as *const u8).read_volatile() };
+}
+
+#[test]
+fn signal_that_was_blocked_before_is_no_obstacle() {
+    let ran = run_alone("alone_blocked");
+    assert!(ran.status.success(), "{ran:?}");
+}
+
+#[test]
+#[ignore = "blocks a signal; run by another test"]
+fn alone_blocked() {
+    let (path, file) = file("blocked", LENGTH);
+    fs::remove_file(path).unwrap();
+    let mut signals = [0; 16];
+    signals[0] = 1 << (SIGSEGV - 1);
+    // SAFETY: the set is valid, and 0 adds it to what is blocked.
+    unsafe { pthread_sigmask(0, &signals, null_mut()) };
+    let bytes = Filled::new(&file, LENGTH, sentences()).unwrap();
+    assert_eq!(bytes[PAGE], 4);
+}
+
+#[test]
+fn signal_that_is_sent_ends_the_process() {
+    use std::os::unix::process::ExitStatusExt;
+    assert_eq!(run_alone("alone_sent").status.signal(), Some(SIGSEGV));
+}
+
+#[test]
+#[ignore = "ends the process; run by another test"]
+fn alone_sent() {
+    let (path, file) = file("sent", LENGTH);
+    fs::remove_file(path).unwrap();
+    let bytes = Filled::new(&file, LENGTH, sentences()).unwrap();
+    assert_eq!(bytes[PAGE], 4);
+    // SAFETY: the call takes any number.
+    unsafe { raise(SIGSEGV) };
 }

@@ -168,10 +168,8 @@ impl Case {
         assert!(aside.symlink_metadata().is_ok());
         assert!(self.bytes() == before);
         assert!(!self.kept().exists());
-        assert_eq!(
-            run(&["list", word(&self.file)]).errors.find("not finished"),
-            None
-        );
+        let errors = run(&["list", word(&self.file)]).errors;
+        assert!(!errors.contains("old-room"), "{errors}");
     }
 }
 

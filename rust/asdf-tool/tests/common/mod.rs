@@ -127,7 +127,7 @@ pub fn file_with_room(spaces: usize) -> Vec<u8> {
     [HEADER, TREE, &spaces, &block_header(3), b"abc"].concat()
 }
 
-/// Makes a file of zeros with other bytes at some places. The zeros take no space on the disk.
+/// Makes a file of zeros with other bytes at some offsets. The zeros take no space on the disk.
 pub fn sparse_file(path: &Path, length: u64, parts: &[(u64, &[u8])]) -> File {
     let file = File::options()
         .read(true)
@@ -136,8 +136,8 @@ pub fn sparse_file(path: &Path, length: u64, parts: &[(u64, &[u8])]) -> File {
         .open(path)
         .unwrap();
     file.set_len(length).unwrap();
-    for (place, bytes) in parts {
-        file.write_all_at(bytes, *place).unwrap();
+    for (offset, bytes) in parts {
+        file.write_all_at(bytes, *offset).unwrap();
     }
     file
 }
