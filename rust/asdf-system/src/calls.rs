@@ -17,7 +17,7 @@ pub struct SignalInfo {
 
 /// What is done when a signal arrives.
 #[repr(C)]
-#[derive(Clone, Copy)]
+#[derive(Clone, Copy, PartialEq)]
 pub struct SignalAction {
     /// `DEFAULT`, `IGNORED`, or the address of a function.
     pub handler: usize,

@@ -21,7 +21,7 @@ use std::ops::{Deref, Range};
 use std::os::fd::AsRawFd;
 use std::ptr::{null, null_mut};
 use std::slice;
-use std::sync::{Once, OnceLock};
+use std::sync::OnceLock;
 
 /// Memory is filled in pages, as the machine has them.
 const PAGE: usize = 1 << 12;
@@ -51,7 +51,8 @@ const FETCHES: u64 = 1 << 4;
 static HELD: Spin<Vec<Held>> = Spin::new(Vec::new());
 /// What the process did on this signal before `install`.
 static FORMER: OnceLock<SignalAction> = OnceLock::new();
-static INSTALLED: Once = Once::new();
+/// Whether the signal handler is installed.
+static INSTALLED: OnceLock<bool> = OnceLock::new();
 
 /// What the process says before it ends with status 2, if bytes cannot be filled. Each is a line with its end.
 pub struct Sentences {
@@ -79,7 +80,7 @@ impl Filled {
         }
         let held = Held::new(file.try_clone()?, length, sentences)?;
         let start = held.start as Address;
-        install();
+        install()?;
         HELD.with(|all| all.push(held));
         Ok(Filled { start, length })
     }
@@ -340,8 +341,8 @@ fn protect(start: Address, length: usize, protection: c_int) -> io::Result<()> {
 }
 
 /// Installs the signal handler, once.
-fn install() {
-    INSTALLED.call_once(|| {
+fn install() -> io::Result<()> {
+    let is_installed = INSTALLED.get_or_init(|| {
         let mut former = SignalAction::NONE;
         let action = SignalAction {
             handler: handle as *const () as usize,
@@ -350,15 +351,19 @@ fn install() {
         };
         let mut signals = [0; 16];
         signals[0] = 1 << (SIGSEGV - 1);
-        // SAFETY: all pointers are valid. The former handler is known before ours can be called.
+        // SAFETY: all pointers are valid. The former handler is known before ours can be called. Whoever started the process
+        // may have blocked the signal; then the first access would end the process, so it is unblocked.
         unsafe {
-            sigaction(SIGSEGV, null(), &mut former);
-            FORMER.get_or_init(|| former);
-            sigaction(SIGSEGV, &action, null_mut());
-            // Whoever started the process may have blocked the signal. Then the first access would end the process.
-            pthread_sigmask(SIG_UNBLOCK, &signals, null_mut());
+            sigaction(SIGSEGV, null(), &mut former) == 0
+                && *FORMER.get_or_init(|| former) == former
+                && sigaction(SIGSEGV, &action, null_mut()) == 0
+                && pthread_sigmask(SIG_UNBLOCK, &signals, null_mut()) == 0
         }
     });
+    match is_installed {
+        true => Ok(()),
+        false => Err(io::Error::other("no signal handler can be installed")),
+    }
 }
 
 /// Is called when an access is not allowed. When it returns, the access is made again.
