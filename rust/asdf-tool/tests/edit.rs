@@ -91,11 +91,7 @@ fn file_with_several_names_is_not_edited() {
     fs::hard_link(&case.file, case.beside(".other")).unwrap();
     let ran = case.edit();
     assert_eq!((ran.status, case.state()), (Some(2), State::Old));
-    assert!(
-        ran.errors.contains("has 2 names (hard links)"),
-        "{}",
-        ran.errors
-    );
+    ran.assert_says("has 2 names (hard links)");
     fs::remove_file(case.beside(".other")).unwrap();
     assert_eq!(case.edit(), SILENT);
 }
@@ -106,11 +102,7 @@ fn only_a_regular_file_is_edited() {
     for path in [word(&folder), "/dev/null", "/"] {
         let ran = run_with_input(&["edit", path, "-"], TREE);
         assert_eq!(ran.status, Some(2));
-        assert!(
-            ran.errors.contains("is not a regular file"),
-            "{}",
-            ran.errors
-        );
+        ran.assert_says("is not a regular file");
     }
 }
 

@@ -17,11 +17,7 @@ impl Case {
         let before = self.bytes();
         let edit = self.edit();
         assert_eq!(edit.status, Some(2));
-        assert!(
-            edit.errors.contains("`asdf-layout restore "),
-            "{}",
-            edit.errors
-        );
+        edit.assert_says("`asdf-layout restore ");
         let warning = run(&["list", word(&self.file)]).errors;
         assert!(warning.contains("may be unfinished"), "{warning}");
         assert!(self.bytes() == before);
@@ -149,12 +145,7 @@ fn step_that_fails_is_told_with_what_holds_and_what_to_do() {
             State::Old | State::New => (),
             _ if says("--set-aside") => {
                 let edit = case.edit();
-                assert!(
-                    edit.errors
-                        .contains("has the whole new tree of the last edit"),
-                    "{}",
-                    edit.errors
-                );
+                edit.assert_says("has the whole new tree of the last edit");
                 assert_eq!(case.set_aside().status, Some(0));
                 assert_eq!(case.state(), State::New);
                 fs::remove_file(case.beside(".old-room.1")).unwrap();
@@ -209,11 +200,7 @@ fn what_was_left_before_the_file_changed_is_removed() {
     assert_eq!(run(&["list", word(&case.file)]).errors, "");
     let ran = case.restore();
     assert_eq!(ran.status, Some(0));
-    assert!(
-        ran.errors.contains("stopped before it changed anything"),
-        "{}",
-        ran.errors
-    );
+    ran.assert_says("stopped before it changed anything");
     case.assert_nothing_beside();
     assert_eq!(case.restore().status, Some(2));
 

@@ -116,12 +116,7 @@ fn reading_waits_for_a_second_and_then_reads_and_says_so() {
     let ran = run(&["list", "--plain", name]);
     let waited = begun.elapsed();
     assert_eq!((ran.status, ran.output.as_str()), (Some(0), expected));
-    assert!(
-        ran.errors
-            .contains(&format!("another program has locked {name}")),
-        "{}",
-        ran.errors
-    );
+    ran.assert_says(format!("another program has locked {name}"));
     assert!(
         waited >= Duration::from_secs(1) && waited < Duration::from_secs(5),
         "{waited:?}"

@@ -134,12 +134,7 @@ fn half_edited_file_that_can_be_restored_is_not_set_aside() {
     case.stop_in(State::KeptHalf);
     let ran = case.set_aside();
     assert_eq!((ran.status, case.state()), (Some(2), State::KeptHalf));
-    assert!(
-        ran.errors
-            .contains("is half edited and can be restored, so "),
-        "{}",
-        ran.errors
-    );
+    ran.assert_says("is half edited and can be restored, so ");
     case.stop_in(State::KeptNew);
     assert_eq!(
         (case.set_aside().status, case.state()),
@@ -150,11 +145,7 @@ fn half_edited_file_that_can_be_restored_is_not_set_aside() {
     assert!(case.set_aside().output.ends_with(".old-room.2\n"));
     let ran = case.set_aside();
     assert_eq!(ran.status, Some(2));
-    assert!(
-        ran.errors.contains("nothing to set aside"),
-        "{}",
-        ran.errors
-    );
+    ran.assert_says("nothing to set aside");
 }
 
 #[test]
@@ -244,12 +235,7 @@ fn links_pipes_and_folders_are_not_believed_and_not_waited_for() {
         fs::set_permissions(case.kept(), Permissions::from_mode(mode)).unwrap();
         let ran = case.restore();
         assert_eq!((ran.status, case.state()), (Some(2), State::KeptHalf));
-        assert!(
-            ran.errors
-                .contains("others than its owner could have written it"),
-            "{}",
-            ran.errors
-        );
+        ran.assert_says("others than its owner could have written it");
     }
     fs::set_permissions(case.kept(), Permissions::from_mode(0o600)).unwrap();
     assert_eq!((case.restore(), case.state()), (SILENT, State::Old));
@@ -266,12 +252,8 @@ fn strangers_file_is_not_believed_and_its_owner_is_named() {
     let half = case.bytes();
     let ran = case.restore();
     assert_eq!(ran.status, Some(2));
-    assert!(
-        ran.errors.contains("or root wrote is believed; if "),
-        "{}",
-        ran.errors
-    );
-    assert!(ran.errors.contains(" can restore it; "), "{}", ran.errors);
+    ran.assert_says("or root wrote is believed; if ");
+    ran.assert_says(" can restore it; ");
     assert!(case.bytes() == half);
     // The owner of the file itself is believed.
     chown(&case.file, Some(OTHER_USER), None).unwrap();
@@ -289,22 +271,12 @@ fn users_file_that_root_was_editing_is_left_to_root() {
     let half = case.bytes();
     let ran = run_as_other("", &["restore", word(&case.file)]);
     assert_eq!(ran.status, Some(2));
-    assert!(
-        ran.errors
-            .contains("belongs to root, who can restore the old tree"),
-        "{}",
-        ran.errors
-    );
+    ran.assert_says("belongs to root, who can restore the old tree");
     assert!(case.bytes() == half);
     // Nobody may move it from this folder but root, and the message says so.
     let ran = run_as_other("", &["restore", "--set-aside", word(&case.file)]);
     assert_eq!(ran.status, Some(2));
-    assert!(
-        ran.errors
-            .contains("it belongs to root, who can remove it; or copy "),
-        "{}",
-        ran.errors
-    );
+    ran.assert_says("it belongs to root, who can remove it; or copy ");
     assert_eq!((case.restore(), case.state()), (SILENT, State::Old));
 }
 

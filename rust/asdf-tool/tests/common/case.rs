@@ -144,21 +144,13 @@ impl Case {
         let before = self.bytes();
         let ran = self.restore();
         assert_eq!(ran.status, Some(2), "{}", ran.errors);
-        assert!(ran.errors.contains(reason), "{}", ran.errors);
-        assert!(
-            ran.errors.contains("nothing was restored"),
-            "{}",
-            ran.errors
-        );
-        assert!(
-            ran.errors.contains("`asdf-layout restore --set-aside "),
-            "{}",
-            ran.errors
-        );
+        ran.assert_says(reason);
+        ran.assert_says("nothing was restored");
+        ran.assert_says("`asdf-layout restore --set-aside ");
         assert!(self.bytes() == before);
         let edit = self.edit();
         assert_eq!(edit.status, Some(2), "{}", edit.errors);
-        assert!(edit.errors.contains("--set-aside"), "{}", edit.errors);
+        edit.assert_says("--set-aside");
         assert!(self.bytes() == before);
 
         let ran = self.set_aside();

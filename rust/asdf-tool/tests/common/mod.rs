@@ -40,6 +40,18 @@ impl From<Output> for Ran {
     }
 }
 
+impl Ran {
+    /// Checks that these words are among what was printed on standard error.
+    pub fn assert_says(&self, words: impl AsRef<str>) {
+        let words = words.as_ref();
+        assert!(
+            self.errors.contains(words),
+            "`{words}` is not in: {}",
+            self.errors
+        );
+    }
+}
+
 /// Returns a call of the tool with these words.
 pub fn command(words: &[&str]) -> Command {
     let mut command = Command::new(env!("CARGO_BIN_EXE_asdf-layout"));
