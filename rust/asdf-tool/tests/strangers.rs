@@ -11,6 +11,7 @@ use std::os::unix::fs::{chown, symlink, FileExt, MetadataExt, PermissionsExt};
 use std::os::unix::process::CommandExt;
 use std::path::Path;
 use std::process::Command;
+use std::sync::OnceLock;
 use std::time::{Duration, Instant};
 
 /// A user that is not root and not the caller.
@@ -26,28 +27,27 @@ fn run_as_other(hook: &str, words: &[&str]) -> Ran {
 
 /// Whether the tests may act as a second user. If not, this says that a test is skipped.
 fn may_act_as_other(test: &str) -> bool {
-    let tool = Path::new(env!("CARGO_BIN_EXE_asdf-layout"));
-    let tried = Command::new(tool)
-        .arg("--help")
-        .uid(OTHER_USER)
-        .gid(OTHER_USER)
-        .output();
-    // The temporary folder of the tests has to be reachable, too.
-    let folder = folder("strangers-reachable");
-    fs::set_permissions(&folder, Permissions::from_mode(0o777)).unwrap();
-    let reached = Command::new("touch")
-        .arg(folder.join("file"))
-        .uid(OTHER_USER)
-        .gid(OTHER_USER)
-        .output();
-    let may = tried.is_ok_and(|ran| ran.status.success())
-        && reached.is_ok_and(|ran| ran.status.success());
+    static MAY: OnceLock<bool> = OnceLock::new();
+    let may = *MAY.get_or_init(can_act_as_other);
     if !may {
         // What a test prints is hidden if it passes, but not what it writes like this.
         let report = format!("skipped: {test}, which needs a second user\n");
         io::stderr().write_all(report.as_bytes()).unwrap();
     }
     may
+}
+
+/// Tries whether a second user can run the tool and reach the files of the tests.
+fn can_act_as_other() -> bool {
+    let folder = folder("strangers-reachable");
+    fs::set_permissions(&folder, Permissions::from_mode(0o777)).unwrap();
+    let succeeds = |command: &mut Command| {
+        let ran = command.uid(OTHER_USER).gid(OTHER_USER).output();
+        ran.is_ok_and(|ran| ran.status.success())
+    };
+    fs::metadata(&folder).unwrap().uid() != OTHER_USER
+        && succeeds(&mut command(&["--help"]))
+        && succeeds(Command::new("touch").arg(folder.join("file")))
 }
 
 impl Case {
