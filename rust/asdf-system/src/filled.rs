@@ -72,7 +72,8 @@ pub struct Filled {
 }
 
 impl Filled {
-    /// Holds the first `length` bytes of a file. Nothing is read yet.
+    /// Holds the first `length` bytes of a file. Nothing is read yet. Threads that begin later must not block SIGSEGV if they
+    /// touch the bytes.
     pub fn new(file: &File, length: usize, sentences: Sentences) -> io::Result<Filled> {
         if length == 0 {
             let start = null_mut();
@@ -342,28 +343,33 @@ fn protect(start: Address, length: usize, protection: c_int) -> io::Result<()> {
 
 /// Installs the signal handler, once.
 fn install() -> io::Result<()> {
-    let is_installed = INSTALLED.get_or_init(|| {
+    let is_installed = *INSTALLED.get_or_init(|| {
         let mut former = SignalAction::NONE;
         let action = SignalAction {
             handler: handle as *const () as usize,
             flags: SA_SIGINFO | SA_ONSTACK,
             ..SignalAction::NONE
         };
-        let mut signals = [0; 16];
-        signals[0] = 1 << (SIGSEGV - 1);
-        // SAFETY: all pointers are valid. The former handler is known before ours can be called. Whoever started the process
-        // may have blocked the signal; then the first access would end the process, so it is unblocked.
+        // SAFETY: all pointers are valid. The former handler is known before ours can be called.
         unsafe {
             sigaction(SIGSEGV, null(), &mut former) == 0
                 && *FORMER.get_or_init(|| former) == former
                 && sigaction(SIGSEGV, &action, null_mut()) == 0
-                && pthread_sigmask(SIG_UNBLOCK, &signals, null_mut()) == 0
         }
     });
-    match is_installed {
+    match is_installed && unblock() {
         true => Ok(()),
         false => Err(io::Error::other("no signal handler can be installed")),
     }
+}
+
+/// Lets the signal reach this thread. Whoever started it may have blocked the signal, and then the first access would end the
+/// process.
+fn unblock() -> bool {
+    let mut signals = [0; 16];
+    signals[0] = 1 << (SIGSEGV - 1);
+    // SAFETY: the set is valid, and nobody asks for the former one.
+    unsafe { pthread_sigmask(SIG_UNBLOCK, &signals, null_mut()) == 0 }
 }
 
 /// Is called when an access is not allowed. When it returns, the access is made again.
@@ -403,8 +409,8 @@ fn end_by(signal: c_int) {
 fn hand_on(signal: c_int, info: *const SignalInfo, context: *const c_void) {
     type Handler = extern "C" fn(c_int, *const SignalInfo, *const c_void);
     let Some(former) = FORMER.get() else { return };
-    // SAFETY: the system would have called the former handler in the same way. A handler without SA_SIGINFO does not look at
-    // what it is given beyond its first word. Without a handler the access is made again and ends the process.
+    // SAFETY: the system would have called the former handler with the same words. A handler without SA_SIGINFO does not look
+    // at what it is given beyond the first. Without a handler the access is made again and ends the process.
     unsafe {
         match former.handler {
             DEFAULT | IGNORED => {

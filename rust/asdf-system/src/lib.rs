@@ -12,6 +12,11 @@
 
 #![warn(missing_docs)]
 
+#[cfg(not(all(target_arch = "x86_64", target_os = "linux", target_env = "gnu")))]
+compile_error!(
+    "the layouts and numbers in calls.rs are those of x86-64 Linux with the GNU C library"
+);
+
 mod calls;
 mod ending;
 mod filled;

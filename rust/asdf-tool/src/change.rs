@@ -81,52 +81,46 @@ impl Change {
         format!("{TITLE}\n{lines}")
     }
 
-    /// Returns how long the stored form is that begins with these bytes.
-    pub fn stored_length(start: &[u8]) -> Option<u64> {
-        let stated = Stated::read(start)?;
-        let rooms = stated.room.len() as u64 * 2;
-        rooms.checked_add(stated.lines as u64)
-    }
-
-    /// Reads the stored form, which has to be exact.
-    pub fn parse(stored: &[u8]) -> Option<Change> {
-        let stated = Stated::read(stored)?;
-        let (old, new) = stored[stated.lines..].split_at_checked(stated.room.len())?;
+    /// Makes a change of its stored form: what its lines state, and both rooms. Returns `None` if it is not exact.
+    pub fn stored(stated: &Stated, old: Vec<u8>, new: Vec<u8>) -> Option<Change> {
         let [inode, device, length] = stated.numbers;
         let change = Change {
             inode,
             device,
             length,
             start: stated.room.start,
-            old: old.to_vec(),
-            new: new.to_vec(),
-            around: stated.around.to_string(),
+            old,
+            new,
+            around: stated.around.clone(),
         };
-        let is_exact = new.len() == old.len() && stored.starts_with(change.lines().as_bytes());
+        let is_exact = change.old.len() == stated.room.len()
+            && change.new.len() == stated.room.len()
+            && change.lines() == stated.lines;
         is_exact.then_some(change)
     }
 }
 
 /// What the lines of a stored form state.
-struct Stated<'a> {
+pub struct Stated {
     /// The inode, the device and the length of the file.
-    numbers: [u64; 3],
-    room: Range<usize>,
-    around: &'a str,
-    /// How many bytes the lines have.
-    lines: usize,
+    pub numbers: [u64; 3],
+    pub room: Range<usize>,
+    around: String,
+    /// The lines themselves.
+    pub lines: String,
 }
 
-impl Stated<'_> {
-    fn read(stored: &[u8]) -> Option<Stated<'_>> {
-        let mut parts = stored.splitn(WORDS.len() + 2, |&byte| byte == b'\n');
-        if parts.next()? != TITLE.as_bytes() {
+impl Stated {
+    /// Reads the lines from the start of a stored form.
+    pub fn read(start: &[u8]) -> Option<Stated> {
+        let lines = lines_in(start)?;
+        let mut parts = lines.split('\n');
+        if parts.next()? != TITLE {
             return None;
         }
         let mut values = [""; WORDS.len()];
         for (value, word) in values.iter_mut().zip(WORDS) {
-            let line = str::from_utf8(parts.next()?).ok()?;
-            *value = line.strip_prefix(word)?.strip_prefix(' ')?;
+            *value = parts.next()?.strip_prefix(word)?.strip_prefix(' ')?;
         }
         let [inode, device, length, room, around, _] = values;
         let (start, end) = room.split_once(' ')?;
@@ -138,10 +132,17 @@ impl Stated<'_> {
                 length.parse().ok()?,
             ],
             room: (room.start <= room.end).then_some(room)?,
-            around,
-            lines: stored.len() - parts.next()?.len(),
+            around: around.to_string(),
+            lines: lines.to_string(),
         })
     }
+}
+
+/// Returns the lines at the start of a stored form.
+fn lines_in(start: &[u8]) -> Option<&str> {
+    let mut ends = start.iter().enumerate().filter(|(_, &byte)| byte == b'\n');
+    let (last, _) = ends.nth(WORDS.len())?;
+    str::from_utf8(&start[..=last]).ok()
 }
 
 /// Returns a digest of what is before the room of a file, and of the headers of its blocks with their offsets. It does not
@@ -174,22 +175,28 @@ mod tests {
         }
     }
 
+    /// Returns the stored form of a change.
     fn stored(change: &Change) -> Vec<u8> {
         [change.lines().as_bytes(), &change.old, &change.new].concat()
     }
 
+    /// Reads a stored form.
+    fn read(stored: &[u8]) -> Option<Change> {
+        let stated = Stated::read(stored)?;
+        let rooms = &stored[stated.lines.len()..];
+        let (old, new) = rooms.split_at_checked(stated.room.len())?;
+        Change::stored(&stated, old.to_vec(), new.to_vec())
+    }
+
     #[test]
     fn stored_change_reads_back() {
-        let whole = stored(&change());
-        assert_eq!(Change::parse(&whole), Some(change()));
-        let lines = &whole[..change().lines().len()];
-        assert_eq!(Change::stored_length(lines), Some(whole.len() as u64));
+        assert_eq!(read(&stored(&change())), Some(change()));
         let empty = Change {
             old: Vec::new(),
             new: Vec::new(),
             ..change()
         };
-        assert_eq!(Change::parse(&stored(&empty)), Some(empty));
+        assert_eq!(read(&stored(&empty)), Some(empty));
     }
 
     #[test]
@@ -198,15 +205,19 @@ mod tests {
         for offset in 0..whole.len() {
             let mut other = whole.clone();
             other[offset] ^= 1;
-            assert_eq!(Change::parse(&other), None, "{offset}");
-            assert_eq!(Change::parse(&whole[..offset]), None, "{offset}");
+            assert_eq!(read(&other), None, "{offset}");
+            assert_eq!(read(&whole[..offset]), None, "{offset}");
         }
-        assert_eq!(Change::parse(&[&whole[..], b" "].concat()), None);
-        // A room that ends before it begins is no room.
-        let backwards = String::from_utf8_lossy(&whole).replace("room 12 20", "room 12 2");
-        assert_eq!(Change::stored_length(backwards.as_bytes()), None);
-        // Numbers have one form only.
-        let padded = String::from_utf8_lossy(&whole).replace("inode 7", "inode 07");
-        assert_eq!(Change::parse(padded.as_bytes()), None);
+        assert_eq!(read(&[&whole[..], b" "].concat()), None);
+        let with = |old: &str, new: &str| String::from_utf8_lossy(&whole).replace(old, new);
+        // A room that ends before it begins is no room, numbers have one form only, and some are too large.
+        for (old, new) in [
+            ("room 12 20", "room 12 2"),
+            ("inode 7", "inode 07"),
+            ("room 12 20", "room 0 9223372036854775808"),
+            ("room 12 20", "room 0 18446744073709551616"),
+        ] {
+            assert_eq!(read(with(old, new).as_bytes()), None, "{new}");
+        }
     }
 }

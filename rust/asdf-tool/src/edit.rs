@@ -8,6 +8,7 @@ use crate::source::Source;
 use crate::steps::Steps;
 use crate::target::Target;
 use asdf_layout::{Layout, Refusal};
+use std::fs::File;
 use std::os::unix::fs::MetadataExt;
 use std::path::{Path, PathBuf};
 
@@ -18,35 +19,34 @@ pub fn edit(path: &Path, text: &Source) -> Result<(), Failure> {
     refuse_unfinished(&target)?;
     let change = changed(&target, text)?;
     let mut steps = Steps::new();
-    kept::keep(&target, &change, &mut steps)?;
-    finish(
-        &target,
-        &change,
-        &change.new,
-        "has its new tree",
-        &mut steps,
-    )
+    let kept = kept::keep(&target, &change, &mut steps)?;
+    let written = target.write(&change.new, change.start, &mut steps);
+    written.map_err(|failure| failure.with_advice(kept::unfinished(path)))?;
+    finish(&target, &kept, "has its new tree", &mut steps)
 }
 
 /// Brings back the tree that the file had before an edit that was not finished.
 pub fn restore(path: &Path) -> Result<(), Failure> {
     let target = Target::open(path)?;
     let was_left = kept::remove_parts(&target);
-    let change = match kept::look_beside(&target)? {
+    let (change, kept) = match kept::look_beside(&target)? {
         Beside::Nothing => return nothing_to_restore(&target, was_left),
         Beside::Strange(reason) => return Err(not_restored(&target, &reason)),
-        Beside::Kept(change) => change,
+        Beside::Kept(change, kept) => (change, kept),
     };
     if let Some(reason) = why_unfit(&change, &target)? {
         return Err(not_restored(&target, &reason));
     }
-    finish(
-        &target,
-        &change,
-        &change.old,
-        "has its old tree",
-        &mut Steps::new(),
-    )
+    let mut steps = Steps::new();
+    let written = target.write(&change.old, change.start, &mut steps);
+    written.map_err(|failure| {
+        let (file, kept) = (target.shown(), shown(&kept::path_for(&target)));
+        failure.with_advice(format_args!(
+            "{file} may be half edited, and its old tree is still in {kept}; \
+             restore it when {file} can be written"
+        ))
+    })?;
+    finish(&target, &kept, "has its old tree", &mut steps)
 }
 
 /// Moves what has the name of the kept room out of the way, unless the file is half edited and can be restored. Returns its path
@@ -61,9 +61,15 @@ pub fn set_aside(path: &Path) -> Result<[PathBuf; 2], Failure> {
                 "nothing to set aside: there is no {kept}"
             )));
         }
-        Beside::Kept(change) => settle(&change, &target)?,
-        Beside::Strange(_) => target.sync()?,
+        Beside::Kept(change, _) => settle(&change, &target),
+        Beside::Strange(_) => target.sync().inspect(|()| {
+            note(format_args!(
+                "this does not say whether {} is half edited; look at it before you edit it",
+                target.shown()
+            ));
+        }),
     }
+    .map_err(|failure| failure.with_advice(format_args!("{} was not moved", shown(&kept))))?;
     Ok([kept, kept::set_aside(&target)?])
 }
 
@@ -76,10 +82,8 @@ fn settle(change: &Change, target: &Target) -> Result<(), Failure> {
     let room = kept::present_room(change, target)?;
     if room != change.old && room != change.new {
         return Err(Failure::not_done(format!(
-            "{file} is half edited and can be restored, so {kept} was not moved; \
-             run `asdf-layout restore {name}`",
+            "{file} is half edited and can be restored; run `asdf-layout restore {name}`",
             file = target.shown(),
-            kept = shown(&kept::path_for(target)),
             name = quoted(&target.given)
         )));
     }
@@ -114,7 +118,7 @@ fn refuse_unfinished(target: &Target) -> Result<(), Failure> {
     let sentence = match kept::look_beside(target)? {
         Beside::Nothing => return Ok(()),
         Beside::Strange(reason) => unused(reason),
-        Beside::Kept(change) => match why_unfit(&change, target)? {
+        Beside::Kept(change, _) => match why_unfit(&change, target)? {
             Some(reason) => unused(reason),
             None if kept::present_room(&change, target)? == change.new => format!(
                 "it has the whole new tree of the last edit, but {kept} was not removed; \
@@ -169,17 +173,9 @@ fn about_text(refusal: Refusal, text: &Source, room: usize) -> Option<String> {
     ))
 }
 
-/// Writes the room to the file, then removes the kept room. `holds` says what the file has then.
-fn finish(
-    target: &Target,
-    change: &Change,
-    room: &[u8],
-    holds: &str,
-    steps: &mut Steps,
-) -> Result<(), Failure> {
-    let written = target.write(room, change.start, steps);
-    written.map_err(|failure| failure.with_advice(kept::unfinished(&target.given)))?;
-    kept::remove(target, holds, steps)?;
+/// Removes the kept room of a file that is whole. `holds` says what the file has.
+fn finish(target: &Target, kept: &File, holds: &str, steps: &mut Steps) -> Result<(), Failure> {
+    kept::remove(target, kept, holds, steps)?;
     match target.is_named() {
         true => Ok(()),
         false => Err(Failure::not_done(format!(
@@ -217,9 +213,6 @@ fn not_restored(target: &Target, reason: &str) -> Failure {
 
 /// Says why the old room does not fit the file as it is now, if it does not.
 fn why_unfit(change: &Change, target: &Target) -> Result<Option<String>, Failure> {
-    if let Some(reason) = kept::why_other_file(change, target) {
-        return Ok(Some(reason));
-    }
     let mut bytes = target.bytes()?;
     let file = bytes
         .lend()

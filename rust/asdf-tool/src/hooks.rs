@@ -6,7 +6,7 @@ use std::io;
 use std::path::Path;
 use std::process;
 use std::thread::sleep;
-use std::time::Duration;
+use std::time::{Duration, Instant};
 
 /// The environment variable that says what happens at which step, such as `stop 3`.
 const HOOK: &str = "ASDF_LAYOUT_HOOK";
@@ -73,11 +73,15 @@ fn parse(asked: &str) -> Option<(Event, u32)> {
     Some((event, step.parse().ok()?))
 }
 
-/// Says that it waits, and waits.
+/// Says that it waits, and waits. If the test is gone, it ends after a while.
 fn wait() {
     note("waiting for a test");
     let go = env::var_os(GO).unwrap_or_default();
+    let begun = Instant::now();
     while !Path::new(&go).exists() {
+        if begun.elapsed() > Duration::from_secs(60) {
+            process::abort();
+        }
         sleep(Duration::from_millis(1));
     }
 }

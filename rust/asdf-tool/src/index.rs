@@ -12,6 +12,8 @@ use std::path::Path;
 pub fn print_verdict(file: &Path) -> Result<(), Stop> {
     let source = Source::file(file)?;
     let layout = source.accepted(Layout::read(&source))?;
+    // The file can be edited while somebody reads the verdict.
+    drop(source);
     let verdict = words::verdict(layout.index);
     Output::print(format!("{verdict}\n").as_bytes())
 }

@@ -5,7 +5,7 @@
 //! folder took it away. What is found under that name may also be a stranger's, so it is believed only if nobody but the
 //! caller, the file's owner or root can have written it.
 
-use crate::change::{self, Change};
+use crate::change::{self, Change, Stated};
 use crate::digest::Digest;
 use crate::failure::Failure;
 use crate::names::{quoted, shown};
@@ -47,8 +47,8 @@ const ROOT: u32 = 0;
 /// What has the name of a kept room.
 pub enum Beside {
     Nothing,
-    /// It can be believed. Whether it fits the file is not known yet.
-    Kept(Box<Change>),
+    /// It can be believed, and is about a file with this inode and length. Whether it fits the file is not known yet.
+    Kept(Box<Change>, File),
     /// It cannot be believed, for this reason, which follows its name in a sentence.
     Strange(String),
 }
@@ -128,11 +128,14 @@ pub fn look_beside(target: &Target) -> Result<Beside, Failure> {
     let judged = opened.and_then(
         |(metadata, file)| match why_not_believed(&metadata, target) {
             Some(reason) => Ok(Beside::Strange(reason)),
-            None => read(file),
+            None => read(file, target),
         },
     );
     Ok(judged.unwrap_or_else(|error| {
         Beside::Strange(match error.kind() {
+            ErrorKind::PermissionDenied if found.uid() == caller() => {
+                "cannot be read, although it is yours; `chmod 600` lets you".to_string()
+            }
             ErrorKind::PermissionDenied => {
                 format!("belongs to {}, who can restore the old tree", owner(&found))
             }
@@ -178,58 +181,75 @@ fn is_writable_by_others(found: &Metadata) -> bool {
 fn owner(file: &Metadata) -> String {
     let user = file.uid();
     match name_of(user) {
-        Some(name) => shown(Path::new(&name)),
-        None => format!("user {user}"),
+        Some(name) => format!("the user {}", shown(Path::new(&name))),
+        None => format!("the user {user}"),
     }
 }
 
-/// Reads a kept room as a whole, once, and judges what was read. A file that has another length than its first lines state is not
-/// read further, because it may be so long that there is no memory for it.
-fn read(file: File) -> io::Result<Beside> {
+/// Reads a kept room as a whole, once, and judges what was read. Its lines are judged first: a file that is about another one, or has
+/// another length than its lines state, is not read further, because it may be so long that there is no memory for it.
+fn read(file: File, target: &Target) -> io::Result<Beside> {
+    let damaged =
+        || Beside::Strange("is damaged, or another version of this tool wrote it".to_string());
     let length = file.metadata()?.len();
-    let mut stored = Vec::new();
-    (&file).take(MOST_LINES).read_to_end(&mut stored)?;
-    if Change::stored_length(&stored) == Some(length) {
-        file.take(length - stored.len() as u64)
-            .read_to_end(&mut stored)?;
+    let mut start = Vec::new();
+    (&file).take(MOST_LINES).read_to_end(&mut start)?;
+    let Some(stated) = Stated::read(&start) else {
+        return Ok(damaged());
+    };
+    if let Some(reason) = why_other_file(&stated, target) {
+        return Ok(Beside::Strange(reason));
     }
-    let change = Change::parse(&stored);
-    // A room that is not inside the file belongs to no edit of it.
-    let change = change.filter(|change| change.room().end as u64 <= change.length);
-    Ok(match change {
-        Some(change) => Beside::Kept(Box::new(change)),
-        None => Beside::Strange("is damaged, or another version of this tool wrote it".to_string()),
-    })
+    let rooms = (stated.room.len() as u64).saturating_mul(2);
+    let is_possible = stated.room.end as u64 <= target.metadata().len()
+        && length == rooms.saturating_add(stated.lines.len() as u64);
+    if !is_possible {
+        return Ok(damaged());
+    }
+    let rest = start.split_off(stated.lines.len());
+    let (old, new) = read_rooms(rest, &file, stated.room.len())?;
+    let change = Change::stored(&stated, old, new);
+    Ok(change.map_or_else(damaged, |change| Beside::Kept(Box::new(change), file)))
 }
 
-/// Says why a kept room does not belong to the file as it is, if that is so.
-pub fn why_other_file(change: &Change, target: &Target) -> Option<String> {
-    let now = target.metadata();
-    let device = match change.device == now.dev() {
+/// Reads two rooms of this length. Some bytes of them were read before.
+fn read_rooms(before: Vec<u8>, file: &File, length: usize) -> io::Result<(Vec<u8>, Vec<u8>)> {
+    let mut old = before;
+    let mut new = old.split_off(length.min(old.len()));
+    for room in [&mut old, &mut new] {
+        let missing = length.saturating_sub(room.len());
+        room.reserve_exact(missing);
+        file.take(missing as u64).read_to_end(room)?;
+    }
+    Ok((old, new))
+}
+
+/// Says why a kept room is not about the file as it is, if that is so.
+fn why_other_file(stated: &Stated, target: &Target) -> Option<String> {
+    let [inode, device, length] = stated.numbers;
+    let (file, now) = (target.shown(), target.metadata());
+    let device = match device == now.dev() {
         true => "",
         false => ", perhaps on another device",
     };
-    if change.inode != now.ino() {
+    if inode != now.ino() {
         return Some(format!(
-            "was kept for another file{device}, with the inode {}; {} has the inode {}",
-            change.inode,
-            target.shown(),
+            "was kept for another file{device}, with the inode {inode}; {file} has the inode {}",
             now.ino()
         ));
     }
-    if change.length != now.len() {
+    if length != now.len() {
         return Some(format!(
-            "was kept for a file of {} bytes, and {} has {} now",
-            change.length,
-            target.shown(),
+            "was kept for a file of {length} bytes, and {file} has {} now",
             now.len()
         ));
     }
     None
 }
 
-/// Keeps the old room of a file. When this returns without a failure, it is on the disk under its name.
-pub fn keep(target: &Target, change: &Change, steps: &mut Steps) -> Result<(), Failure> {
+/// Keeps the old room of a file, and returns the file that holds it. When this returns without a failure, it is on the disk under
+/// its name.
+pub fn keep(target: &Target, change: &Change, steps: &mut Steps) -> Result<File, Failure> {
     let kept = with_suffix(&target.name(), SUFFIX);
     remove_parts(target);
     let failed = |error| not_kept(target, error);
@@ -245,7 +265,13 @@ pub fn keep(target: &Target, change: &Change, steps: &mut Steps) -> Result<(), F
         let _ = target.folder.remove(&kept);
         failed(error)
     })?;
-    check_name(target, &kept, &written).map_err(failed)
+    match has_name(target, &kept, &written).map_err(failed)? {
+        true => Ok(written),
+        false => Err(failed(io::Error::new(
+            ErrorKind::AlreadyExists,
+            "another program removed or replaced it at once",
+        ))),
+    }
 }
 
 /// Reports that the old room cannot be kept, so that the edit was not made.
@@ -256,6 +282,9 @@ fn not_kept(target: &Target, error: io::Error) -> Failure {
              copy the file to one, and edit the copy",
         ),
         ErrorKind::Unsupported => Some("copy the file to another file system, and edit the copy"),
+        ErrorKind::ResourceBusy => {
+            Some("remove them, or copy the file to another folder and edit the copy")
+        }
         ErrorKind::AlreadyExists => Some("edit again"),
         _ => None,
     };
@@ -275,20 +304,20 @@ pub fn remove_parts(target: &Target) -> bool {
 
 /// Whether an edit wrote what has this name. Whatever somebody else put there is left alone.
 fn is_part(target: &Target, part: &OsStr) -> bool {
-    let begins_right = |file: File| {
-        let mut start = Vec::new();
-        let title = change::TITLE.as_bytes();
-        file.take(title.len() as u64)
-            .read_to_end(&mut start)
-            .is_ok()
-            && title.starts_with(&start)
-    };
     let Ok(Some(found)) = target.folder.look_at(part) else {
         return false;
     };
-    let is_possible = found.metadata().is_ok_and(|found| {
-        found.is_file() && is_trusted(&found, target) && !is_writable_by_others(&found)
-    });
+    let Ok(found) = found.metadata() else {
+        return false;
+    };
+    let is_private = found.mode() & 0o777 == MODE;
+    let is_possible = found.is_file() && is_trusted(&found, target) && is_private;
+    let begins_right = |file: File| {
+        let mut start = Vec::new();
+        let title = change::TITLE.as_bytes();
+        let read = file.take(title.len() as u64).read_to_end(&mut start);
+        read.is_ok() && (start.is_empty() || start == title)
+    };
     is_possible && target.folder.open_to_read(part).is_ok_and(begins_right)
 }
 
@@ -303,17 +332,20 @@ fn write_part(target: &Target, change: &Change, steps: &mut Steps) -> io::Result
 
 /// Makes a new file for the kept room, under the first name that is free.
 fn create_part(target: &Target, steps: &mut Steps) -> io::Result<(OsString, File)> {
-    let mut result = Err(ErrorKind::AlreadyExists.into());
     for suffix in PART_SUFFIXES {
         let part = with_suffix(&target.name(), suffix);
-        let created = steps.run(|| target.folder.create(&part, MODE));
-        result = created.map(|file| (part, file));
-        match &result {
+        match steps.run(|| target.folder.create(&part, MODE)) {
             Err(error) if error.kind() == ErrorKind::AlreadyExists => (),
-            _ => break,
+            created => return created.map(|file| (part, file)),
         }
     }
-    result
+    let part = with_suffix(&target.name(), PART_SUFFIXES[0]);
+    let found = target.folder.look_at(&part).ok().flatten();
+    let found = found.and_then(|found| found.metadata().ok());
+    let owner = found.map_or("somebody".to_string(), |found| owner(&found));
+    let part = shown(&target.beside(&part));
+    let reason = format!("{part}, which belongs to {owner}, and three others are in the way");
+    Err(io::Error::new(ErrorKind::ResourceBusy, reason))
 }
 
 /// Writes the kept room into its file.
@@ -332,34 +364,31 @@ fn fill_part(target: &Target, change: &Change, file: &File, steps: &mut Steps) -
     steps.run(|| file.sync_all())
 }
 
-/// Makes sure that the name is that of the file that was written, and not of one that somebody else put there.
-fn check_name(target: &Target, name: &OsStr, written: &File) -> io::Result<()> {
+/// Whether the name is that of this file, and not of one that somebody else put there.
+fn has_name(target: &Target, name: &OsStr, file: &File) -> io::Result<bool> {
     let named = target.folder.look_at(name)?;
-    let is_ours = match named {
-        Some(named) => is_same(&named.metadata()?, &written.metadata()?),
-        None => false,
-    };
-    match is_ours {
-        true => Ok(()),
-        false => Err(io::Error::new(
-            ErrorKind::AlreadyExists,
-            "another program removed or replaced it at once",
-        )),
-    }
+    let named = named.map(|named| named.metadata()).transpose()?;
+    let file = file.metadata()?;
+    Ok(named.is_some_and(|named| is_same(&named, &file)))
 }
 
 /// Removes the kept room of a file that is whole again. `holds` says what the file has now.
-pub fn remove(target: &Target, holds: &str, steps: &mut Steps) -> Result<(), Failure> {
-    let kept = path_for(target);
-    let file = target.shown();
-    let removed = steps.run(|| target.folder.remove(&with_suffix(&target.name(), SUFFIX)));
+pub fn remove(target: &Target, kept: &File, holds: &str, steps: &mut Steps) -> Result<(), Failure> {
+    let name = with_suffix(&target.name(), SUFFIX);
+    let (path, file) = (path_for(target), target.shown());
+    // Another edit may have begun, if the file was replaced meanwhile. Its old room is not ours to remove.
+    let is_ours = has_name(target, &name, kept);
+    let removed = is_ours.and_then(|is_ours| match is_ours {
+        true => steps.run(|| target.folder.remove(&name)),
+        false => Err(io::Error::other("another program removed or replaced it")),
+    });
     removed.map_err(|error| {
-        let failure = Failure::at("cannot remove", &kept, error);
+        let failure = Failure::at("cannot remove", &path, error);
         failure.with_advice(format_args!("{file} {holds}; {}", way_out(target)))
     })?;
     let safe = steps.run(|| target.folder.sync(&target.file));
     safe.map_err(|error| {
-        let kept = shown(&kept);
+        let kept = shown(&path);
         let failure = Failure::system(
             format_args!("{kept} was removed, but perhaps not on the disk"),
             error,

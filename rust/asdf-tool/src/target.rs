@@ -8,7 +8,7 @@ use crate::steps::Steps;
 use asdf_system::{Filled, Folder};
 use std::ffi::{OsStr, OsString};
 use std::fs::{self, File, Metadata, TryLockError};
-use std::io;
+use std::io::{self, ErrorKind};
 use std::os::unix::fs::{FileExt, MetadataExt};
 use std::path::{Path, PathBuf};
 
@@ -31,7 +31,11 @@ pub struct Target {
 impl Target {
     /// Opens a file, and waits until no other call of this tool is reading or editing it.
     pub fn open(given: &Path) -> Result<Target, Failure> {
-        let failed = |error| Failure::at("cannot open", given, error);
+        let failed = |error: io::Error| {
+            let advice = (error.kind() == ErrorKind::PermissionDenied)
+                .then_some("only somebody who may write to the file can do this");
+            Failure::at("cannot open", given, error).with_advice_if(advice)
+        };
         let path = fs::canonicalize(given).map_err(failed)?;
         let irregular = || {
             let name = shown(given);

@@ -216,10 +216,12 @@ fn what_was_left_before_the_file_changed_is_removed() {
 
     // What somebody else has under that name is left alone, and is no obstacle.
     type Make = fn(&Case, &Path);
-    let strange: [Make; 4] = [
+    let strange: [Make; 5] = [
         |case, part| symlink(&case.text, part).unwrap(),
         |_, part| fs::create_dir(part).unwrap(),
         |_, part| fs::write(part, "precious").unwrap(),
+        // This begins like a kept room, but is not one.
+        |_, part| fs::write(part, "asdf").unwrap(),
         |_, part| {
             let made = Command::new("mkfifo").arg(part).status().unwrap();
             assert!(made.success());
@@ -239,6 +241,41 @@ fn what_was_left_before_the_file_changed_is_removed() {
             .unwrap();
         case.assert_nothing_beside();
     }
+}
+
+#[test]
+fn names_that_are_all_taken_are_told() {
+    let case = Case::new("interrupted-taken");
+    let suffixes = [".part", ".pt-2", ".pt-3", ".pt-4"].map(|end| format!(".old-room{end}"));
+    for suffix in &suffixes {
+        assert_eq!(case.edit(), SILENT);
+        case.reset();
+        fs::write(case.beside(suffix), "precious").unwrap();
+    }
+    let ran = case.edit();
+    assert_eq!((ran.status, case.state()), (Some(2), State::Old));
+    ran.assert_says("file.asdf.old-room.part, which belongs to the user ");
+    ran.assert_says("and three others are in the way; the file was not changed; remove them, or ");
+    for suffix in &suffixes {
+        assert_eq!(fs::read(case.beside(suffix)).unwrap(), b"precious");
+    }
+}
+
+#[test]
+fn kept_room_of_another_edit_is_not_removed() {
+    let case = Case::new("interrupted-another");
+    let half = case.first_step_to(State::KeptHalf);
+    let child = case.edit_waiting_after(half);
+    fs::rename(case.kept(), case.beside(".aside")).unwrap();
+    fs::write(case.kept(), "of another edit").unwrap();
+    let (status, errors) = case.let_go(child);
+    assert_eq!((status, case.state()), (Some(2), State::KeptNew));
+    assert!(
+        errors.contains("another program removed or replaced it"),
+        "{errors}"
+    );
+    assert!(errors.contains("has its new tree; "), "{errors}");
+    assert_eq!(fs::read(case.kept()).unwrap(), b"of another edit");
 }
 
 #[test]

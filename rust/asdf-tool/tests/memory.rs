@@ -7,7 +7,7 @@ use std::fs::{self, File};
 use std::io::{Read, Write};
 use std::path::Path;
 use std::process::{Child, Command, Stdio};
-use std::time::{Duration, Instant};
+use std::time::Duration;
 
 /// How often the file holds a file of three levels.
 const TIMES: usize = 4;
@@ -18,7 +18,7 @@ const REST: usize = 64 << 20;
 
 /// What the system counts of a process that has ended: 18 numbers.
 type Usage = [i64; 18];
-/// Which of these numbers is the peak of its memory, in KiB.
+/// Which of these numbers is the peak of its memory, in KiB. Before it come two times, each in seconds and microseconds.
 const PEAK: usize = 4;
 
 extern "C" {
@@ -48,15 +48,16 @@ fn count(mut output: impl Read, mark: u8) -> usize {
     }
 }
 
-/// Waits until a call has ended well, and returns how many bytes of memory it took at its peak.
-fn peak(child: Child) -> usize {
+/// Waits until a call has ended well, and returns how many bytes of memory it took at its peak, and its time on a processor.
+fn ended(child: Child) -> (usize, Duration) {
     let (mut status, mut usage) = (-1, Usage::default());
     let process = child.id() as i32;
-    // SAFETY: both variables live through the call, and the second has the 18 numbers of 8 bytes that
-    // x86-64 Linux writes into it.
+    // SAFETY: both live through the call, and the second has the 18 numbers of 8 bytes that x86-64 Linux writes there.
     let ended = unsafe { wait4(process, &mut status, 0, &mut usage) };
     assert_eq!((ended, status), (process, 0));
-    usage[PEAK] as usize * 1024
+    let seconds = Duration::from_secs((usage[0] + usage[2]) as u64);
+    let microseconds = Duration::from_micros((usage[1] + usage[3]) as u64);
+    (usage[PEAK] as usize * 1024, seconds + microseconds)
 }
 
 #[test]
@@ -80,7 +81,7 @@ fn million_rows_take_no_memory_but_that_of_their_records() {
         let mut child = command(words).stdout(Stdio::piped()).spawn().unwrap();
         let output = child.stdout.take().unwrap();
         assert_eq!(count(output, mark), marks, "{words:?}");
-        let peak = peak(child);
+        let (peak, _) = ended(child);
         assert!(peak < most, "{words:?} takes {peak} bytes of {most}");
     }
     fs::remove_dir_all(folder).unwrap();
@@ -158,17 +159,16 @@ fn long_file_is_listed_without_reading_what_is_not_needed() {
     let folder = folder("memory-long");
     let path = folder.join("file");
     long_file(&path);
-    // Other programs may run at the same time, so the best of some runs counts.
+    // Other programs may run at the same time, so the time on a processor counts, and the best of some runs.
     let mut best = Duration::MAX;
-    for _ in 0..10 {
-        let begun = Instant::now();
+    for _ in 0..5 {
         let mut child = command(&["list", "--plain", word(&path)])
             .stdout(Stdio::piped())
             .spawn()
             .unwrap();
         assert_eq!(count(child.stdout.take().unwrap(), b'\n'), 502);
-        let peak = peak(child);
-        best = best.min(begun.elapsed());
+        let (peak, time) = ended(child);
+        best = best.min(time);
         assert!(peak < 64_000_000, "{peak} bytes");
     }
     assert!(best < Duration::from_millis(50), "{best:?}");

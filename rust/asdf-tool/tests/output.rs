@@ -229,7 +229,7 @@ fn file_can_be_edited_while_its_listing_waits_for_a_reader() {
     let mut edit = command(&["edit", word(&path), word(&text)])
         .spawn()
         .unwrap();
-    let ended = (0..100).find_map(|_| {
+    let ended = (0..1_200).find_map(|_| {
         thread::sleep(Duration::from_millis(50));
         edit.try_wait().unwrap()
     });

@@ -79,6 +79,29 @@ fn another_night_under_the_same_name_does_not_get_the_old_tree() {
 }
 
 #[test]
+fn old_room_can_be_put_back_by_hand_as_the_documents_say() {
+    let case = Case::new("strangers-by-hand");
+    case.stop_in(State::KeptHalf);
+    // Both are copied, so the copy of the file has another inode.
+    case.replace(&case.bytes());
+    case.restore().assert_says("was kept for another file");
+    let using = fs::read_to_string(format!("{DATA}/../../docs/USING.md")).unwrap();
+    let lines = using.split("```").find(|part| part.contains("tail -n +8"));
+    let lines = lines
+        .unwrap()
+        .trim_start_matches("sh")
+        .replace("FILE", "file.asdf");
+    let folder = case.file.parent().unwrap();
+    let ran = Command::new("bash")
+        .args(["-euc", &lines])
+        .current_dir(folder)
+        .output()
+        .unwrap();
+    assert!(ran.status.success(), "{ran:?}");
+    assert_eq!(case.state(), State::KeptOld);
+}
+
+#[test]
 fn another_night_in_the_same_inode_does_not_get_the_old_tree() {
     let case = Case::new("strangers-inode");
     case.stop_in(State::KeptHalf);
@@ -134,7 +157,7 @@ fn half_edited_file_that_can_be_restored_is_not_set_aside() {
     case.stop_in(State::KeptHalf);
     let ran = case.set_aside();
     assert_eq!((ran.status, case.state()), (Some(2), State::KeptHalf));
-    ran.assert_says("is half edited and can be restored, so ");
+    ran.assert_says("is half edited and can be restored; run ");
     case.stop_in(State::KeptNew);
     assert_eq!(
         (case.set_aside().status, case.state()),
@@ -271,13 +294,43 @@ fn users_file_that_root_was_editing_is_left_to_root() {
     let half = case.bytes();
     let ran = run_as_other("", &["restore", word(&case.file)]);
     assert_eq!(ran.status, Some(2));
-    ran.assert_says("belongs to root, who can restore the old tree");
+    ran.assert_says("belongs to the user root, who can restore the old tree");
     assert!(case.bytes() == half);
     // Nobody may move it from this folder but root, and the message says so.
     let ran = run_as_other("", &["restore", "--set-aside", word(&case.file)]);
     assert_eq!(ran.status, Some(2));
-    ran.assert_says("it belongs to root, who can remove it; or copy ");
+    ran.assert_says("it belongs to the user root, who can remove it; or copy ");
     assert_eq!((case.restore(), case.state()), (SILENT, State::Old));
+}
+
+#[test]
+fn own_kept_room_that_cannot_be_read_is_told_as_such() {
+    if !may_act_as_other("a kept room without any rights") {
+        return;
+    }
+    let case = Case::new("strangers-rights");
+    case.stop_in(State::KeptHalf);
+    for path in [case.file.parent().unwrap(), &case.file, &case.kept()] {
+        chown(path, Some(OTHER_USER), None).unwrap();
+    }
+    fs::set_permissions(case.kept(), Permissions::from_mode(0o000)).unwrap();
+    let ran = run_as_other("", &["restore", word(&case.file)]);
+    assert_eq!((ran.status, case.state()), (Some(2), State::KeptHalf));
+    ran.assert_says("cannot be read, although it is yours; `chmod 600` lets you; ");
+    fs::set_permissions(case.kept(), Permissions::from_mode(0o600)).unwrap();
+    let ran = run_as_other("", &["restore", word(&case.file)]);
+    assert_eq!((ran, case.state()), (SILENT, State::Old));
+}
+
+#[test]
+fn file_that_may_not_be_written_is_told_as_such() {
+    if !may_act_as_other("a file that may not be written") {
+        return;
+    }
+    let case = Case::new("strangers-read-only");
+    let ran = run_as_other("", &case.edit_words());
+    assert_eq!((ran.status, case.state()), (Some(2), State::Old));
+    ran.assert_says("only somebody who may write to the file can do this");
 }
 
 #[test]
