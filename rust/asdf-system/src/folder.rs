@@ -3,7 +3,7 @@
 
 use crate::calls::*;
 use std::ffi::{c_int, c_uint, CString, OsStr};
-use std::fs::{File, OpenOptions};
+use std::fs::{File, Metadata, OpenOptions};
 use std::io::{
     self,
     ErrorKind::{InvalidInput, NotFound, PermissionDenied},
@@ -28,12 +28,12 @@ impl Folder {
         Ok(Folder { folder })
     }
 
-    /// Returns what has a name, so that its metadata can be asked for. It is not opened, so nothing happens to a pipe or a
-    /// device. Returns `None` if nothing has this name.
-    pub fn look_at(&self, name: &OsStr) -> io::Result<Option<File>> {
+    /// Returns the metadata of what has a name, or `None` if nothing has it. It is not opened, so nothing happens to a pipe or
+    /// a device.
+    pub fn look_at(&self, name: &OsStr) -> io::Result<Option<Metadata>> {
         match self.open_with(name, O_PATH, 0) {
             Err(error) if error.kind() == NotFound => Ok(None),
-            found => found.map(Some),
+            found => found?.metadata().map(Some),
         }
     }
 
@@ -172,7 +172,7 @@ mod tests {
         assert!(folder.create(OsStr::new("dangling"), 0o600).is_err());
         assert!(folder.open_to_read(OsStr::new("../links/a")).is_err());
         let link = folder.look_at(OsStr::new("dangling")).unwrap().unwrap();
-        assert!(link.metadata().unwrap().is_symlink());
+        assert!(link.is_symlink());
         assert!(folder.look_at(OsStr::new("none")).unwrap().is_none());
         fs::remove_dir_all(path).unwrap();
     }

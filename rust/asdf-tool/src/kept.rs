@@ -118,7 +118,6 @@ pub fn look_beside(target: &Target) -> Result<Beside, Failure> {
     let Some(found) = target.folder.look_at(&name).map_err(failed)? else {
         return Ok(Beside::Nothing);
     };
-    let found = found.metadata().map_err(failed)?;
     if let Some(reason) = why_not_believed(&found, target) {
         return Ok(Beside::Strange(reason));
     }
@@ -307,9 +306,6 @@ fn is_part(target: &Target, part: &OsStr) -> bool {
     let Ok(Some(found)) = target.folder.look_at(part) else {
         return false;
     };
-    let Ok(found) = found.metadata() else {
-        return false;
-    };
     let is_private = found.mode() & 0o777 == MODE;
     let is_possible = found.is_file() && is_trusted(&found, target) && is_private;
     let begins_right = |file: File| {
@@ -341,7 +337,6 @@ fn create_part(target: &Target, steps: &mut Steps) -> io::Result<(OsString, File
     }
     let part = with_suffix(&target.name(), PART_SUFFIXES[0]);
     let found = target.folder.look_at(&part).ok().flatten();
-    let found = found.and_then(|found| found.metadata().ok());
     let owner = found.map_or("somebody".to_string(), |found| owner(&found));
     let part = shown(&target.beside(&part));
     let reason = format!("{part}, which belongs to {owner}, and three others are in the way");
@@ -367,7 +362,6 @@ fn fill_part(target: &Target, change: &Change, file: &File, steps: &mut Steps) -
 /// Whether the name is that of this file, and not of one that somebody else put there.
 fn has_name(target: &Target, name: &OsStr, file: &File) -> io::Result<bool> {
     let named = target.folder.look_at(name)?;
-    let named = named.map(|named| named.metadata()).transpose()?;
     let file = file.metadata()?;
     Ok(named.is_some_and(|named| is_same(&named, &file)))
 }
@@ -408,7 +402,6 @@ pub fn set_aside(target: &Target) -> Result<PathBuf, Failure> {
     let failed = |error| {
         let failure = Failure::at("cannot move", &path_for(target), error);
         let found = target.folder.look_at(&kept).ok().flatten();
-        let found = found.and_then(|found| found.metadata().ok());
         failure.with_advice_if(found.map(|found| {
             let (owner, file) = (owner(&found), target.shown());
             format!(

@@ -91,14 +91,8 @@ fn set_aside(file: &Path) -> Result<(), Stop> {
         .map(|path| names::shown(&path))
         .into();
     let sentence = format!("{kept} is now {aside}");
-    Output::print(
-        format!(
-            "{sentence}
-"
-        )
-        .as_bytes(),
-    )
-    .map_err(|stop| stop.with_advice(&sentence))
+    let printed = Output::print(format!("{sentence}\n").as_bytes());
+    printed.map_err(|stop| stop.with_advice(&sentence))
 }
 
 /// Prints the rows of a stored outline.

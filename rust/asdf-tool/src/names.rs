@@ -33,11 +33,10 @@ pub fn quoted(path: &Path) -> String {
 
 /// Whether a character shows itself and nothing else.
 pub fn is_harmless(c: char) -> bool {
-    let is_invisible = matches!(c, '\u{AD}' | '\u{61C}' | '\u{FEFF}' | '\u{180E}');
     // Marks without a width, marks that change the direction of text, and ends of lines.
-    let is_unseen =
-        matches!(c, '\u{200B}'..='\u{200F}' | '\u{2028}'..='\u{202E}' | '\u{2060}'..='\u{206F}');
-    !c.is_control() && !is_invisible && !is_unseen
+    let is_unseen = matches!(c, '\u{AD}' | '\u{61C}' | '\u{180E}' | '\u{200B}'..='\u{200F}'
+        | '\u{2028}'..='\u{202E}' | '\u{2060}'..='\u{206F}' | '\u{FEFF}');
+    !c.is_control() && !is_unseen
 }
 
 /// Escapes what does not show itself, and each backslash. Bytes that are not UTF-8 are escaped too.

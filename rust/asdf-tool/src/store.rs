@@ -128,7 +128,6 @@ impl Out {
 /// Makes sure that the name is still that of the old file, which the user may write to.
 fn check_name(folder: &Folder, name: &OsStr, old: &Metadata) -> io::Result<()> {
     let found = folder.look_at(name)?;
-    let found = found.map(|found| found.metadata()).transpose()?;
     match found.is_some_and(|found| is_same(&found, old)) {
         true => Ok(()),
         false => Err(io::Error::other("another program has replaced it")),

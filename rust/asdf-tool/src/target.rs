@@ -49,8 +49,7 @@ impl Target {
         let folder = Folder::open(parent).map_err(failed)?;
         // Something else than a file is not opened, because that alone may have an effect.
         let found = folder.look_at(name).map_err(failed)?;
-        let is_file = |file: &File| file.metadata().is_ok_and(|metadata| metadata.is_file());
-        if found.is_some_and(|found| !is_file(&found)) {
+        if found.is_some_and(|found| !found.is_file()) {
             return Err(irregular());
         }
         let file = folder.open_to_change(name).map_err(failed)?;
