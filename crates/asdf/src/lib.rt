@@ -2,6 +2,8 @@
 // or the count that was asked for, or a refusal. A refusal has its number in the top byte and its place in the bytes
 // below, and changes no byte that was lent. If everything that is lent is shorter than 2^56 bytes in all, the returned
 // number can be read in only one way.
+#![tactic(auto)]
+
 ghost use Rattle.std.specs.Prelude.{◌≡◌, length};
 ghost use Rattle.format.specs.Outcome.{accepted, ◌>>◌ as Outcome·then};
 ghost use Rattle.format.specs.Answer.{edit_answer};

@@ -1,5 +1,7 @@
 // Exports both searches for a mark, so that other programs can compare and time them. The core does not depend on this
 // crate, and the core's static library contains nothing of it.
+#![tactic(auto)]
+
 ghost use Rattle.mark.specs.Mark.{MarkFound};
 
 // Returns where the first mark at or after an offset begins, or the end if there is none.

@@ -1,4 +1,6 @@
 // The blocks of a file: a block's header, the chain of blocks, and the tail after the last block.
+#![tactic(auto)]
+
 pub mod again;
 mod block;
 pub mod chain;

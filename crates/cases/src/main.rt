@@ -1,4 +1,6 @@
 // Prints the name and the listing of each file that an argument names.
+#![tactic(auto)]
+
 ghost use Rattle.std.specs.Prelude.{◌≡◌};
 ghost use Rattle.format.specs.Listing.{listing};
 

@@ -1,4 +1,6 @@
 // Checks the data of a block against the checksum in its header.
+#![tactic(auto)]
+
 ghost use Rattle.std.specs.Prelude.{◌+◌, ◌≤◌, ◌≡◌, length};
 ghost use Rattle.format.specs.Answer.{check_answer};
 ghost use Rattle.format.specs.Check.{states_md5, is_checksum, check_block, checked};

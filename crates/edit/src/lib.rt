@@ -1,4 +1,6 @@
 // Edits a file's tree in place.
+#![tactic(auto)]
+
 ghost use Rattle.std.specs.Prelude.{◌-◌, ◌≤◌, ◌++◌, ◌≡◌, length, replicate, leb};
 ghost use Rattle.std.proofs.lemmas.List.Edits.{sets};
 ghost use Rattle.format.specs.Promise.{Done};
@@ -63,7 +65,7 @@ fn fill(room: &mut [u8], text: &[u8])
     requires { length text.now ≤ length room.old }
     ensures { room.new ≡ text.now ++ replicate (length room.old - length text.now) 32 }
 {
-    bytes::copy(text, room);
+    octets::copy(text, room);
     put_spaces(room, text.len());
 }
 

@@ -1,4 +1,6 @@
 // The lists of numbers in which a file, a block and a row are reported.
+#![tactic(auto)]
+
 ghost use Rattle.std.specs.Prelude.{◌<◌, ◌≡◌};
 ghost use Rattle.format.specs.Bytes.{bit as Bytes·bit};
 ghost use Rattle.format.specs.Fields.{block_fields, layout_fields, line_end_number, record_fields, refusal_fields, row_fields, tree_fields, verdict_number};

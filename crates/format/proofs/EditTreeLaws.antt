@@ -132,7 +132,7 @@ treed_parts n p z f h begin size t one k y full short m room bs tail blocks v ju
       header_read = header_again p z _ f.header h.header_read first;
       comments_read = comments_kept f.header.end.0 p z _ first f.comments_end h.comments_read (omega arith) no-comment;
       tree_read = tree_read;
-      goes_on_lem = refl;
+      goes_on = refl;
       tail = tail;
       chain_read = rw (← room, treed_rest n p t k y size, room) blocks;
       judged = judged;

@@ -143,4 +143,4 @@ blocks_lie s i n (b ∷ bs) l h =
 pub file_lies : (s : Bytes) (f : File) → file s ≡ accepted f → taken f.blocks ≤ length s
 file_lies s f e =
     let order = in_order s f (file_parts s f e) in
-    omega (arith, blocks_lie s 0 (blocks_start f) f.blocks (omega (arith, order.blocks_start, order.tail_start_lem)) (file_blocks s f e))
+    omega (arith, blocks_lie s 0 (blocks_start f) f.blocks (omega (arith, order.blocks_start, order.tail_start)) (file_blocks s f e))

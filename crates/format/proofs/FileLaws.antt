@@ -24,7 +24,7 @@ pub record Parts (s : Bytes) (f : File) : Type 0 where
   pub header_read : header s ≡ accepted f.header
   pub comments_read : comments f.header.end.0 (lines (drop f.header.end.0 s)) ≡ accepted f.comments_end
   pub tree_read : tree f.comments_end s ≡ accepted f.tree
-  pub goes_on_lem : goes_on f.tree (drop f.comments_end s) ≡ true
+  pub goes_on : goes_on f.tree (drop f.comments_end s) ≡ true
   pub tail : Bytes
   pub chain_read : chain most_blocks 0 (blocks_start f) (drop (blocks_start f) s) ≡ accepted (record { blocks = f.blocks; tail = tail })
   pub judged : verdict (offsets f.blocks) tail ≡ f.verdict
@@ -39,13 +39,13 @@ file_parts s f =
     λ h header_read. accepts_bind _ (comments h.end.0 (lines (drop h.end.0 s))) _
     λ n comments_read. accepts_bind _ (tree n s) _
     λ t tree_read. accepts_need _ (goes_on t (drop n s)) 7 n _
-    λ goes_on_lem. accepts_bind _ (chain most_blocks 0 (first_block n t) (drop (first_block n t) s)) _
+    λ goes-on. accepts_bind _ (chain most_blocks 0 (first_block n t) (drop (first_block n t) s)) _
     λ c chain_read. record {
       short = short;
       header_read = header_read;
       comments_read = comments_read;
       tree_read = tree_read;
-      goes_on_lem = goes_on_lem;
+      goes_on = goes-on;
       tail = c.tail;
       chain_read = chain_read;
       judged = refl;
@@ -59,9 +59,9 @@ parts_file s f h = rw (h.short, h.header_read, h.comments_read, h.tree_read, h.g
 -- The parts of a file end one after another, and within the file.
 pub record InOrder (s : Bytes) (f : File) : Type 0 where
   pub header_end : f.header.end.0 ≤ f.comments_end
-  pub comments_end_lem : f.comments_end ≤ blocks_start f
-  pub blocks_start_lem : blocks_start f ≤ tail_start f
-  pub tail_start_lem : tail_start f ≤ length s
+  pub comments_end : f.comments_end ≤ blocks_start f
+  pub blocks_start : blocks_start f ≤ tail_start f
+  pub tail_start : tail_start f ≤ length s
 
 module _ (s : Bytes) (f : File) (h : Parts s f) where
   -- The parts of an accepted file are in order.

@@ -109,6 +109,8 @@ unpacked_above (w ∷ ws) q x =
 pub unpacked_packed : (ws fs : List ℕ) → Fits ws fs → unpacked ws (packed ws fs) ≡ fs
 unfolding packed unpacked
 unpacked_packed [] [] h = refl
+unpacked_packed [] (x ∷ fs) h = elim h [ ]
+unpacked_packed (w ∷ ws) [] h = elim h [ ]
 unpacked_packed (w ∷ ws) (x ∷ fs) h =
     let first : (x % 2 ^ w * 2 ^ sum ws + packed ws fs) / 2 ^ sum ws ≡ x % 2 ^ w = high (x % 2 ^ w) (sum ws) (packed_lt ws fs) in
     rw (unpacked_above ws (x % 2 ^ w) (packed ws fs), first, mod-mod, mod-eq_of_lt h.0, unpacked_packed ws fs h.1)

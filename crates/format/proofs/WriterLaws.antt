@@ -49,14 +49,14 @@ parts_again p z y f h size m t short =
     let free = rw (drop-append-le start p z third) at (start_free f.comments_end (p ++ z) f.tree h.tree_read h.goes_on) in
     let marked = blocks_begin most_blocks 0 start _ (drop start p) z chain_read blocks_end m free y in
     let tree_read = tree_kept f.comments_end p z y second f.tree h.tree_read third marked in
-    let goes_on_lem = goes_on_marked f.comments_end p y f.tree second marked in
-    let no-comment = goes_on_no_comment f.comments_end (p ++ y) f.tree tree_read goes_on_lem in
+    let goes-on = goes_on_marked f.comments_end p y f.tree second marked in
+    let no-comment = goes_on_no_comment f.comments_end (p ++ y) f.tree tree_read goes-on in
     record {
       short = le-leb _ _ short;
       header_read = header_again p z y f.header h.header_read first;
       comments_read = comments_kept f.header.end.0 p z y first f.comments_end h.comments_read second no-comment;
       tree_read = tree_read;
-      goes_on_lem = goes_on_lem;
+      goes_on = goes-on;
       tail = y;
       chain_read = rw (drop-append-le start p y third) blocks;
       judged = refl;
@@ -69,7 +69,7 @@ pub file_again : (s : Bytes) (f : File) → file s ≡ accepted f → may_have_i
 file_again s f e m y t short =
     let parts = file_parts s f e in
     let p = take (tail_start f) s in
-    let size : tail_start f ≡ length p = sym (length-take-le (tail_start f) s (in_order s f parts).tail_start_lem) in
+    let size : tail_start f ≡ length p = sym (length-take-le (tail_start f) s (in_order s f parts).tail_start) in
     parts_file (p ++ y) _ (parts_again p (drop (tail_start f) s) y f (rw take-append-drop parts) size m t short)
 
 -- If blocks end within a file, no offset of theirs is after the end of the file.

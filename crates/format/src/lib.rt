@@ -1,4 +1,6 @@
 // The types of every answer about an ASDF file. The meaning of the file format is in specs/.
+#![tactic(auto)]
+
 pub mod answer;
 pub mod block;
 pub mod layout;

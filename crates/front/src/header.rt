@@ -44,12 +44,12 @@ fn read_version(t: &[u8]) -> VersionStep
     ensures { version_found result ≡ version t.now }
 {
     let n = t.len();
-    let first = bytes::scan::find(t, 0, n, b'.');
+    let first = octets::find(t, 0, n, b'.');
     if first == n {
         return VersionStep::Malformed;
     }
     let from = first + 1;
-    let second = bytes::scan::find(t, from, n, b'.');
+    let second = octets::find(t, from, n, b'.');
     if second == n {
         return VersionStep::Malformed;
     }

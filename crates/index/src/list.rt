@@ -18,7 +18,7 @@ pub(crate) fn judge_list(list: &[u8], offsets: &[u64]) -> Verdict
     let mut k = 0;
     let mut equal = true;
     loop {
-        let end = bytes::scan::find(list, at, n, b',');
+        let end = octets::find(list, at, n, b',');
         let Number::Value(x) = number::numeral(spaces::trim(&list[at..end]), 10) else {
             return Verdict::IgnoredForm;
         };

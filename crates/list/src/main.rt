@@ -1,4 +1,6 @@
 // The program: prints the listing of the file that it reads from standard input. It takes up to 65,536 bytes.
+#![tactic(auto)]
+
 ghost use Rattle.std.specs.Prelude.{◌≡◌};
 ghost use Rattle.format.specs.Listing.{listing};
 

@@ -1,4 +1,6 @@
 // The listing of a file: the whole text that the program prints.
+#![tactic(auto)]
+
 mod text;
 
 ghost use Rattle.std.specs.Prelude.{◌≤◌, length};

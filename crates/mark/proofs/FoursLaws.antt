@@ -12,7 +12,8 @@ use lib.Seq.{get_or-drop}
 use lib.Bits.{bit_or, or_add_and, and_le_l, and_le_r}
 use lib.Dec.{eqb}
 use borrow.Author.Tests.{eqb-true, eqb-false, not-true}
-use Rattle.bytes.specs.Bytes.{index_of, index_after, slice}
+use Rattle.octets.specs.Octets.{index_of, index_after}
+use Rattle.std.proofs.Math.Seq.{slice}
 use Rattle.format.specs.Bytes.{Bytes, begins}
 use Rattle.format.specs.Tree.{mark, free_space}
 use Rattle.format.proofs.ByteLaws.{begins_true}

@@ -109,7 +109,7 @@ fn in_four(t: &[u8], i: usize) -> usize
     requires { i + 4 ≤ length t.now }
     ensures { FirstIn t.now i result }
 {
-    let back = bytes::scan::find(b"\xD3BLK", 0, 4, t[i + 3]);
+    let back = octets::find(b"\xD3BLK", 0, 4, t[i + 3]);
     if back == 4 {
         return i + 4;
     }

@@ -1,5 +1,7 @@
 // The search for a block's mark, by fours. There is also a plain search with the same promise, with which the search by
 // fours is compared.
+#![tactic(auto)]
+
 mod fours;
 mod plain;
 

@@ -30,8 +30,8 @@ pub(crate) fn joined(a: &[u8], b: &[u8]) -> [u8; 64]
     ensures { result ≡ in_block (a.now ++ b.now) }
 {
     let mut out = [0u8; 64];
-    let n = bytes::copy(a, &mut out);
-    bytes::copy(b, &mut out[n..]);
+    let n = octets::copy(a, &mut out);
+    octets::copy(b, &mut out[n..]);
     out
 }
 

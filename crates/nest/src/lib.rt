@@ -1,4 +1,6 @@
 // The files inside blocks: how many blocks there are in all, their outline and their records, in walking order.
+#![tactic(auto)]
+
 mod walk;
 
 ghost use Rattle.std.specs.Prelude.{◌≤◌, ◌≡◌, length, take};

@@ -1,3 +1,5 @@
 // Outlines: writing a row as sixteen bytes, reading it back, and reading stored outlines.
+#![tactic(auto)]
+
 pub mod row;
 pub mod stored;

@@ -1,4 +1,6 @@
 // Functions that put numbers and texts into a lent buffer.
+#![tactic(auto)]
+
 pub mod decimal;
 pub mod text;
 

@@ -19,7 +19,7 @@ pub fn put_text(out: &mut [u8], at: usize, text: &[u8]) -> usize
     if out.len() - at < text.len() {
         return end;
     }
-    bytes::copy(text, &mut out[at..]);
+    octets::copy(text, &mut out[at..]);
     end
 }
 

@@ -1,5 +1,7 @@
 // A running digest in bytes that the caller keeps between its parts. Every function takes any bytes: those that are too
 // short for a state are refused with 21.
+#![tactic(auto)]
+
 ghost use Rattle.std.specs.Prelude.{◌%◌, ◌^◌, ◌≤◌, ◌≡◌, length};
 ghost use Rattle.format.specs.Bytes.{big_endian};
 ghost use Rattle.format.specs.Lent.{placed};
@@ -76,7 +78,7 @@ fn state_of(s: &[u8]) -> Md5
     };
     let count = big_endian(&s[32..40]);
     let mut pending = [0u8; 64];
-    bytes::copy(&s[40..104], &mut pending);
+    octets::copy(&s[40..104], &mut pending);
     Md5 {
         words,
         pending,

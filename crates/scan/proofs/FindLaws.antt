@@ -9,7 +9,8 @@ use mathlib.Core.List.{[], ◌∷◌, ◌++◌}
 use lib.ListN.{length, take, drop, get_or, take-append-drop, length-take, drop_of_length-le}
 use lib.Seq.{drop-append-le, length-take-le, length-slice, slice_empty, slice-cons, take-length, take-take}
 use lib.Dec.{eqb}
-use Rattle.bytes.specs.Bytes.{index_of, index_after, slice}
+use Rattle.octets.specs.Octets.{index_of, index_after}
+use Rattle.std.proofs.Math.Seq.{slice}
 use Rattle.format.specs.Bytes.{Bytes}
 use Rattle.scan.specs.Find.{has, PassedOver, first_from}
 
@@ -19,7 +20,6 @@ module _ (is : Bool) (b : ℕ) (s : Bytes) (to j : ℕ) (f x : Bool) (left : (f 
   module _ (g : Bool) (h : j < to) (q : to ≤ length s) where
     -- Hence there is such a byte exactly if one was found already, the next byte is one, or one comes after it.
     has_next : (f || (beq (eqb (get_or s j 0) b) is || has is b (slice (j + 1) to s))) ≡ x
-    unfolding slice
     has_next = rw (add-one j) (rw (slice-cons j to s 0 h q) at left)
 
     -- If the next byte is such a byte, the invariant holds after it with the flag set.
@@ -32,7 +32,6 @@ module _ (is : Bool) (b : ℕ) (s : Bytes) (to j : ℕ) (f x : Bool) (left : (f 
 
   -- If no bytes are left, the flag is the answer.
   pub has_done : to ≤ j → f ≡ x
-  unfolding slice
   has_done h =
       let short : length (take to s) ≤ j = simp length-take (omega arith) in
       sym (or-false f) ∙ (rw (drop_of_length-le (take to s) short) at left)
@@ -76,7 +75,6 @@ has_none b (a ∷ u) n = go (eqb a b) n (has_none b u)
 
 -- The bytes from `at` on are the bytes from `at` up to `to`, followed by the bytes from `to` on.
 pub slice_drop : (s : Bytes) (at to : ℕ) → at ≤ to → to ≤ length s → drop at s ≡ slice at to s ++ drop to s
-unfolding slice
 slice_drop s at to p q =
     let inside : at ≤ length (take to s) = rw (length-take-le to s q) p in
     rw (← drop-append-le at (take to s) (drop to s) inside, take-append-drop)
@@ -84,12 +82,10 @@ slice_drop s at to p q =
 -- Laws about the bytes from `at` up to `to`.
 module _ (b : ℕ) (s : Bytes) (at to : ℕ) (p : at ≤ to) (q : to ≤ length s) where
   size : length (slice at to s) ≡ to - at
-  unfolding slice
   size = length-slice at to s q
 
   -- The search from `at` goes through these bytes and then through the bytes from `to` on.
   first_cut : first_from b s at ≡ at + index_of b (slice at to s ++ slice to (length s) s)
-  unfolding slice
   first_cut = rw (take-length, slice_drop s at to p q)
 
   -- If the first `b` is not one of these bytes, the search from `to` finds the same `b` as the search from `at`.
@@ -117,13 +113,11 @@ first_skipped b s at to r k g =
 module _ (is : Bool) (b : ℕ) (s : Bytes) (at : ℕ) where
   -- At the start nothing has been passed over.
   pub skip_none : at ≤ length s → PassedOver is b s at at
-  unfolding slice
   skip_none h = record { onward = omega arith; inside = h; none = rw (slice_empty at s) }
 
   -- If the next block of `k` bytes has no such byte, it can be passed over.
   pub skip_block : (i k : ℕ) (x : Bool) → PassedOver is b s at i → k ≤ length s - i → x ≡ has is b (slice i (i + k) s) → x ≡ false
       → PassedOver is b s at (i + k)
-  unfolding slice
   skip_block i k x d h e n =
       let onward = d.onward in
       let inside = d.inside in

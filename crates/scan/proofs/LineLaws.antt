@@ -10,7 +10,8 @@ use lib.ListN.{length, take, drop, get_or, take-append-drop, length-take, length
 use lib.Seq.{take-suc, take_all, take-length, drop-cons, drop-drop, get_or-drop, take_at}
 use lib.Dec.{eqb, ltb}
 use borrow.Author.Tests.{ltb-true, ltb-false, lt-ltb, le-ltb, eqb-true}
-use Rattle.bytes.specs.Bytes.{index_of, index_after, slice}
+use Rattle.octets.specs.Octets.{index_of, index_after}
+use Rattle.std.proofs.Math.Seq.{slice}
 use Rattle.format.specs.declared.line.LineEnd.{LineEnd}
 use Rattle.format.specs.declared.line.LineEnd.TheVariants.{Lf, Crlf}
 use Rattle.format.specs.Bytes.{Bytes, begins}
@@ -99,7 +100,6 @@ line_empty s at x h e =
 module _ (s : Bytes) (at end : ℕ) (f : end ≡ at + index_of 10 (slice at (length s) s)) where
   -- The search covers every byte from `at` on.
   found : end ≡ at + index_of 10 (drop at s)
-  unfolding slice
   found = rw (take-length s) at f
 
   -- No byte from `at` up to `end` is 0A.

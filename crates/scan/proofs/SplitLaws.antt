@@ -8,7 +8,8 @@ use mathlib.Core.List.{List, [], ◌∷◌}
 use lib.ListN.{length, take, drop}
 use lib.Seq.{take-length, drop-length, drop-cons, drop-drop}
 use lib.Dec.{eqb}
-use Rattle.bytes.specs.Bytes.{index_of, index_after, slice}
+use Rattle.octets.specs.Octets.{index_of, index_after}
+use Rattle.std.proofs.Math.Seq.{slice}
 use Rattle.format.specs.Bytes.{Bytes}
 use Rattle.format.specs.Numeral.{split, lead_first}
 
@@ -32,7 +33,6 @@ split_index b (a ∷ u) = go (eqb a b) refl (split_index b u)
 -- The same holds for a search that begins at offset `at`.
 pub split_found : (b : ℕ) (s : Bytes) (at end : ℕ) → end ≡ at + index_of b (slice at (length s) s)
     → split b (drop at s) ≡ take (end - at) (drop at s) ∷ others b (drop end s)
-unfolding slice
 split_found b s at end f =
     let found : end ≡ at + index_of b (drop at s) = rw (take-length s) at f in
     let size : index_of b (drop at s) ≡ end - at = omega arith in

@@ -14,7 +14,7 @@ use mir.Val.{Fits}
 use borrow.Author.Tests.{eq-eqb, ne_eqb}
 use Rattle.format.specs.Bytes.{Bytes, begins, same, all_zero}
 use Rattle.format.proofs.ByteLaws.{begins_true}
-use Rattle.bytes.specs.Bytes.{slice}
+use Rattle.std.proofs.Math.Seq.{slice}
 use Rattle.scan.specs.Find.{has, PassedOver}
 use Rattle.scan.proofs.FindLaws.{slice_drop}
 

@@ -1,7 +1,8 @@
 -- The search for a byte.
 use Rattle.std.specs.Prelude.{ℕ, ◌+◌, ◌≤◌, ◌≡◌, Bool, false, ◌||◌, [], ◌∷◌, length, eqb}
 use Rattle.std.specs.Bool.{beq}
-use Rattle.bytes.specs.Bytes.{index_of, slice}
+use Rattle.octets.specs.Octets.{index_of}
+use Rattle.std.proofs.Math.Seq.{slice}
 use Rattle.format.specs.Bytes.{Bytes}
 
 -- Whether a byte of `s` is `b` or, if `is` is false, is not `b`.

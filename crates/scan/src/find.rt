@@ -1,7 +1,7 @@
 // The search for a byte, and blocks of bytes that are passed over (not blocks of a file). A block is tested without an
 // early exit, so that the compiled code tests many bytes at a time.
 ghost use Rattle.std.specs.Prelude.{◌≤◌, ◌≡◌, length};
-ghost use Rattle.bytes.specs.Bytes.{slice};
+ghost use Rattle.std.proofs.Math.Seq.{slice};
 ghost use Rattle.scan.specs.Find.{has, PassedOver, first_from};
 
 // Returns where the first `b` at or after an offset is, or the end if there is none. The next eight bytes are tested
@@ -12,10 +12,10 @@ pub(crate) fn find_byte(s: &[u8], at: usize, b: u8) -> usize
     ensures upper_bound { result ≤ length s.now }
 {
     if s.len() - at < 8 {
-        return bytes::scan::find(s, at, s.len(), b);
+        return octets::find(s, at, s.len(), b);
     }
     let far = at + 8;
-    let near = bytes::scan::find(s, at, far, b);
+    let near = octets::find(s, at, far, b);
     if near < far {
         return near;
     }
@@ -30,7 +30,7 @@ fn find_far(s: &[u8], at: usize, b: u8) -> usize
 {
     let large = skip_blocks(s, at, 64, b, true);
     let small = skip_blocks(s, large, 8, b, true);
-    bytes::scan::find(s, small, s.len(), b)
+    octets::find(s, small, s.len(), b)
 }
 
 // Passes over blocks of `size` bytes while they have no byte that is `b` or, if `is` is false, no byte other than `b`.

@@ -1,4 +1,6 @@
 // Makes the one number that an exported function returns, and puts numbers into the lent buffer.
+#![tactic(auto)]
+
 ghost use Rattle.std.specs.Prelude.{◌≡◌};
 ghost use Rattle.format.specs.Outcome.{accepted, refused as Outcome·refused};
 ghost use Rattle.format.specs.Answer.{count_answer};

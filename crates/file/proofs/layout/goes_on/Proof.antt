@@ -1,4 +1,4 @@
--- `file::layout::goes_on_lem` meets its contract. There is one law for each return.
+-- `file::layout::goes_on` meets its contract. There is one law for each return.
 use borrow.Author.Rules.{rules}
 use Rattle.file.proofs.LayoutLaws.{goes_end, goes_mark}
 use Rattle.file.proofs.layout.goes_on.Statement.{statement}
