@@ -26,11 +26,11 @@ use Rattle.format.proofs.BlockLaws.{accepted_block}
 use Rattle.format.proofs.FileBlockLaws.{BlockAt, element, file_blocks}
 use Rattle.format.proofs.FileLaws.{blocks_start, file_parts}
 use Rattle.format.proofs.PartLaws.{no_element}
-use Rattle.md5.specs.declared.state.Md5.{Md5}
-use Rattle.md5.specs.declared.state.Fed.{Fed}
-use Rattle.md5.specs.Md5.{md5}
-use Rattle.md5.specs.State.{starting, fed, digest, fed_all, joined_all}
-use Rattle.md5.proofs.StateLaws.{cuts_agree}
+use Rattle.md5_parts.specs.declared.state.Md5.{Md5}
+use Rattle.md5_parts.specs.declared.state.Fed.{Fed}
+use Rattle.md5_parts.specs.Md5.{md5}
+use Rattle.md5_parts.specs.State.{starting, fed, digest, fed_all, joined_all}
+use Rattle.md5_parts.proofs.StateLaws.{cuts_agree}
 use Rattle.scan.specs.Number.{BigEndian}
 
 -- The content of the block `b` is inside the file `s`, which is not too long.

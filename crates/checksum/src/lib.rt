@@ -6,13 +6,13 @@ ghost use Rattle.format.specs.Answer.{check_answer};
 ghost use Rattle.format.specs.Check.{states_md5, is_checksum, check_block, checked};
 ghost use Rattle.format.specs.File.{most_bytes};
 ghost use Rattle.format.specs.Nest.{content_at};
-ghost use Rattle.md5.specs.Md5.{md5 as Md5·md5};
+ghost use Rattle.md5_parts.specs.Md5.{md5 as Md5·md5};
 
 use file::layout;
 use format::answer::{BlockAnswer, Check, CheckAnswer};
 use format::block::{Block, has_checksum};
 use format::refusal::{NO_SUCH_BLOCK, Refusal};
-use md5::state::Md5;
+use md5_parts::state::Md5;
 use scan::number::big_endian;
 
 // Checks the data of the block with this ordinal. If there is no such block, refuses with number 25.

@@ -2,7 +2,7 @@
 use Rattle.std.proofs.Common.{◌≡◌, ℕ, ◌+◌, ◌<◌, ◌≤◌, Bool, true, false, ◌||◌, eqb, leb, length, sym, refl, ◌∙◌, true≢false, le_refl, arith, le-leb, leb-true}
 use Rattle.format.specs.declared.block.Block.{Block}
 use Rattle.format.specs.Bytes.{Bytes, IsBytes}
-use Rattle.format.specs.Outcome.{accepted, ◌>>=◌}
+use Rattle.format.specs.Outcome.{accepted}
 use Rattle.format.specs.Block.{header_size, flags, compression, allocated_size, used_size, data_size, least_header, is_streamed, is_compressed, content_start, bytes_left, block_with, block, sound_block, SoundSizes, Sound}
 use Rattle.format.specs.Chain.{extent}
 use Rattle.format.proofs.OutcomeLaws.{Accepts, accepted_holds, accepts_need, accepts_choice}

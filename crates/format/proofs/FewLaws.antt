@@ -6,7 +6,7 @@ use Rattle.format.specs.declared.block.Block.{Block}
 use Rattle.format.specs.declared.block.Record.{Record}
 use Rattle.format.specs.declared.row.Row.{Row}
 use Rattle.format.specs.Bytes.{Bytes}
-use Rattle.format.specs.Outcome.{Outcome, accepted, refused, ◌>>=◌}
+use Rattle.format.specs.Outcome.{Outcome, accepted, refused}
 use Rattle.format.specs.Block.{least_block}
 use Rattle.format.specs.File.{file}
 use Rattle.format.specs.Nest.{deepest, content_at, content_of, is_file, Inside, inside, opened, walked, walk, walk_file, records_from, records}

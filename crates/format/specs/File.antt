@@ -1,5 +1,5 @@
 -- One file without the files inside its blocks, read from front to back.
-use Rattle.std.specs.Prelude.{ℕ, ◌-◌, Bool, true, List, [], ◌∷◌, ◌++◌, map, length, drop, replicate, nat_le}
+use Rattle.std.specs.Prelude.{ℕ, Bool, true, List, [], ◌∷◌, ◌++◌, map, length, drop, replicate, nat_le}
 use Rattle.std.proofs.Math.Option.{Option}
 use Rattle.std.proofs.Math.ListN.{get_elem?}
 use Rattle.format.specs.declared.layout.Header.{Header}

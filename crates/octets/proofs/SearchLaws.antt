@@ -1,8 +1,8 @@
 -- The search from one byte on: it ends there, or goes on after it.
-use Rattle.std.proofs.Common.{◌≡◌, ◌≢◌, ℕ, zero, suc, ◌+◌, ◌<◌, ◌≤◌, List, length, get_or, refl, take, drop, arith, add-one, eq-eqb, length-take, drop_of_length-le}
+use Rattle.std.proofs.Common.{◌≡◌, ◌≢◌, ℕ, suc, ◌+◌, ◌<◌, ◌≤◌, List, length, get_or, take, arith, add-one, eq-eqb, length-take, drop_of_length-le}
 use Rattle.std.proofs.lemmas.Bool.{ne_eqb}
 use Rattle.std.proofs.Math.Seq.{slice, slice-cons}
-use Rattle.octets.specs.Octets.{index_after, index_of}
+use Rattle.octets.specs.Octets.{index_of}
 
 module _ (b : ℕ) (s : List ℕ) (i to : ℕ) (h : i < to) (q : to ≤ length s) where
   pub search_here : get_or s i 0 ≡ b → index_of b (slice i to s) ≡ 0

@@ -12,14 +12,14 @@ use Rattle.format.specs.Bytes.{Bytes}
 use Rattle.format.specs.File.{most_bytes}
 use Rattle.format.specs.Lent.{placed, leaves}
 use Rattle.format.specs.Outcome.{Outcome, accepted, refused, refusal, need, ◌>>=◌, ◌>>◌}
-use Rattle.md5.specs.declared.state.Md5.{Md5}
-use Rattle.md5.specs.declared.state.PartAnswer.TheVariants.{Taken, Refused}
-use Rattle.md5.specs.declared.words.Words.{Words}
-use Rattle.md5.specs.Md5.{word_sum, added, compressed, blocks, hashed, left, md5}
-use Rattle.md5.specs.State.{in_block, held, starting, next, fits, taken, fed, digest, fed_all, AllTaken, joined_all, taken_of}
-use Rattle.md5.specs.Kept.{state_bytes, encode_state, decode_state, part_bytes, digest_bytes, started_in, kept_all, AllKept, KeptCutsAgree}
-use Rattle.md5.proofs.BlockLaws.{left_size}
-use Rattle.md5.proofs.StateLaws.{fed_fits, fed_long, cuts_agree}
+use Rattle.md5_parts.specs.declared.state.Md5.{Md5}
+use Rattle.md5_parts.specs.declared.state.PartAnswer.TheVariants.{Taken, Refused}
+use Rattle.md5_parts.specs.declared.words.Words.{Words}
+use Rattle.md5_parts.specs.Md5.{word_sum, added, compressed, blocks, hashed, left, md5}
+use Rattle.md5_parts.specs.State.{in_block, held, starting, next, fits, taken, fed, digest, fed_all, AllTaken, joined_all, taken_of}
+use Rattle.md5_parts.specs.Kept.{state_bytes, encode_state, decode_state, part_bytes, digest_bytes, started_in, kept_all, AllKept, KeptCutsAgree}
+use Rattle.md5_parts.proofs.BlockLaws.{left_size}
+use Rattle.md5_parts.proofs.StateLaws.{fed_fits, fed_long, cuts_agree}
 use Rattle.running.proofs.StateBytes.{Sound, decode_encode, encode_size}
 
 -- Words of 32 bits.

@@ -15,13 +15,13 @@ use Rattle.format.specs.Fields.{number_bytes}
 use Rattle.format.specs.Lent.{placed, leaves}
 use Rattle.format.specs.Outcome.{Outcome, accepted, refused, refusal, ◌>>=◌}
 use Rattle.format.specs.Promise.{Written}
-use Rattle.md5.specs.declared.state.Md5.{Md5}
-use Rattle.md5.specs.declared.state.Fed.{Fed}
-use Rattle.md5.specs.declared.state.PartAnswer.{PartAnswer}
-use Rattle.md5.specs.declared.state.PartAnswer.TheVariants.{Taken, Refused}
-use Rattle.md5.specs.declared.words.Words.{Words}
-use Rattle.md5.specs.State.{starting, taken, fed_by, fed, digest}
-use Rattle.md5.specs.Kept.{state_bytes, state_of, encode_state, decode_state, part_bytes, digest_bytes, part_answer, PartKept}
+use Rattle.md5_parts.specs.declared.state.Md5.{Md5}
+use Rattle.md5_parts.specs.declared.state.Fed.{Fed}
+use Rattle.md5_parts.specs.declared.state.PartAnswer.{PartAnswer}
+use Rattle.md5_parts.specs.declared.state.PartAnswer.TheVariants.{Taken, Refused}
+use Rattle.md5_parts.specs.declared.words.Words.{Words}
+use Rattle.md5_parts.specs.State.{starting, taken, fed_by, fed, digest}
+use Rattle.md5_parts.specs.Kept.{state_bytes, state_of, encode_state, decode_state, part_bytes, digest_bytes, part_answer, PartKept}
 use Rattle.put.specs.Put.{PutWhole}
 use Rattle.put.proofs.PutLaws.{placed_after}
 use Rattle.put.proofs.WrittenLaws.{written_refused, written_short, written_placed}

@@ -10,9 +10,9 @@ use Rattle.format.specs.Bytes.{Bytes, big_endian, number, to_bytes}
 use Rattle.format.specs.Fields.{number_bytes}
 use Rattle.format.specs.File.{most_bytes}
 use Rattle.format.proofs.PackLaws.{to_bytes_length, big_endian_to_bytes}
-use Rattle.md5.specs.declared.state.Md5.{Md5}
-use Rattle.md5.specs.declared.words.Words.{Words}
-use Rattle.md5.specs.Kept.{state_bytes, state_of, encode_state, word_at, decode_state}
+use Rattle.md5_parts.specs.declared.state.Md5.{Md5}
+use Rattle.md5_parts.specs.declared.words.Words.{Words}
+use Rattle.md5_parts.specs.Kept.{state_bytes, state_of, encode_state, word_at, decode_state}
 
 -- The five numbers of a state take forty bytes.
 pub numbers_size : (a b c d n : ℕ) → length (number_bytes (a ∷ b ∷ c ∷ d ∷ n ∷ [])) ≡ 40

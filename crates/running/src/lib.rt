@@ -7,13 +7,13 @@ ghost use Rattle.format.specs.Bytes.{big_endian};
 ghost use Rattle.format.specs.Lent.{placed};
 ghost use Rattle.format.specs.Outcome.{accepted};
 ghost use Rattle.format.specs.Promise.{Written};
-ghost use Rattle.md5.specs.Kept.{state_bytes, state_of, encode_state, decode_state, digest_bytes, PartKept};
-ghost use Rattle.md5.specs.State.{starting};
+ghost use Rattle.md5_parts.specs.Kept.{state_bytes, state_of, encode_state, decode_state, digest_bytes, PartKept};
+ghost use Rattle.md5_parts.specs.State.{starting};
 
 use format::answer::CountAnswer;
 use format::refusal::{BUFFER_TOO_SHORT, Refusal};
-use md5::state::{Md5, PartAnswer};
-use md5::words::Words;
+use md5_parts::state::{Md5, PartAnswer};
+use md5_parts::words::Words;
 use scan::number::big_endian;
 
 // How many bytes a state takes.

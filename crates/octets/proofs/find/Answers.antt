@@ -1,6 +1,5 @@
 -- The byte at `i` is the one that is looked for, or the search goes on after it.
 use Rattle.std.proofs.Common.{arith}
-use Rattle.octets.specs.Octets.{index_of}
 use Rattle.octets.proofs.SearchLaws.{search_here, search_on, search_end}
 use Rattle.octets.proofs.find.Goals as goal
 

@@ -1,9 +1,4 @@
 use Rattle.std.proofs.Common.{rules}
-use Prim.Native.Nat.{◌-◌}
-use mathlib.Core.Path.{◌≡◌}
-use mathlib.Core.Bool.{◌||◌}
-use Rattle.std.proofs.Math.Seq.{slice}
-use Rattle.scan.specs.Find.{has}
 use Rattle.scan.proofs.FindLaws.{has_hit, has_miss, has_done}
 use Rattle.scan.proofs.find.has_byte.Goals as goal
 use Rattle.scan.proofs.find.has_byte.Goals.{then-s-j, else-s-j}

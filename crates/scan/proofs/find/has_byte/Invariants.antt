@@ -1,11 +1,8 @@
 -- The invariant: there is a byte that is looked for exactly if one was found already or one comes from `j` on.
-use Prim.Native.Nat.{◌-◌}
 use mathlib.Core.Path.{◌≡◌}
 use mathlib.Core.Bool.{◌||◌}
-use mathlib.Core.Logic.{⊎_elim}
 use Rattle.std.proofs.Math.Seq.{slice}
 use Rattle.scan.specs.Find.{has}
-use Rattle.scan.proofs.FindLaws.{has_hit, has_miss, has_done}
 use Rattle.scan.proofs.find.has_byte.Given as goal
 
 abbrev pub invariant-loop-j : goal.invariant-loop-j

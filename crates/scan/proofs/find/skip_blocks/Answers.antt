@@ -1,7 +1,4 @@
 use Rattle.std.proofs.Common.{rules}
-use Prim.Native.Nat.{◌-◌}
-use lib.ListN.{length}
-use Rattle.scan.specs.Find.{PassedOver}
 use Rattle.scan.proofs.FindLaws.{skip_none, skip_block}
 use Rattle.scan.proofs.find.skip_blocks.Goals as goal
 

@@ -2,7 +2,6 @@
 use Prim.Native.Nat.{◌-◌}
 use lib.ListN.{length}
 use Rattle.scan.specs.Find.{PassedOver}
-use Rattle.scan.proofs.FindLaws.{skip_none, skip_block}
 use Rattle.scan.proofs.find.skip_blocks.Given as goal
 
 abbrev pub invariant-loop-i : goal.invariant-loop-i

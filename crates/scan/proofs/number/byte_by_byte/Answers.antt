@@ -1,7 +1,4 @@
 use Rattle.std.proofs.Common.{rules}
-use Prim.Native.Nat.{◌-◌, ◌≤◌}
-use lib.ListN.{length, take}
-use Rattle.scan.specs.Number.{BigEndian}
 use Rattle.scan.proofs.NumberLaws.{big_endian_step, big_endian_done}
 use Rattle.scan.proofs.number.byte_by_byte.Goals as goal
 

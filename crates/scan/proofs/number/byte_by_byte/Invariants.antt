@@ -2,7 +2,6 @@
 use Prim.Native.Nat.{◌-◌, ◌≤◌}
 use lib.ListN.{length, take}
 use Rattle.scan.specs.Number.{BigEndian}
-use Rattle.scan.proofs.NumberLaws.{big_endian_step, big_endian_done}
 use Rattle.scan.proofs.number.byte_by_byte.Given as goal
 
 abbrev pub invariant-loop-i : goal.invariant-loop-i

@@ -1,7 +1,5 @@
 use Rattle.std.proofs.Common.{rules}
-use Prim.Native.Nat.{◌-◌, ◌≤◌}
-use lib.ListN.{length}
-use Rattle.scan.proofs.NumberLaws.{DigitsSoFar, digits_other, digits_times, digit_least, digits_plus, digits_step, digits_done}
+use Rattle.scan.proofs.NumberLaws.{digits_other, digits_times, digit_least, digits_plus, digits_step, digits_done}
 use Rattle.scan.proofs.number.digits.Goals as goal
 
 pub returns-then-not-is_digit : goal.returns-then-not-is_digit

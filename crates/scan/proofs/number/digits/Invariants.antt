@@ -1,7 +1,7 @@
 -- The invariant: the bytes so far are digits, and `x` is their number.
 use Prim.Native.Nat.{◌-◌, ◌≤◌}
 use lib.ListN.{length}
-use Rattle.scan.proofs.NumberLaws.{DigitsSoFar, digits_other, digits_times, digit_least, digits_plus, digits_step, digits_done}
+use Rattle.scan.proofs.NumberLaws.{DigitsSoFar}
 use Rattle.scan.proofs.number.digits.Given as goal
 
 abbrev pub invariant-loop-i : goal.invariant-loop-i

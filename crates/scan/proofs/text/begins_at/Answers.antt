@@ -1,8 +1,4 @@
 use Rattle.std.proofs.Common.{rules}
-use Prim.Native.Nat.{◌≤◌, ◌-◌}
-use mathlib.Core.Path.{◌≡◌}
-use lib.ListN.{length, drop}
-use Rattle.format.specs.Bytes.{begins}
 use Rattle.scan.proofs.TextLaws.{begins_short, begins_differs, begins_step, begins_done}
 use Rattle.scan.proofs.text.begins_at.Goals as goal
 

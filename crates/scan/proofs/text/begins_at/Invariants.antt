@@ -4,7 +4,6 @@ use Prim.Native.Nat.{◌≤◌, ◌-◌}
 use mathlib.Core.Path.{◌≡◌}
 use lib.ListN.{length, drop}
 use Rattle.format.specs.Bytes.{begins}
-use Rattle.scan.proofs.TextLaws.{begins_short, begins_differs, begins_step, begins_done}
 use Rattle.scan.proofs.text.begins_at.Given as goal
 
 abbrev pub invariant-loop-j : goal.invariant-loop-j

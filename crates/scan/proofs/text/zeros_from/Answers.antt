@@ -1,8 +1,4 @@
 use Rattle.std.proofs.Common.{rules}
-use Prim.Native.Nat.{◌-◌}
-use mathlib.Core.Path.{◌≡◌}
-use lib.ListN.{length, drop}
-use Rattle.format.specs.Bytes.{all_zero}
 use Rattle.scan.proofs.TextLaws.{zeros_differs, zeros_step, zeros_done}
 use Rattle.scan.proofs.text.zeros_from.Goals as goal
 

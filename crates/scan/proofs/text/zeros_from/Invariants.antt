@@ -3,7 +3,6 @@ use Prim.Native.Nat.{◌-◌}
 use mathlib.Core.Path.{◌≡◌}
 use lib.ListN.{length, drop}
 use Rattle.format.specs.Bytes.{all_zero}
-use Rattle.scan.proofs.TextLaws.{zeros_differs, zeros_step, zeros_done}
 use Rattle.scan.proofs.text.zeros_from.Given as goal
 
 abbrev pub invariant-loop-i : goal.invariant-loop-i
