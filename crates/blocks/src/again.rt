@@ -10,7 +10,7 @@ use format::limits::LEAST_BLOCK;
 use format::offset::Offset;
 
 // What a row shows of a block.
-#[derive(Drop)]
+#[derive(Clone, Copy)]
 pub struct Summary {
     pub header_size: u16,
     pub streamed: bool,
@@ -21,7 +21,7 @@ pub struct Summary {
 }
 
 // Where a block's content is, counted from the block's first byte, and whether it is compressed.
-#[derive(Drop)]
+#[derive(Clone, Copy)]
 pub struct Content {
     pub from: usize,
     pub to: usize,

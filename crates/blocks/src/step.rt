@@ -2,7 +2,7 @@
 use format::refusal::Refusal;
 
 // What follows at the end of a block, or where the first block may begin.
-#[derive(Drop)]
+#[derive(Clone, Copy)]
 pub enum LinkStep {
     // A block, with the distance from its first byte to the end of its allocated space.
     Block(usize),
@@ -16,7 +16,7 @@ pub enum LinkStep {
 }
 
 // What a walk along the chain found, and how many blocks the chain has.
-#[derive(Drop)]
+#[derive(Clone, Copy)]
 pub enum ChainStep {
     // No index follows the chain.
     Walked(usize),

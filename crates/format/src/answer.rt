@@ -8,14 +8,14 @@ use crate::refusal::Refusal;
 use crate::row::Row;
 
 // The answer to a question about a file's layout.
-#[derive(Drop)]
+#[derive(Clone, Copy)]
 pub enum LayoutAnswer {
     Accepted(Layout),
     Refused(Refusal),
 }
 
 // The answer to a question about one block of a file.
-#[derive(Drop)]
+#[derive(Clone, Copy)]
 pub enum BlockAnswer {
     Found(Block),
     NoSuchBlock,
@@ -23,7 +23,7 @@ pub enum BlockAnswer {
 }
 
 // The answer to a question about one row of a stored outline.
-#[derive(Drop)]
+#[derive(Clone, Copy)]
 pub enum RowAnswer {
     Found(Row),
     NoSuchRow,
@@ -31,7 +31,7 @@ pub enum RowAnswer {
 }
 
 // The answer if a number is asked for. From a writer, the number is how many bytes it wrote.
-#[derive(Drop)]
+#[derive(Clone, Copy)]
 pub enum CountAnswer {
     Counted(u64),
     Refused(Refusal),
@@ -47,14 +47,14 @@ impl CountAnswer {
 }
 
 // The answer for the outline of a file, together with the answer for its layout.
-#[derive(Drop)]
+#[derive(Clone, Copy)]
 pub struct OutlinedAnswer {
     pub layout: LayoutAnswer,
     pub written: CountAnswer,
 }
 
 // What the data of a block says about the checksum in its header.
-#[derive(Drop)]
+#[derive(Clone, Copy)]
 pub enum Check {
     // The header states no checksum.
     NotStated,
@@ -63,14 +63,14 @@ pub enum Check {
 }
 
 // The answer of a check.
-#[derive(Drop)]
+#[derive(Clone, Copy)]
 pub enum CheckAnswer {
     Checked(Check),
     Refused(Refusal),
 }
 
 // The answer of an edit. The edited bytes are in the lent file.
-#[derive(Drop)]
+#[derive(Clone, Copy)]
 pub enum EditAnswer {
     Edited,
     Refused(Refusal),

@@ -6,7 +6,7 @@ use crate::offset::{Offset, OutermostOffset};
 use crate::refusal::Refusal;
 
 // A block of one file, without regard to the files around it.
-#[derive(Drop)]
+#[derive(Clone, Copy)]
 pub struct Block {
     // Its number in its file, counted from 0.
     pub ordinal: u8,
@@ -27,7 +27,7 @@ pub struct Block {
 }
 
 // The inner state: what a block's content is as a file of its own.
-#[derive(Drop)]
+#[derive(Clone, Copy)]
 pub enum Inner {
     // The content is compressed or does not begin like a file.
     Plain,
@@ -40,7 +40,7 @@ pub enum Inner {
 }
 
 // A block among all blocks of an outermost file, in walking order.
-#[derive(Drop)]
+#[derive(Clone, Copy)]
 pub struct Record {
     // How many files surround the block's own file.
     pub depth: u8,

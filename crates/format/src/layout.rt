@@ -3,7 +3,7 @@ use crate::line::LineEnd;
 use crate::offset::Offset;
 
 // The three numbers of the version in the header.
-#[derive(Drop)]
+#[derive(Clone, Copy)]
 pub struct Version {
     pub major: u16,
     pub minor: u16,
@@ -11,7 +11,7 @@ pub struct Version {
 }
 
 // The first line. Its end is after the line end. The line end is next to the version, where it takes no extra memory.
-#[derive(Drop)]
+#[derive(Clone, Copy)]
 pub struct Header {
     pub version: Version,
     pub line_end: LineEnd,
@@ -19,7 +19,7 @@ pub struct Header {
 }
 
 // Whether a file has a tree, and where.
-#[derive(Drop)]
+#[derive(Clone, Copy)]
 pub enum Tree {
     NoTree,
     // The tree runs from `start` to `end`. The room, which an edit may fill, runs from `start` to `room_end`: the first
@@ -32,7 +32,7 @@ pub enum Tree {
 }
 
 // The verdict on the block index.
-#[derive(Drop)]
+#[derive(Clone, Copy)]
 pub enum Verdict {
     Absent,
     Good,
@@ -43,7 +43,7 @@ pub enum Verdict {
 }
 
 // The parts of an accepted file. Its blocks are only counted here.
-#[derive(Drop)]
+#[derive(Clone, Copy)]
 pub struct Layout {
     pub header: Header,
     // The comments run from the header's end to here.

@@ -1,5 +1,5 @@
 // How a line ends.
-#[derive(Drop)]
+#[derive(Clone, Copy)]
 pub enum LineEnd {
     // The byte 0A.
     Lf,

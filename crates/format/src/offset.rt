@@ -3,11 +3,11 @@ ghost use Rattle.std.specs.Prelude.{◌≡◌};
 ghost use Rattle.format.specs.Bytes.{wrapped};
 
 // An offset from the first byte of what was lent: a file at any depth, or a stored outline.
-#[derive(Drop)]
+#[derive(Clone, Copy)]
 pub struct Offset(pub u64);
 
 // An offset from the first byte of the outermost file. Only this module can make one.
-#[derive(Drop)]
+#[derive(Clone, Copy)]
 pub struct OutermostOffset(u64);
 
 impl OutermostOffset {

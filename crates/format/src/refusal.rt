@@ -5,7 +5,7 @@ ghost use Rattle.format.specs.Outcome.{refusal};
 use crate::offset::Offset;
 
 // The number says why something was refused, as in docs/REFUSALS.md. The place says where.
-#[derive(Drop)]
+#[derive(Clone, Copy)]
 pub struct Refusal {
     pub number: u8,
     pub place: Offset,

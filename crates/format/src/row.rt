@@ -2,7 +2,7 @@
 use crate::offset::OutermostOffset;
 
 // The fields of a row. `at` counts from the first byte of the outermost file.
-#[derive(Drop)]
+#[derive(Clone, Copy)]
 pub struct Row {
     pub depth: u8,
     pub streamed: bool,

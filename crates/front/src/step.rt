@@ -2,26 +2,26 @@
 use format::layout::{Header, Tree, Version};
 use format::refusal::Refusal;
 
-#[derive(Drop)]
+#[derive(Clone, Copy)]
 pub enum VersionStep {
     Read(Version),
     Malformed,
 }
 
-#[derive(Drop)]
+#[derive(Clone, Copy)]
 pub enum HeaderStep {
     Read(Header),
     Refused(Refusal),
 }
 
 // Where something ends, or its refusal.
-#[derive(Drop)]
+#[derive(Clone, Copy)]
 pub enum EndStep {
     At(usize),
     Refused(Refusal),
 }
 
-#[derive(Drop)]
+#[derive(Clone, Copy)]
 pub enum TreeStep {
     Read(Tree),
     Refused(Refusal),

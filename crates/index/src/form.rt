@@ -8,7 +8,7 @@ use scan::line::{Exact, Line};
 use scan::{line, text};
 
 // Where the list of an index is.
-#[derive(Drop)]
+#[derive(Clone, Copy)]
 pub enum ListStep {
     // The list is between brackets, from `from` to `to`.
     Between { from: usize, to: usize },

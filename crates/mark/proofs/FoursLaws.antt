@@ -12,7 +12,7 @@ use lib.Seq.{get_or-drop}
 use lib.Bits.{bit_or, or_add_and, and_le_l, and_le_r}
 use lib.Dec.{eqb}
 use borrow.Author.Tests.{eqb-true, eqb-false, not-true}
-use Rattle.octets.specs.Octets.{index_of, index_after}
+use Rattle.octets.specs.Octets.{index_of}
 use Rattle.std.proofs.Math.Seq.{slice}
 use Rattle.format.specs.Bytes.{Bytes, begins}
 use Rattle.format.specs.Tree.{mark, free_space}
@@ -37,7 +37,7 @@ mark_high = four_places (λ j. 0x42 ≤ get_or mark j 0) (omega arith) (omega ar
 
 -- Each byte of a mark is at only one position in it.
 mark_place : (j : ℕ) → j < 4 → index_of (get_or mark j 0) mark ≡ j
-unfolding index_of index_after
+unfolding index_of
 mark_place = four_places (λ j. index_of (get_or mark j 0) mark ≡ j) refl refl refl refl
 
 -- If a mark begins at `p`, the byte at `p + j` is byte `j` of the mark.
@@ -109,7 +109,6 @@ module _ (t : Bytes) (i : ℕ) (before : Skipped t 0 i) where
 -- `back` is the position in a mark of the last of four bytes, or 4 if this byte belongs to no mark.
 module _ (t : Bytes) (i back : ℕ) (room : i + 4 ≤ length t) (is : back ≡ 0 + index_of (get_or t (i + 3) 0) (slice 0 4 mark)) where
   place : back ≡ index_of (get_or t (i + 3) 0) mark
-  unfolding slice
   place = omega (arith, is)
 
   -- Among the four bytes, a mark can begin only `back` bytes before the last one.

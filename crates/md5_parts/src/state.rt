@@ -12,7 +12,7 @@ use format::refusal::{FILE_TOO_LONG, Refusal};
 
 // The words after all whole blocks so far, the bytes after these blocks, at the start of `pending`, and how many bytes
 // there were in all.
-#[derive(Drop)]
+#[derive(Clone, Copy)]
 pub struct Md5 {
     pub words: Words,
     pub pending: [u8; 64],
@@ -20,14 +20,14 @@ pub struct Md5 {
 }
 
 // The answer to a part.
-#[derive(Drop)]
+#[derive(Clone, Copy)]
 pub enum PartAnswer {
     Taken,
     Refused(Refusal),
 }
 
 // The state that comes back, and the answer.
-#[derive(Drop)]
+#[derive(Clone, Copy)]
 pub struct Fed {
     pub state: Md5,
     pub answer: PartAnswer,

@@ -79,7 +79,7 @@ pub fn rows(b: &[u8], out: &mut [u8]) -> CountAnswer
     write(b, RowForm::AsNumbers, out)
 }
 
-#[derive(Drop)]
+#[derive(Clone, Copy)]
 enum RowForm {
     // The bytes that are stored for a row.
     AsStored,

@@ -7,7 +7,7 @@ use crate::{find, text};
 use format::line::LineEnd;
 
 // The line at an offset.
-#[derive(Drop)]
+#[derive(Clone, Copy)]
 pub enum Line {
     // Its text ends at `text_end`, where its line end begins. The next line begins at `next`.
     Ended {
@@ -71,7 +71,7 @@ fn ends_in_0d(s: &[u8], at: usize, end: usize) -> bool
 }
 
 // Whether a line is the expected one.
-#[derive(Drop)]
+#[derive(Clone, Copy)]
 pub enum Exact {
     // It is. The values are where the next line begins, and how this line ends.
     After(usize, LineEnd),

@@ -59,7 +59,7 @@ fn narrow(b: u8) -> u32
 }
 
 // The result of reading digits.
-#[derive(Drop)]
+#[derive(Clone, Copy)]
 pub enum Number {
     Value(u64),
     Malformed,

@@ -8,7 +8,7 @@ use format::limits::{DEEPEST, MOST_BLOCKS};
 use scan::text;
 
 // What a block's content is, and how many blocks in it must be walked: none if it is not opened.
-#[derive(Drop)]
+#[derive(Clone, Copy)]
 pub struct Found {
     pub inner: Inner,
     pub blocks: u8,

@@ -15,7 +15,7 @@ use format::offset::OutermostOffset;
 use format::row::Row;
 use outline::row;
 
-#[derive(Drop)]
+#[derive(Clone, Copy)]
 pub enum Form {
     // A row is put for each block. If the buffer is too short for a row, blocks are only counted.
     Rows,
@@ -26,7 +26,7 @@ pub enum Form {
 }
 
 // What is put of a block, and where.
-#[derive(Drop)]
+#[derive(Clone, Copy)]
 enum Place {
     Nowhere,
     // Its row, at this offset.
