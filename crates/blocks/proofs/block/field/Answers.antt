@@ -1,0 +1,7 @@
+-- `blocks::block::field` meets its contract: at most eight bytes give a number that fits.
+use Rattle.std.proofs.Common.{rules}
+use Rattle.blocks.proofs.BlockLaws.{field_read}
+use Rattle.blocks.proofs.block.field.Goals as goal
+
+pub returns : goal.returns
+returns c = search (field_read, c.shared_slice_known-1.given, rules)

@@ -1,0 +1,14 @@
+-- `blocks::chain::walk_inside` meets its contract. The loop's invariant: the blocks walked so far, followed by the
+-- chain from here on, are the whole chain. The measure is how many blocks are still allowed.
+use Prim.Native.Nat.{◌-◌, ◌≤◌}
+use lib.ListN.{length}
+use Rattle.format.specs.Chain.{most_blocks}
+use Rattle.blocks.specs.Chain.{onward}
+use Rattle.blocks.proofs.ChainLaws.{Walking, walk_begins, walk_refused, walk_zeros, walk_index, walk_streamed, walk_block, streamed_few, block_few, block_less, block_inside, block_fits}
+use Rattle.blocks.proofs.chain.walk_inside.Given as goal
+
+abbrev pub invariant-loop-r : goal.invariant-loop-r
+invariant-loop-r l = Walking l.s l.initial.offsets l.offsets l.first l.i (onward l.s l.i l.at) × (l.at ≤ length l.s)
+
+abbrev pub decreases-loop-r : goal.decreases-loop-r
+decreases-loop-r l = most_blocks - l.i

@@ -1,0 +1,15 @@
+-- The invariant: the comments from the current offset end where the comments from the first offset end.
+use Prim.Native.Nat.{◌-◌}
+use mathlib.Core.Path.{◌≡◌}
+use lib.ListN.{length, drop}
+use Rattle.format.specs.Line.{lines}
+use Rattle.format.specs.Comments.{comments}
+use Rattle.scan.proofs.LineLaws.{ended_begin, ended_end, ended_less}
+use Rattle.front.proofs.CommentsLaws.{comments_done, comments_unended, comments_index, comments_step}
+use Rattle.front.proofs.comments.comments_end.Given as goal
+
+abbrev pub invariant-loop-text_end : goal.invariant-loop-text_end
+invariant-loop-text_end l = comments l.at (lines (drop l.at l.s)) ≡ comments l.from (lines (drop l.from l.s))
+
+abbrev pub decreases-loop-text_end : goal.decreases-loop-text_end
+decreases-loop-text_end l = length l.s - l.at

@@ -1,0 +1,35 @@
+-- The parts of the version are the bytes before the first point, the bytes between it and the second, and what is left.
+use Rattle.std.proofs.Common.{rules}
+use lib.Seq.{length-take-le}
+use Rattle.front.proofs.HeaderLaws.{part_fits, version_one, version_two, version_major, version_minor, version_patch, version_read}
+use Rattle.front.proofs.header.read_version.Goals as goal
+
+pub returns-then-first-n : goal.returns-then-first-n
+returns-then-first-n c = search (version_one, rules)
+
+pub returns-then-second-n : goal.returns-then-second-n
+returns-then-second-n c = search (version_two, rules)
+
+pub slice_bounds-numeral-end : goal.slice_bounds-numeral-end
+slice_bounds-numeral-end c = search (length-take-le, rules)
+
+pub returns-in_default : goal.returns-in_default
+returns-in_default c = search (version_major, rules)
+
+pub returns-in_default-numeral : goal.returns-in_default-numeral
+returns-in_default-numeral c = search (version_minor, rules)
+
+pub returns-in_default-numeral-2 : goal.returns-in_default-numeral-2
+returns-in_default-numeral-2 c = search (version_patch, rules)
+
+pub overflow_cast-result : goal.overflow_cast-result
+overflow_cast-result c = search (part_fits, rules)
+
+pub overflow_cast-result-2 : goal.overflow_cast-result-2
+overflow_cast-result-2 c = search (part_fits, rules)
+
+pub overflow_cast-result-3 : goal.overflow_cast-result-3
+overflow_cast-result-3 c = search (part_fits, rules)
+
+pub returns : goal.returns
+returns c = search (version_read, rules)

@@ -1,0 +1,15 @@
+-- The invariant: read from the current offset, the tree ends where it ends when read from the first offset.
+use Prim.Native.Nat.{◌-◌}
+use mathlib.Core.Path.{◌≡◌}
+use lib.ListN.{length, drop}
+use Rattle.format.specs.Line.{lines}
+use Rattle.format.specs.Tree.{content}
+use Rattle.scan.proofs.LineLaws.{ended_begin, ended_end, ended_less}
+use Rattle.front.proofs.TreeLaws.{content_unended, content_done, content_start_lem, content_step}
+use Rattle.front.proofs.tree.content_end.Given as goal
+
+abbrev pub invariant-loop-text_end : goal.invariant-loop-text_end
+invariant-loop-text_end l = content l.at (lines (drop l.at l.s)) ≡ content l.from (lines (drop l.from l.s))
+
+abbrev pub decreases-loop-text_end : goal.decreases-loop-text_end
+decreases-loop-text_end l = length l.s - l.at

@@ -1,0 +1,13 @@
+-- `visit::sink::put_entry` meets its contract: nothing is put, a row is put, or the numbers are put.
+use Rattle.std.proofs.Common.{rules}
+use Rattle.visit.proofs.SinkLaws.{put_nowhere, put_row, put_numbers}
+use Rattle.visit.proofs.sink.put_entry.Goals as goal
+
+pub returns-in-Nowhere : goal.returns-in-Nowhere
+returns-in-Nowhere c = search (put_nowhere, rules)
+
+pub returns-in-Row : goal.returns-in-Row
+returns-in-Row c = search (put_row, rules, c.row_of.ensures)
+
+pub returns-in-Numbers : goal.returns-in-Numbers
+returns-in-Numbers c = search (put_numbers, rules)
