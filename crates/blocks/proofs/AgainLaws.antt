@@ -10,12 +10,11 @@ use mir.Val.{Fits}
 use borrow.Author.Tests.{le-leb, lt-leb, eq-eqb, ne_eqb}
 use Rattle.format.specs.declared.block.Block.{Block}
 use Rattle.format.specs.Bytes.{Bytes}
-use Rattle.format.specs.Outcome.{accepted}
-use Rattle.format.specs.Block.{header_size, flags, compression, allocated_size, used_size, data_size, checksum_high, checksum_low, least_header, least_block, is_streamed, is_compressed, has_checksum, content_start, bytes_left, block_with, block, sound_block, Sound}
+use Rattle.format.specs.Block.{flags, allocated_size, used_size, data_size, least_block, is_streamed, is_compressed, has_checksum, content_start, bytes_left, block_with, sound_block, Sound}
 use Rattle.blocks.specs.declared.again.Summary.{Summary}
 use Rattle.blocks.specs.declared.again.Content.{Content}
 use Rattle.blocks.specs.Block.{FieldRead}
-use Rattle.blocks.specs.Again.{reported, blank_block, block_again, blank_summary, summary_again, streamed_again, has_content, no_content, content_again}
+use Rattle.blocks.specs.Again.{reported, blank_block, block_again, blank_summary, summary_again, streamed_again, no_content, content_again}
 
 module _ (t : Bytes) (size : ℕ) where
   -- For a streamed block every reported size is the number of bytes left.

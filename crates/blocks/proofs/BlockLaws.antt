@@ -2,23 +2,19 @@
 use Prim.Native.Nat.{ℕ, ◌+◌, ◌-◌, ◌%◌, ◌^◌, ◌≤◌, ◌<◌}
 use native.Mathlib.Nat.{lt_of_lt_of_le, mod-eq_of_lt, pow-le-pow_right}
 use native.Mathlib.Omega.{arith}
-use mathlib.Core.Path.{◌≡◌, refl, sym, ap, ◌∙◌}
+use mathlib.Core.Path.{◌≡◌, refl, sym, ◌∙◌}
 use mathlib.Core.Bool.{Bool, true, false, not, ◌||◌, true≢false}
-use mathlib.Core.List.{◌++◌}
-use lib.ListN.{length, take, drop, get_or, length-append, length-drop}
-use lib.Seq.{length-take-le, drop-append-add, drop-drop}
+use lib.ListN.{length, take, drop, get_or, length-drop}
+use lib.Seq.{length-take-le}
 use lib.Dec.{leb, eqb}
 use mir.Syntax.{w8, w64}
 use mir.Val.{Fits}
 use borrow.Author.Tests.{le-leb, lt-leb, eq-eqb, ne_eqb, not-true, not-false}
 use Rattle.format.specs.declared.block.Block.{Block}
-use Rattle.format.specs.declared.refusal.Refusal.{Refusal}
 use Rattle.format.specs.Bytes.{Bytes}
 use Rattle.format.specs.Outcome.{Outcome, accepted, refused, refusal, need, ◌>>◌}
-use Rattle.format.specs.Block.{header_size, flags, compression, data_size, least_header, is_streamed, is_compressed, content_start, block_with, block, sound_block, Sound}
-use Rattle.format.specs.Tree.{mark}
+use Rattle.format.specs.Block.{header_size, flags, compression, data_size, least_header, is_streamed, is_compressed, content_start, block_with, block, Sound}
 use Rattle.format.proofs.PackLaws.{is_bytes_take, is_bytes_drop, big_endian_lt}
-use Rattle.format.proofs.BlockLaws.{sound_accepted}
 use Rattle.scan.specs.Number.{BigEndian}
 use Rattle.blocks.specs.declared.step.LinkStep.TheVariants as LinkStep·is
 use Rattle.blocks.specs.Block.{IsField, FieldRead, HeaderRead, sound_link, Fault}

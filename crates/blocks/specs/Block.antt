@@ -1,9 +1,7 @@
 -- The numbers in a block's header, and what is known of the header when its sizes are read.
-use Rattle.std.specs.Prelude.{ℕ, ◌+◌, ◌-◌, ◌≤◌, ◌<◌, ◌^◌, ◌≡◌, true, false, ◌++◌, length, drop}
-use Rattle.format.specs.declared.block.Block.{Block}
+use Rattle.std.specs.Prelude.{ℕ, ◌+◌, ◌-◌, ◌≤◌, ◌<◌, ◌^◌, ◌≡◌, true, false, length}
 use Rattle.format.specs.Bytes.{Bytes, number}
 use Rattle.format.specs.Outcome.{refused, refusal}
-use Rattle.format.specs.Tree.{mark}
 use Rattle.format.specs.Block.{header_size, flags, allocated_size, least_header, is_streamed, content_start, bytes_left, block, Sound}
 use Rattle.blocks.specs.declared.step.LinkStep.{LinkStep}
 use Rattle.blocks.specs.declared.step.LinkStep.TheVariants as LinkStep·is

@@ -1,5 +1,5 @@
 -- Laws about the index that is written: one for each return.
-use Prim.Native.Nat.{ℕ, zero, suc, ◌-◌, ◌%◌, ◌≤◌, ◌<◌}
+use Prim.Native.Nat.{ℕ, zero, suc, ◌-◌, ◌≤◌, ◌<◌}
 use native.Mathlib.Omega.{arith}
 use mathlib.Core.Path.{◌≡◌, refl, sym, ap, ◌∙◌}
 use mathlib.Core.Bool.{Bool, true, false, not}
@@ -7,7 +7,7 @@ use mathlib.Core.List.{List, [], ◌∷◌}
 use mathlib.Core.Option.{some}
 use lib.ListN.{length, take, drop, get_or, get_elem?}
 use lib.Seq.{length-take-le}
-use borrow.Author.Tests.{ne_eqb, le-leb}
+use borrow.Author.Tests.{le-leb}
 use mir.Syntax.{w8}
 use mir.Val.{Fits}
 use Rattle.format.specs.declared.answer.CountAnswer.{CountAnswer}
@@ -18,13 +18,13 @@ use Rattle.format.specs.declared.layout.Layout.{Layout}
 use Rattle.format.specs.declared.line.LineEnd.{LineEnd}
 use Rattle.format.specs.declared.block.Block.{Block}
 use Rattle.format.specs.declared.refusal.Refusal.{Refusal}
-use Rattle.format.specs.Answer.{layout_answer, block_answer}
+use Rattle.format.specs.Answer.{layout_answer}
 use Rattle.format.specs.Bytes.{Bytes, IsBytes}
 use Rattle.format.specs.Outcome.{accepted, refused, refusal}
 use Rattle.format.specs.Block.{is_streamed}
 use Rattle.format.specs.Chain.{most_blocks}
 use Rattle.format.specs.Index.{index_text}
-use Rattle.format.specs.File.{layout_of, layout, block_at}
+use Rattle.format.specs.File.{layout_of, layout}
 use Rattle.format.specs.IndexWriter.{may_have_index, index_for}
 use Rattle.format.proofs.ChainLaws.{blocks_few}
 use Rattle.format.proofs.FileLaws.{blocks_start, file_parts}

@@ -9,7 +9,6 @@ use lib.Seq.{get_or-take, take_at}
 use Rattle.format.specs.declared.answer.BlockAnswer.TheVariants as BlockAnswer·is
 use Rattle.format.specs.declared.block.Block.{Block}
 use Rattle.format.specs.Bytes.{Bytes}
-use Rattle.format.specs.Outcome.{accepted, ◌>>=◌}
 use Rattle.format.specs.File.{offsets, table_of, block_at}
 use Rattle.format.specs.Answer.{block_answer}
 use Rattle.format.proofs.PartLaws.{part_all, no_element}

@@ -1,8 +1,4 @@
 use Rattle.std.proofs.Common.{rules}
-use Prim.Native.Nat.{◌-◌}
-use mathlib.Core.Path.{◌≡◌}
-use lib.ListN.{length, replicate}
-use lib.Seq.{sets}
 use Rattle.edit.proofs.FillLaws.{spaces_step, spaces_done}
 use Rattle.edit.proofs.put_spaces.Goals as goal
 

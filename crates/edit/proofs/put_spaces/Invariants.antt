@@ -4,7 +4,6 @@ use Prim.Native.Nat.{◌-◌}
 use mathlib.Core.Path.{◌≡◌}
 use lib.ListN.{length, replicate}
 use lib.Seq.{sets}
-use Rattle.edit.proofs.FillLaws.{spaces_step, spaces_done}
 use Rattle.edit.proofs.put_spaces.Given as goal
 
 abbrev pub invariant-loop-at : goal.invariant-loop-at

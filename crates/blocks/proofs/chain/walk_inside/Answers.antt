@@ -1,9 +1,5 @@
 use Rattle.std.proofs.Common.{rules}
-use Prim.Native.Nat.{◌-◌, ◌≤◌}
-use lib.ListN.{length}
-use Rattle.format.specs.Chain.{most_blocks}
-use Rattle.blocks.specs.Chain.{onward}
-use Rattle.blocks.proofs.ChainLaws.{Walking, walk_begins, walk_refused, walk_zeros, walk_index, walk_streamed, walk_block, streamed_few, block_few, block_less, block_inside, block_fits}
+use Rattle.blocks.proofs.ChainLaws.{walk_begins, walk_refused, walk_zeros, walk_index, walk_streamed, walk_block, streamed_few, block_few, block_less, block_inside, block_fits}
 use Rattle.blocks.proofs.chain.walk_inside.Goals as goal
 
 pub loop-r-init : goal.loop-r-init

@@ -4,7 +4,7 @@ use Prim.Native.Nat.{◌-◌, ◌≤◌}
 use lib.ListN.{length}
 use Rattle.format.specs.Chain.{most_blocks}
 use Rattle.blocks.specs.Chain.{onward}
-use Rattle.blocks.proofs.ChainLaws.{Walking, walk_begins, walk_refused, walk_zeros, walk_index, walk_streamed, walk_block, streamed_few, block_few, block_less, block_inside, block_fits}
+use Rattle.blocks.proofs.ChainLaws.{Walking}
 use Rattle.blocks.proofs.chain.walk_inside.Given as goal
 
 abbrev pub invariant-loop-r : goal.invariant-loop-r

@@ -1,9 +1,4 @@
 use Rattle.std.proofs.Common.{rules}
-use Prim.Native.Nat.{◌-◌}
-use mathlib.Core.Path.{◌≡◌}
-use lib.ListN.{length, drop}
-use Rattle.format.specs.Line.{lines}
-use Rattle.format.specs.Comments.{comments}
 use Rattle.scan.proofs.LineLaws.{ended_begin, ended_end, ended_less}
 use Rattle.front.proofs.CommentsLaws.{comments_done, comments_unended, comments_index, comments_step}
 use Rattle.front.proofs.comments.comments_end.Goals as goal

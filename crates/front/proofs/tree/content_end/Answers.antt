@@ -1,9 +1,4 @@
 use Rattle.std.proofs.Common.{rules}
-use Prim.Native.Nat.{◌-◌}
-use mathlib.Core.Path.{◌≡◌}
-use lib.ListN.{length, drop}
-use Rattle.format.specs.Line.{lines}
-use Rattle.format.specs.Tree.{content}
 use Rattle.scan.proofs.LineLaws.{ended_begin, ended_end, ended_less}
 use Rattle.front.proofs.TreeLaws.{content_unended, content_done, content_start_lem, content_step}
 use Rattle.front.proofs.tree.content_end.Goals as goal

@@ -4,8 +4,6 @@ use mathlib.Core.Path.{◌≡◌}
 use lib.ListN.{length, drop}
 use Rattle.format.specs.Line.{lines}
 use Rattle.format.specs.Tree.{content}
-use Rattle.scan.proofs.LineLaws.{ended_begin, ended_end, ended_less}
-use Rattle.front.proofs.TreeLaws.{content_unended, content_done, content_start_lem, content_step}
 use Rattle.front.proofs.tree.content_end.Given as goal
 
 abbrev pub invariant-loop-text_end : goal.invariant-loop-text_end

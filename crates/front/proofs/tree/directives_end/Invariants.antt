@@ -4,8 +4,6 @@ use mathlib.Core.Path.{◌≡◌}
 use lib.ListN.{length, drop}
 use Rattle.format.specs.Line.{lines}
 use Rattle.format.specs.Tree.{directives}
-use Rattle.scan.proofs.LineLaws.{ended_begin, ended_end, ended_less}
-use Rattle.front.proofs.TreeLaws.{directives_unended, directives_done, directives_other, directives_step}
 use Rattle.front.proofs.tree.directives_end.Given as goal
 
 abbrev pub invariant-loop-text_end : goal.invariant-loop-text_end

@@ -1,13 +1,7 @@
 use Rattle.std.proofs.Common.{rules}
-use Prim.Native.Nat.{◌-◌, ◌≤◌}
-use mathlib.Core.Path.{◌≡◌}
-use mathlib.Core.Bool.{true}
-use lib.ListN.{length, drop}
-use Rattle.format.specs.Line.{lines}
-use Rattle.format.specs.Index.{dash_numbers, at_least_one, judged}
 use Rattle.scan.proofs.LineLaws.{ended_begin, ended_end, ended_next, ended_count, ended_less}
-use Rattle.index.proofs.ListLaws.{judged_from, agrees_inside}
-use Rattle.index.proofs.DashLaws.{after_others, dashes_begin, lines_unended, lines_done, lines_malformed, lines_step}
+use Rattle.index.proofs.ListLaws.{agrees_inside}
+use Rattle.index.proofs.DashLaws.{dashes_begin, lines_unended, lines_done, lines_malformed, lines_step}
 use Rattle.index.proofs.dashes.judge_lines.Goals as goal
 
 pub loop-text_end-init : goal.loop-text_end-init

@@ -1,10 +1,5 @@
 use Rattle.std.proofs.Common.{rules}
-use Prim.Native.Nat.{◌-◌, ◌≤◌}
-use mathlib.Core.Path.{◌≡◌}
-use mathlib.Core.Option.{some}
-use lib.ListN.{drop}
-use Rattle.format.specs.Index.{listed, judged}
-use Rattle.index.proofs.ListLaws.{judged_from, judged_begin, list_malformed, list_step, list_done}
+use Rattle.index.proofs.ListLaws.{judged_begin, list_malformed, list_step, list_done}
 use Rattle.index.proofs.list.judge_list.Goals as goal
 
 pub loop-x-init : goal.loop-x-init

@@ -5,7 +5,7 @@ use mathlib.Core.Path.{◌≡◌}
 use mathlib.Core.Option.{some}
 use lib.ListN.{drop}
 use Rattle.format.specs.Index.{listed, judged}
-use Rattle.index.proofs.ListLaws.{judged_from, judged_begin, list_malformed, list_step, list_done}
+use Rattle.index.proofs.ListLaws.{judged_from}
 use Rattle.index.proofs.list.judge_list.Given as goal
 
 abbrev pub invariant-loop-x : goal.invariant-loop-x

@@ -1,8 +1,4 @@
 use Rattle.std.proofs.Common.{rules}
-use Prim.Native.Nat.{◌-◌, ◌≤◌}
-use mathlib.Core.Path.{◌≡◌}
-use lib.ListN.{length, take, drop}
-use Rattle.format.specs.Index.{trim_end}
 use Rattle.index.proofs.TrimLaws.{end_begin, end_kept, end_step, end_done}
 use Rattle.index.proofs.spaces.spaces_at_end.Goals as goal
 

@@ -3,7 +3,6 @@ use Prim.Native.Nat.{◌-◌, ◌≤◌}
 use mathlib.Core.Path.{◌≡◌}
 use lib.ListN.{length, take, drop}
 use Rattle.format.specs.Index.{trim_end}
-use Rattle.index.proofs.TrimLaws.{end_begin, end_kept, end_step, end_done}
 use Rattle.index.proofs.spaces.spaces_at_end.Given as goal
 
 abbrev pub invariant-loop-i : goal.invariant-loop-i

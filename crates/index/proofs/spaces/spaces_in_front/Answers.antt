@@ -1,8 +1,4 @@
 use Rattle.std.proofs.Common.{rules}
-use Prim.Native.Nat.{◌-◌, ◌≤◌}
-use mathlib.Core.Path.{◌≡◌}
-use lib.ListN.{length, drop}
-use Rattle.format.specs.Index.{trim_start}
 use Rattle.index.proofs.TrimLaws.{front_other, front_step, front_done}
 use Rattle.index.proofs.spaces.spaces_in_front.Goals as goal
 

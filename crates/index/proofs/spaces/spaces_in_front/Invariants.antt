@@ -3,7 +3,6 @@ use Prim.Native.Nat.{◌-◌, ◌≤◌}
 use mathlib.Core.Path.{◌≡◌}
 use lib.ListN.{length, drop}
 use Rattle.format.specs.Index.{trim_start}
-use Rattle.index.proofs.TrimLaws.{front_other, front_step, front_done}
 use Rattle.index.proofs.spaces.spaces_in_front.Given as goal
 
 abbrev pub invariant-loop-i : goal.invariant-loop-i

@@ -1,7 +1,5 @@
 use Rattle.std.proofs.Common.{rules}
-use Prim.Native.Nat.{◌-◌}
-use lib.ListN.{length}
-use Rattle.outline.proofs.CountLaws.{Counting, count_parts, count_start, count_bad, depth_fits, count_step, count_done}
+use Rattle.outline.proofs.CountLaws.{count_parts, count_start, count_bad, depth_fits, count_step, count_done}
 use Rattle.outline.proofs.stored.count.Goals as goal
 
 pub returns-then-b-ne0 : goal.returns-then-b-ne0

@@ -1,7 +1,7 @@
 -- The invariant: continuing the count at any row gives the count of the whole outline.
 use Prim.Native.Nat.{◌-◌}
 use lib.ListN.{length}
-use Rattle.outline.proofs.CountLaws.{Counting, count_parts, count_start, count_bad, depth_fits, count_step, count_done}
+use Rattle.outline.proofs.CountLaws.{Counting}
 use Rattle.outline.proofs.stored.count.Given as goal
 
 abbrev pub invariant-loop-at : goal.invariant-loop-at

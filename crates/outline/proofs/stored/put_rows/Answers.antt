@@ -1,8 +1,5 @@
 use Rattle.std.proofs.Common.{rules}
-use Prim.Native.Nat.{◌-◌}
-use lib.ListN.{length}
-use Rattle.put.proofs.PutLaws.{placed_length}
-use Rattle.outline.proofs.WriteLaws.{Putting, rows_start, next_fits, rows_step, rows_done}
+use Rattle.outline.proofs.WriteLaws.{rows_start, next_fits, rows_step, rows_done}
 use Rattle.outline.proofs.stored.put_rows.Goals as goal
 
 pub loop-from-init : goal.loop-from-init

@@ -1,8 +1,7 @@
 -- The invariant: putting the rows that are left gives the same buffer as putting all rows at its start.
 use Prim.Native.Nat.{◌-◌}
 use lib.ListN.{length}
-use Rattle.put.proofs.PutLaws.{placed_length}
-use Rattle.outline.proofs.WriteLaws.{Putting, rows_start, next_fits, rows_step, rows_done}
+use Rattle.outline.proofs.WriteLaws.{Putting}
 use Rattle.outline.proofs.stored.put_rows.Given as goal
 
 abbrev pub invariant-loop-from : goal.invariant-loop-from
