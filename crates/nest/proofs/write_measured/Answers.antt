@@ -1,0 +1,39 @@
+-- `nest::write_measured` meets its contract: there are too many records, a second walk puts them, or they are copied
+-- from the function's own buffer.
+use Rattle.std.proofs.Common.{rules}
+use Rattle.nest.proofs.EntryLaws.{told_fits, each_some, measured_short, measured_put, own_room, room_for, own_put}
+use Rattle.visit.proofs.SinkLaws.{delivered_length}
+use Rattle.nest.proofs.write_measured.Goals as goal
+
+pub nonzero_div-out : goal.nonzero_div-out
+nonzero_div-out c = search (each_some, rules)
+
+pub returns-then-out-each : goal.returns-then-out-each
+returns-then-out-each c = search (measured_short, rules)
+
+pub nonzero_div-each : goal.nonzero_div-each
+nonzero_div-each c = search (each_some, rules)
+
+pub overflow_mul-result : goal.overflow_mul-result
+overflow_mul-result c = told_fits c.requires.kept c.walk_all-n.ensures c.width_of-each.ensures
+
+pub shape_of-out-then-each-n : goal.shape_of-out-then-each-n
+shape_of-out-then-each-n c = delivered_length c.walk_all.ensures
+
+pub returns-then-each-n : goal.returns-then-each-n
+returns-then-each-n c = measured_put c.requires.kept _ c.requires.bound c.width_of-each.ensures _ c.walk_all-n.ensures (search (rules, c.if-out-each)) c.walk_all.ensures
+
+pub slice_bounds-hand_over-end : goal.slice_bounds-hand_over-end
+slice_bounds-hand_over-end c = search (delivered_length, rules)
+
+pub overflow_mul-each : goal.overflow_mul-each
+overflow_mul-each c = told_fits c.requires.kept c.walk_all-n.ensures c.width_of-each.ensures
+
+pub hand_over-requires : goal.hand_over-requires
+hand_over-requires c = record {
+  size_in_bounds = own_room c.requires.kept _ c.requires.bound c.width_of-each.ensures 7680 c.walk_all-n.ensures (search rules) (search (rules, c.if-each-n));
+  size_in_bounds_2 = search (room_for, rules, each_some c.requires.kept c.args.form c.requires.bound c.width_of-each.ensures, c.if-out-each);
+}
+
+pub returns : goal.returns
+returns c = own_put c.requires.kept _ c.requires.bound c.width_of-each.ensures _ c.walk_all-n.ensures (search (rules, c.if-out-each)) 7680 (search rules) (search (rules, c.if-each-n)) c.hand_over.ensures
