@@ -1,6 +1,6 @@
 -- Blocks one after another.
-use Rattle.std.proofs.Common.{◌≡◌, ℕ, zero, suc, ◌+◌, ◌-◌, ◌*◌, ◌/◌, ◌%◌, ◌<◌, ◌≤◌, List, [], ◌∷◌, ◌++◌, length, take, drop, sym, refl, ap, ◌∙◌, append_assoc, add-zero, suc-add, zero-add, arith, length-append, length-drop, take-append-drop, length-take, length-take-le, drop-drop, take_at, drop_at}
-use lib.Seq.{take-append-le, drop-append-le, drop-append-add, drop-append_seam}
+use Rattle.std.proofs.Common.{◌≡◌, ℕ, zero, suc, ◌+◌, ◌-◌, ◌*◌, ◌/◌, ◌%◌, ◌<◌, ◌≤◌, [], ◌∷◌, ◌++◌, length, take, drop, sym, refl, ◌∙◌, append_assoc, add-zero, suc-add, zero-add, arith, length-append, length-drop, take-append-drop, length-take-le, drop-drop}
+use lib.Seq.{take-append-le, drop-append-le, drop-append-add}
 use Rattle.md5_parts.specs.declared.words.Words.{Words}
 use Rattle.format.specs.Bytes.{Bytes}
 use Rattle.md5_parts.specs.Md5.{words_of, compressed, blocks, hashed, left}

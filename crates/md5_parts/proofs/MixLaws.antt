@@ -1,5 +1,5 @@
 -- The functions F and G, as the code works them out. Each law is an induction over the bits of the words.
-use Rattle.std.proofs.Common.{◌≡◌, ℕ, zero, suc, ◌+◌, ◌-◌, ◌*◌, ◌/◌, ◌%◌, ◌^◌, ◌<◌, ◌≤◌, sym, refl, ap, ◌∙◌, ap₂, pow-suc, div-add-mod', arith}
+use Rattle.std.proofs.Common.{◌≡◌, ℕ, zero, suc, ◌+◌, ◌-◌, ◌/◌, ◌%◌, ◌^◌, ◌<◌, ◌≤◌, sym, refl, ap, ◌∙◌, ap₂, pow-suc, arith}
 use lib.Arith.{lt-one}
 use lib.Bits.{bit_and, bit_or, bit_xor, and_shr, or_shr, xor_shr, and_mod, or_mod, xor_mod, or_lt, and_le_l, and_le_r, or_disjoint}
 use Rattle.md5_parts.specs.Md5.{word_sum, complement, mix_f, mix_g}

@@ -1,5 +1,5 @@
 -- A part that is given to a state.
-use Rattle.std.proofs.Common.{◌≡◌, ℕ, zero, suc, ◌+◌, ◌-◌, ◌*◌, ◌/◌, ◌%◌, ◌<◌, ◌≤◌, true, false, List, [], ◌∷◌, ◌++◌, length, take, drop, sym, refl, ap, ◌∙◌, append_assoc, append-nil, arith, length-append, length-drop, take-append-drop, length-take, length-take-le, drop-drop, le-leb}
+use Rattle.std.proofs.Common.{◌≡◌, ℕ, ◌+◌, ◌-◌, ◌*◌, ◌/◌, ◌%◌, ◌<◌, ◌≤◌, ◌++◌, length, take, drop, sym, ap, ◌∙◌, append_assoc, arith, length-append, length-drop, take-append-drop, length-take, length-take-le, drop-drop, le-leb}
 use borrow.Author.Tests.{lt-leb}
 use Rattle.md5_parts.specs.declared.words.Words.{Words}
 use Rattle.md5_parts.specs.declared.state.Md5.{Md5}
@@ -10,7 +10,7 @@ use Rattle.md5_parts.specs.Md5.{compressed, blocks, hashed, left, padding, diges
 use Rattle.format.specs.File.{most_bytes}
 use Rattle.format.specs.Outcome.{refusal}
 use Rattle.format.specs.declared.refusal.Refusal.{Refusal}
-use Rattle.md5_parts.specs.State.{in_block, held, next, fits, taken, fed, digest}
+use Rattle.md5_parts.specs.State.{in_block, held, next, taken, fed, digest}
 use Rattle.format.proofs.PartLaws.{part_all}
 use Rattle.md5_parts.proofs.BlockLaws.{hashed_append, left_append}
 use Rattle.md5_parts.proofs.PaddingLaws.{full}

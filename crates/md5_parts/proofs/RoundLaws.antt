@@ -1,5 +1,5 @@
 -- The rounds of a block: four operations at a time.
-use Rattle.std.proofs.Common.{◌≡◌, ℕ, ◌+◌, ◌*◌, ◌%◌, ◌^◌, ◌≤◌, List, [], ◌∷◌, length, get_or, take, drop, sym, refl, add-zero, add_assoc, arith, length-drop, get_or-drop, drop-drop}
+use Rattle.std.proofs.Common.{◌≡◌, ℕ, ◌+◌, ◌*◌, ◌%◌, ◌^◌, ◌≤◌, List, [], ◌∷◌, length, get_or, take, drop, sym, add-zero, add_assoc, arith, length-drop, get_or-drop, drop-drop}
 use Rattle.md5_parts.specs.declared.words.Words.{Words}
 use Rattle.md5_parts.specs.Md5.{word_sum, rotated, stepped, mix_f, mix_g, mix_h, mix_i, operation, four_of, round, first_round, second_round, third_round, fourth_round, little_endian, words_of}
 

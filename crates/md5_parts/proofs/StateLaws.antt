@@ -1,13 +1,13 @@
 -- However a message is cut, its digest is that of the whole.
-use Rattle.std.proofs.Common.{◌≡◌, ℕ, ◌+◌, ◌-◌, ◌*◌, ◌/◌, ◌%◌, ◌≤◌, Bool, true, false, leb, List, [], ◌∷◌, ◌++◌, length, take, drop, replicate, sym, refl, ap, ◌∙◌, append_assoc, append-nil, arith, length-append, take_at, le-leb}
+use Rattle.std.proofs.Common.{◌≡◌, ℕ, ◌+◌, ◌%◌, ◌≤◌, Bool, true, false, leb, List, [], ◌∷◌, ◌++◌, length, refl, ap, ◌∙◌, append_assoc, append-nil, arith, length-append, take_at, le-leb}
 use Rattle.md5_parts.specs.declared.state.Md5.{Md5}
 use Rattle.md5_parts.specs.declared.state.Fed.{Fed}
 use Rattle.md5_parts.specs.declared.state.PartAnswer.TheVariants.{Taken, Refused}
 use Rattle.format.specs.Bytes.{Bytes}
-use Rattle.md5_parts.specs.Md5.{blocks, start, hashed, left, padding, digest_of, md5}
+use Rattle.md5_parts.specs.Md5.{blocks, start, hashed, left, padding, md5}
 use Rattle.format.specs.File.{most_bytes}
 use Rattle.format.specs.Outcome.{refusal}
-use Rattle.md5_parts.specs.State.{in_block, held, starting, next, fits, taken, fed, digest, fed_all, AllTaken, joined_all, taken_of, CutsAgree}
+use Rattle.md5_parts.specs.State.{held, starting, next, fits, taken, fed, digest, fed_all, AllTaken, joined_all, taken_of, CutsAgree}
 use Rattle.md5_parts.proofs.BlockLaws.{left_size, hashed_on, left_on}
 
 -- The state `st` is that after the message `s`.

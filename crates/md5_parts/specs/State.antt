@@ -6,7 +6,6 @@ use Rattle.format.specs.Outcome.{Outcome, accepted, refused, need, ◌>>◌}
 use Rattle.format.specs.File.{most_bytes}
 use Rattle.md5_parts.specs.declared.state.Md5.{Md5}
 use Rattle.md5_parts.specs.declared.state.Fed.{Fed}
-use Rattle.md5_parts.specs.declared.state.PartAnswer.{PartAnswer}
 use Rattle.md5_parts.specs.declared.state.PartAnswer.TheVariants.{Taken, Refused}
 use Rattle.md5_parts.specs.Md5.{start, hashed, left, padding, digest_of, md5}
 
