@@ -1,9 +1,9 @@
 -- Laws about the check of a block's data: where the data is, its digest, and one law for each return.
-use Prim.Native.Nat.{ℕ, zero, suc, ◌+◌, ◌-◌, ◌≤◌, ◌<◌}
+use Prim.Native.Nat.{ℕ, ◌+◌, ◌-◌, ◌≤◌}
 use mathlib.Core.Path.{◌≡◌, refl, sym, ap, ◌∙◌}
 use mathlib.Core.Bool.{Bool, true, false, not}
-use mathlib.Core.List.{List, [], ◌∷◌, append-nil}
-use mathlib.Core.Option.{Option, none, some}
+use mathlib.Core.List.{[], ◌∷◌, append-nil}
+use mathlib.Core.Option.{none, some}
 use native.Mathlib.Omega.{arith}
 use lib.ListN.{length, take, drop, get_elem?, length-drop}
 use lib.Seq.{length-take-le}
@@ -23,7 +23,7 @@ use Rattle.format.specs.File.{File, most_bytes, file, block_at}
 use Rattle.format.specs.Nest.{content_at, content_of}
 use Rattle.format.specs.Outcome.{Outcome, accepted, refused, refusal}
 use Rattle.format.proofs.BlockLaws.{accepted_block}
-use Rattle.format.proofs.FileBlockLaws.{BlockAt, element, file_blocks}
+use Rattle.format.proofs.FileBlockLaws.{element, file_blocks}
 use Rattle.format.proofs.FileLaws.{blocks_start, file_parts}
 use Rattle.format.proofs.PartLaws.{no_element}
 use Rattle.md5_parts.specs.declared.state.Md5.{Md5}

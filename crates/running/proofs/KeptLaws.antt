@@ -1,22 +1,22 @@
 -- The law of the running digest carries over to the bytes that a caller keeps.
-use Prim.Native.Nat.{ℕ, zero, suc, ◌+◌, ◌-◌, ◌/◌, ◌%◌, ◌^◌, ◌≤◌, ◌<◌}
+use Prim.Native.Nat.{ℕ, zero, suc, ◌+◌, ◌-◌, ◌/◌, ◌^◌, ◌≤◌, ◌<◌}
 use mathlib.Core.Path.{◌≡◌, refl, sym, ap, ◌∙◌}
 use mathlib.Core.Bool.{Bool, true, false}
 use mathlib.Core.List.{List, [], ◌∷◌, ◌++◌}
 use native.Mathlib.Omega.{arith}
-use lib.ListN.{length, take, drop, replicate, length-append, length-replicate}
+use lib.ListN.{length, drop, replicate, length-append, length-replicate}
 use lib.Seq.{drop_at}
 use lib.Dec.{leb}
 use borrow.Author.Tests.{le-leb, leb-true}
 use Rattle.format.specs.Bytes.{Bytes}
 use Rattle.format.specs.File.{most_bytes}
 use Rattle.format.specs.Lent.{placed, leaves}
-use Rattle.format.specs.Outcome.{Outcome, accepted, refused, refusal, need, ◌>>=◌, ◌>>◌}
+use Rattle.format.specs.Outcome.{accepted, refused, refusal, ◌>>=◌, ◌>>◌}
 use Rattle.md5_parts.specs.declared.state.Md5.{Md5}
-use Rattle.md5_parts.specs.declared.state.PartAnswer.TheVariants.{Taken, Refused}
+use Rattle.md5_parts.specs.declared.state.PartAnswer.TheVariants.{Taken}
 use Rattle.md5_parts.specs.declared.words.Words.{Words}
-use Rattle.md5_parts.specs.Md5.{word_sum, added, compressed, blocks, hashed, left, md5}
-use Rattle.md5_parts.specs.State.{in_block, held, starting, next, fits, taken, fed, digest, fed_all, AllTaken, joined_all, taken_of}
+use Rattle.md5_parts.specs.Md5.{added, compressed, blocks, left}
+use Rattle.md5_parts.specs.State.{in_block, held, starting, next, fits, taken, fed, digest, fed_all, AllTaken}
 use Rattle.md5_parts.specs.Kept.{state_bytes, encode_state, decode_state, part_bytes, digest_bytes, started_in, kept_all, AllKept, KeptCutsAgree}
 use Rattle.md5_parts.proofs.BlockLaws.{left_size}
 use Rattle.md5_parts.proofs.StateLaws.{fed_fits, fed_long, cuts_agree}

@@ -1,11 +1,10 @@
 -- One law for each return of the functions over a caller's bytes.
-use Prim.Native.Nat.{ℕ, ◌+◌, ◌-◌, ◌%◌, ◌^◌, ◌≤◌, ◌<◌}
-use mathlib.Core.Path.{◌≡◌, refl, sym, ap, ◌∙◌}
-use mathlib.Core.Bool.{Bool, true, false}
-use mathlib.Core.List.{List, [], ◌∷◌, ◌++◌, append-nil}
+use Prim.Native.Nat.{ℕ, ◌-◌, ◌%◌, ◌^◌, ◌≤◌, ◌<◌}
+use mathlib.Core.Path.{◌≡◌, refl, sym, ◌∙◌}
+use mathlib.Core.List.{[], ◌∷◌}
 use native.Mathlib.Omega.{arith}
-use lib.ListN.{length, take, drop, replicate, length-drop}
-use lib.Seq.{length-take-le, take-length}
+use lib.ListN.{length, take, drop, length-drop}
+use lib.Seq.{length-take-le}
 use borrow.Author.Tests.{le-leb, lt-leb}
 use Rattle.format.specs.declared.answer.CountAnswer.{CountAnswer}
 use Rattle.format.specs.declared.answer.CountAnswer.TheVariants as CountAnswer·is
@@ -20,7 +19,7 @@ use Rattle.md5_parts.specs.declared.state.Fed.{Fed}
 use Rattle.md5_parts.specs.declared.state.PartAnswer.{PartAnswer}
 use Rattle.md5_parts.specs.declared.state.PartAnswer.TheVariants.{Taken, Refused}
 use Rattle.md5_parts.specs.declared.words.Words.{Words}
-use Rattle.md5_parts.specs.State.{starting, taken, fed_by, fed, digest}
+use Rattle.md5_parts.specs.State.{starting, taken, fed, digest}
 use Rattle.md5_parts.specs.Kept.{state_bytes, state_of, encode_state, decode_state, part_bytes, digest_bytes, part_answer, PartKept}
 use Rattle.put.specs.Put.{PutWhole}
 use Rattle.put.proofs.PutLaws.{placed_after}
@@ -39,18 +38,13 @@ state_put w p n out mid after most r room size first put =
 pub state_read : (s : Bytes) → state_bytes ≤ length s → (a b c d n : ℕ) (p : Bytes) → a ≡ big_endian (take (8 - 0) (drop 0 s)) % 2 ^ 32
     → b ≡ big_endian (take (16 - 8) (drop 8 s)) % 2 ^ 32 → c ≡ big_endian (take (24 - 16) (drop 16 s)) % 2 ^ 32
     → d ≡ big_endian (take (32 - 24) (drop 24 s)) % 2 ^ 32 → BigEndian (take (40 - 32) (drop 32 s)) n
-    → p ≡ take (length (take (104 - 40) (drop 40 s))) (take (104 - 40) (drop 40 s)) ++ drop (length (take (104 - 40) (drop 40 s))) (replicate 64 0)
+    → p ≡ take (104 - 40) (drop 40 s)
     → ◌≡◌ {A = Md5} (record { words = record { a = a; b = b; c = c; d = d }; pending = p; count = n }) (decode_state s)
 unfolding decode_state
 state_read s room a b c d n p ea eb ec ed en ep =
     let eight : length (take 8 (drop 32 s)) ≡ 8 = length-take-le 8 (drop 32 s) (simp length-drop (omega arith)) in
-    let block : length (take 64 (drop 40 s)) ≡ 64 = length-take-le 64 (drop 40 s) (simp length-drop (omega arith)) in
     let count : n ≡ big_endian (take 8 (drop 32 s)) = en.whole (omega arith) in
-    let zeros : Bytes = replicate 64 0 in
-    let none : drop 64 zeros ≡ [] = refl in
-    let held : p ≡ take 64 (drop 40 s) =
-    ep ∙ rw (take-length, block, none, append-nil) in
-    rw (ea, eb, ec, ed, count, held)
+    rw (ea, eb, ec, ed, count, ep)
 
 module _ (b : Bytes) where
   -- Bytes that are too short for a state.

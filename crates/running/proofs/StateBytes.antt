@@ -1,7 +1,7 @@
 -- A state as bytes and back.
-use Prim.Native.Nat.{ℕ, zero, suc, ◌+◌, ◌-◌, ◌%◌, ◌^◌, ◌≤◌, ◌<◌}
+use Prim.Native.Nat.{ℕ, ◌+◌, ◌%◌, ◌^◌, ◌≤◌, ◌<◌}
 use mathlib.Core.Path.{◌≡◌, refl, sym, ap, ◌∙◌}
-use mathlib.Core.List.{List, [], ◌∷◌, ◌++◌, append_assoc, flat_map}
+use mathlib.Core.List.{[], ◌∷◌, ◌++◌, append_assoc, flat_map}
 use native.Mathlib.Nat.{mod-eq_of_lt}
 use native.Mathlib.Omega.{arith}
 use lib.ListN.{length, take, drop, length-append}
@@ -11,7 +11,6 @@ use Rattle.format.specs.Fields.{number_bytes}
 use Rattle.format.specs.File.{most_bytes}
 use Rattle.format.proofs.PackLaws.{to_bytes_length, big_endian_to_bytes}
 use Rattle.md5_parts.specs.declared.state.Md5.{Md5}
-use Rattle.md5_parts.specs.declared.words.Words.{Words}
 use Rattle.md5_parts.specs.Kept.{state_bytes, state_of, encode_state, word_at, decode_state}
 
 -- The five numbers of a state take forty bytes.

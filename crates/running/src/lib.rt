@@ -78,7 +78,7 @@ fn state_of(s: &[u8]) -> Md5
     };
     let count = big_endian(&s[32..40]);
     let mut pending = [0u8; 64];
-    octets::copy(&s[40..104], &mut pending);
+    pending.copy_from_slice(&s[40..104]);
     Md5 {
         words,
         pending,
