@@ -4,4 +4,4 @@ use Rattle.blocks.proofs.BlockLaws.{field_read}
 use Rattle.blocks.proofs.block.field.Goals as goal
 
 pub returns : goal.returns
-returns c = search (field_read, c.shared_slice_known-1.given, rules)
+returns c = search (field_read, c.type_inv.t, rules)

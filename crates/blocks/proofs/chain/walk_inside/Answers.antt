@@ -18,7 +18,7 @@ pub keep-requires : goal.keep-requires
 keep-requires c = search (streamed_few, rules)
 
 pub returns-in-Streamed : goal.returns-in-Streamed
-returns-in-Streamed c = walk_streamed _ _ _ _ _ _ _ c.loop-r.invariant.0 c.link.result c.link.ensures _ c.keep.ensures (search (rules, c.before.before.before.before))
+returns-in-Streamed c = walk_streamed _ _ _ _ _ _ _ c.loop-r.invariant.0 c.link.result c.link.ensures _ c.keep.ensures c.in-Streamed.is
 
 pub keep-requires-in-Block : goal.keep-requires-in-Block
 keep-requires-in-Block c = search (block_few, rules)
