@@ -73,7 +73,7 @@ fn listings_in_the_documents_are_what_is_printed() {
             shown += 1;
         }
     }
-    assert_eq!(shown, 5);
+    assert_eq!(shown, 3);
 }
 
 #[test]
