@@ -1,4 +1,4 @@
-/* Proved functions that read the layout of ASDF files. Link target/staticlib/libasdf.a; `rt staticlib asdf` writes it.
+/* Proved functions that read the layout of ASDF files. Link crates/asdf/out/libasdf.a; `rt lib` in crates/asdf writes it.
  *
  * Every function returns one number:
  *   - below 2^56, it is how many bytes were written at the start of `out`, or the count that was asked for;
