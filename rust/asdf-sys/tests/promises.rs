@@ -31,10 +31,11 @@ struct Function {
     promise: Vec<String>,
 }
 
-/// All files below a folder whose paths end with `suffix`.
+/// All files below a folder whose paths end with `suffix`, but for those that were built.
 fn files(folder: &Path, suffix: &str) -> Vec<PathBuf> {
     let entries = fs::read_dir(folder).unwrap().map(|e| e.unwrap().path());
     entries
+        .filter(|path| !path.ends_with("out"))
         .flat_map(|path| match path.is_dir() {
             true => files(&path, suffix),
             false => vec![path],
