@@ -1,4 +1,4 @@
-/* Proved functions that read the layout of ASDF files. Link target/staticlib/libasdf.a; `rt staticlib asdf` writes it.
+/* Proved functions that read the layout of ASDF files. Link crates/asdf/out/libasdf.a; `rt lib` in crates/asdf writes it.
  *
  * Every function returns one number:
  *   - below 2^56, it is how many bytes were written at the start of `out`, or the count that was asked for;
@@ -14,8 +14,7 @@
  * The proofs rest on these duties of the caller:
  *   - The program runs on x86-64 Linux.
  *   - Each pointer points to the given number of bytes, at most PTRDIFF_MAX. NULL is allowed only with a length of 0.
- *   - Bytes that a function may change (`out`, the file of asdf_edit and the state of asdf_md5_start and asdf_md5_part)
- *     overlap nothing else that is lent to it.
+ *   - Bytes that a function may change (`out`, and the file of asdf_edit) overlap nothing else that is lent to it.
  *   - Nobody else changes lent bytes during a call, not even through a mapped file.
  *
  * Each number in a buffer has eight bytes, the most significant first; asdf_number reads it. */
@@ -31,7 +30,7 @@ extern "C" {
 
 /* Why something is refused. */
 enum asdf_refusal {
-    ASDF_FILE_TOO_LONG = 1,           /* there are more than 4,294,967,295 bytes */
+    ASDF_FILE_TOO_LONG = 1,           /* file is longer than 4,294,967,295 bytes */
     ASDF_NOT_ASDF = 2,                /* file does not begin with `#ASDF ` */
     ASDF_VERSION_MALFORMED = 3,       /* version line is malformed or has no line end */
     ASDF_VERSION_NOT_ONE = 4,         /* first version number is not 1 */
@@ -54,8 +53,7 @@ enum asdf_refusal {
     ASDF_BUFFER_TOO_SHORT = 21,       /* lent buffer is shorter than the result */
     ASDF_NO_INDEX_POSSIBLE = 22,      /* file cannot have an index: it has no block, or its last block is streamed */
     ASDF_OUTLINE_LENGTH = 23,         /* length of the outline is not divisible by 16 */
-    ASDF_OUTLINE_ROW = 24,            /* row of the outline breaks a rule */
-    ASDF_NO_SUCH_BLOCK = 25           /* file has no block with this ordinal */
+    ASDF_OUTLINE_ROW = 24             /* row of the outline breaks a rule */
 };
 
 #define ASDF_IS_REFUSAL(word) ((word) >> 56 != 0)
@@ -72,8 +70,6 @@ enum asdf_refusal {
 #define ASDF_ROW_BYTES 16
 #define ASDF_STORED_ROW_BYTES 80
 #define ASDF_LONGEST_INDEX 809
-#define ASDF_MD5_STATE_BYTES 104
-#define ASDF_MD5_BYTES 16
 
 /* The numbers of a layout. Ends are exclusive. If there is no tree, its three offsets are 0. */
 enum asdf_layout_number {
@@ -151,13 +147,6 @@ enum asdf_row_number {
     ASDF_ROW_INNER
 };
 
-/* What the data of a block says about the MD5 checksum in its header. */
-enum asdf_check_result {
-    ASDF_CHECK_NOT_STATED, /* The header states no checksum: its sixteen bytes are zeros. */
-    ASDF_CHECK_AGREES,
-    ASDF_CHECK_DIFFERS
-};
-
 /* Reads a number from a buffer, in which `before` other numbers precede it. */
 static inline uint64_t asdf_number(const uint8_t *buffer, size_t before)
 {
@@ -192,37 +181,6 @@ uint64_t asdf_records(const uint8_t *file, size_t file_length, uint8_t *out, siz
 /* Writes the text of a block index in brackets, to be placed directly after the last block: at most ASDF_LONGEST_INDEX
  * bytes. Its lines end as the file's header line does. Also refuses with 22 a file that cannot have an index. */
 uint64_t asdf_index(const uint8_t *file, size_t file_length, uint8_t *out, size_t out_length);
-
-/* Works out the MD5 of a block's data and compares it with the checksum in the block's header. Returns one of enum
- * asdf_check_result. The data is the content as it is stored: the used part, also if it is compressed. Also refuses with
- * 25 if there is no block with this ordinal in the outermost file. Unlike the other functions it reads the whole content.
- * To check data that is not in memory as a whole, take the checksum from asdf_block, and the MD5 from the functions
- * below. */
-uint64_t asdf_check(const uint8_t *file, size_t file_length, uint64_t ordinal);
-
-/* Functions that work out the MD5 (RFC 1321) of bytes that come in parts. The caller keeps the running state, in
- * ASDF_MD5_STATE_BYTES. Any bytes are a state, but only a state that began with asdf_md5_start has a meaning: however
- * the bytes are cut into parts, empty ones among them, the digest is that of all of them. A state may be copied, to go on
- * from it more than once. A shorter buffer is refused with 21.
- *
- *     uint8_t state[ASDF_MD5_STATE_BYTES], part[65536], digest[ASDF_MD5_BYTES];
- *     size_t length;
- *     asdf_md5_start(state, sizeof state);
- *     while ((length = fread(part, 1, sizeof part, file)) > 0)
- *         if (asdf_md5_part(state, sizeof state, part, length) != 0)
- *             return 1; // more than 4,294,967,295 bytes
- *     asdf_md5_digest(state, sizeof state, digest, sizeof digest);
- */
-
-/* Writes the state before any byte, in ASDF_MD5_STATE_BYTES. */
-uint64_t asdf_md5_start(uint8_t *state, size_t state_length);
-
-/* Takes a part, and returns 0 if that is done. Refuses it with 1 if more than 4,294,967,295 bytes would have come in all.
- * The state is then the one before that part, and a shorter part may follow. */
-uint64_t asdf_md5_part(uint8_t *state, size_t state_length, const uint8_t *part, size_t part_length);
-
-/* Writes the digest of all bytes so far, in ASDF_MD5_BYTES. The state is not changed, and further parts may follow. */
-uint64_t asdf_md5_digest(const uint8_t *state, size_t state_length, uint8_t *out, size_t out_length);
 
 /* Functions that read a stored outline. Each call judges all rows, and refuses the outline with 23 or 24 if it breaks a
  * rule. */

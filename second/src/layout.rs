@@ -3,11 +3,13 @@
 use crate::block::{find_mark, mark_at, walk_chain, Block, Chain, Tail};
 use crate::header::{comments_end, read_header, Version};
 use crate::index::{judge_index, Verdict};
-use crate::length::refuse_too_long;
 use crate::line::LineEnd;
 use crate::offset::InFile;
 use crate::refusal::*;
 use crate::tree::tree_end;
+
+/// The length of the longest file.
+const LONGEST_FILE: u64 = 4_294_967_295;
 
 /// A range of a file's bytes. It is empty if both ends are the same.
 #[derive(Debug, Clone, Copy, PartialEq, Eq)]
@@ -98,6 +100,14 @@ pub(crate) fn judge(file: &[u8]) -> Result<Judged, Refusal> {
     })
 }
 
+/// Refuses a length above the limit. Refusal: 1.
+fn refuse_too_long(length: u64) -> Result<(), Refusal> {
+    if length > LONGEST_FILE {
+        return Err(Refusal::of_whole(FILE_TOO_LONG));
+    }
+    Ok(())
+}
+
 /// Returns the mark of the first block, if there is one. After a tree, this is the first mark that
 /// is found. Without a tree, it can only be at the comments' end. Refusal: 7.
 fn first_block(
@@ -113,5 +123,30 @@ fn first_block(
         Ok(None)
     } else {
         Err(Refusal::at(NEITHER_TREE_NOR_BLOCK, comments_end))
+    }
+}
+
+#[cfg(test)]
+mod tests {
+    use super::*;
+
+    #[test]
+    fn length_at_the_limit_is_taken_and_one_above_is_refused_with_1() {
+        assert_eq!(refuse_too_long(4_294_967_295), Ok(()));
+        assert_eq!(
+            refuse_too_long(4_294_967_296),
+            Err(Refusal {
+                number: 1,
+                place: 0
+            })
+        );
+        assert_eq!(
+            refuse_too_long(u64::MAX),
+            Err(Refusal {
+                number: 1,
+                place: 0
+            })
+        );
+        assert_eq!(refuse_too_long(0), Ok(()));
     }
 }

@@ -4,8 +4,8 @@
 #![forbid(unsafe_code)]
 
 use asdf_second::{
-    check, edit, listing, most_rows, outline, read, read_outline, records, write_index, Block,
-    Inner, Layout, LineEnd, Md5, Record, Refusal, LONGEST_INDEX, PROGRAM_LIMIT, ROW_LENGTH,
+    edit, listing, most_rows, outline, read, read_outline, records, write_index, Block, Inner,
+    Layout, LineEnd, Record, Refusal, LONGEST_INDEX, PROGRAM_LIMIT, ROW_LENGTH,
 };
 use std::ffi::OsString;
 use std::io::{self, Read, Write};
@@ -32,29 +32,21 @@ Commands, each for standard input of any length:
                    and then plain, opened, refused NUMBER PLACE, or too-deep
   outline        write the file's outline, raw bytes
   read-outline   read a stored outline, print one line for each row as in the listing
-  check ORDINAL  check the data of one block against the MD5 that the block states, print
-                   not-stated, agrees or differs
-                   ORDINAL counts the file's own blocks from 0
-  md5            print the MD5 of standard input, which need not be an ASDF file
   index          write the file's index with the header's line end, raw bytes
   edit TEXTFILE  put the text in the place of the tree, write the whole file, raw bytes
 
 H is the block's header size. It counts from offset 6 of the block, so the content
-begins at OFFSET + 6 + H. FLAGS, COMPRESSION, CHECKSUM and the printed MD5 are
-hexadecimal. All other numbers are decimal.
+begins at OFFSET + 6 + H. FLAGS, COMPRESSION and CHECKSUM are hexadecimal. All
+other numbers are decimal.
 
 If the request is refused, the only output is the line `refused NUMBER PLACE`:
-  no command, layout, records, read-outline, check, md5: on standard output, with
-  status 0
+  no command, layout, records, read-outline: on standard output, with status 0
   outline, index, edit: on standard error, with status 1
 
 Messages about input or output errors go to standard error, with status 1.
 Wrong arguments give this text on standard error, with status 2.
 Otherwise the status is 0.
 ";
-
-/// The number of bytes that are read at a time if standard input is taken in parts.
-const PART_LENGTH: u64 = 65_536;
 
 fn main() -> ExitCode {
     let arguments: Vec<OsString> = std::env::args_os().skip(1).collect();
@@ -77,11 +69,6 @@ fn run(arguments: &[OsString]) -> io::Result<ExitCode> {
         [Some("read-outline")] => {
             print_result(read_outline(&whole_input()?).map(|rows| lines_of(&rows)))
         }
-        [Some("check"), Some(digits)] if is_decimal(digits) => {
-            let answer = check(&whole_input()?, ordinal(digits));
-            print_result(answer.map(|answer| format!("{answer}\n")))
-        }
-        [Some("md5")] => print_result(input_md5()?.map(|digest| hexadecimal(&digest) + "\n")),
         [Some("outline")] => {
             let file = whole_input()?;
             let buffer = vec![0; most_rows(file.len()) * ROW_LENGTH];
@@ -118,37 +105,6 @@ fn whole_input() -> io::Result<Vec<u8>> {
     let mut input = Vec::new();
     io::stdin().read_to_end(&mut input)?;
     Ok(input)
-}
-
-/// Returns the MD5 of standard input. The input is taken in parts, so that it need not fit into
-/// memory, and is read no further than a part that is refused.
-fn input_md5() -> io::Result<Result<[u8; 16], Refusal>> {
-    let mut input = io::stdin().lock();
-    let mut state = Md5::start();
-    let mut part = Vec::new();
-    loop {
-        part.clear();
-        input.by_ref().take(PART_LENGTH).read_to_end(&mut part)?;
-        if part.is_empty() {
-            return Ok(Ok(state.digest()));
-        }
-        let (next, answer) = state.part(&part);
-        if let Err(refusal) = answer {
-            return Ok(Err(refusal));
-        }
-        state = next;
-    }
-}
-
-/// Whether the text is a decimal number of any length.
-fn is_decimal(text: &str) -> bool {
-    !text.is_empty() && text.bytes().all(|byte| byte.is_ascii_digit())
-}
-
-/// Returns the ordinal that a decimal number names. A number that does not fit into 64 bits names
-/// no block, just as the highest number that fits.
-fn ordinal(digits: &str) -> u64 {
-    digits.parse().unwrap_or(u64::MAX)
 }
 
 fn write_out(bytes: &[u8]) -> io::Result<ExitCode> {

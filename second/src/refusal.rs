@@ -2,7 +2,7 @@
 
 use std::fmt;
 
-pub(crate) const TOO_LONG: u8 = 1;
+pub(crate) const FILE_TOO_LONG: u8 = 1;
 pub(crate) const NOT_ASDF: u8 = 2;
 pub(crate) const VERSION_MALFORMED: u8 = 3;
 pub(crate) const VERSION_NOT_ONE: u8 = 4;
@@ -26,7 +26,6 @@ pub(crate) const BUFFER_TOO_SHORT: u8 = 21;
 pub(crate) const NO_INDEX_POSSIBLE: u8 = 22;
 pub(crate) const OUTLINE_LENGTH: u8 = 23;
 pub(crate) const OUTLINE_ROW: u8 = 24;
-pub(crate) const NO_SUCH_BLOCK: u8 = 25;
 
 /// Why something is refused: the number from the table, and the place. The place counts from the
 /// first byte of the file (or outline) that was judged.

@@ -41,8 +41,6 @@
 //! | the rows of a stored outline | [`Outline::read`] |
 //! | the text of a block index | [`index_text`] |
 //! | another tree in place of the old one | [`edit`] |
-//! | whether a block's data agrees with its checksum | [`check`] |
-//! | the same for data that comes in parts | [`Md5`], [`Block::check`] |
 //! | every reason for a refusal, in words | [`REASONS`] |
 
 #![forbid(unsafe_code)]
@@ -50,7 +48,6 @@
 
 mod answer;
 mod block;
-mod check;
 mod layout;
 mod outline;
 mod records;
@@ -58,7 +55,6 @@ mod refusal;
 mod writers;
 
 pub use block::Block;
-pub use check::{check, Check, Md5};
 pub use layout::{Layout, LineEnd, Tree, Verdict, Version};
 pub use outline::{InnerState, Outline, Row};
 pub use records::{row_count, Inner, Record, Records};

@@ -80,7 +80,7 @@ macro_rules! reasons {
 }
 
 reasons! {
-    1 FILE_TOO_LONG Whole "there are more than 4,294,967,295 bytes",
+    1 FILE_TOO_LONG Whole "file is longer than 4,294,967,295 bytes",
     2 NOT_ASDF Whole "file does not begin with `#ASDF `",
     3 VERSION_MALFORMED Here "version line is malformed or has no line end",
     4 VERSION_NOT_ONE Here "first version number is not 1",
@@ -104,7 +104,6 @@ reasons! {
     22 NO_INDEX_POSSIBLE Whole "file cannot have an index: it has no block, or its last block is streamed",
     23 OUTLINE_LENGTH Whole "length of the outline is not divisible by 16",
     24 OUTLINE_ROW Row "row of the outline breaks a rule",
-    25 NO_SUCH_BLOCK Whole "file has no block with this ordinal",
 }
 
 impl Refusal {
@@ -154,12 +153,12 @@ mod tests {
     }
 
     #[test]
-    fn each_number_from_1_to_25_has_its_reason() {
+    fn each_number_from_1_to_24_has_its_reason() {
         let reason = |number| Refusal { number, place: 70 }.reason();
-        for (number, expected) in (1..=25).zip(REASONS) {
+        for (number, expected) in (1..=24).zip(REASONS) {
             assert_eq!(reason(number), Some(expected));
         }
-        let others = (26..=u8::MAX).chain([0]);
+        let others = (25..=u8::MAX).chain([0]);
         assert_eq!(others.filter_map(reason).next(), None);
     }
 
@@ -167,7 +166,7 @@ mod tests {
     fn sentence_names_the_place_where_there_is_one() {
         assert_eq!(
             sentence(1),
-            "there are more than 4,294,967,295 bytes (refusal 1)"
+            "file is longer than 4,294,967,295 bytes (refusal 1)"
         );
         assert_eq!(
             sentence(4),
@@ -184,10 +183,6 @@ mod tests {
         assert_eq!(
             sentence(24),
             "row of the outline breaks a rule, in the row at 70 (refusal 24)"
-        );
-        assert_eq!(
-            sentence(25),
-            "file has no block with this ordinal (refusal 25)"
         );
         assert_eq!(sentence(99), "unknown reason, at 70 (refusal 99)");
     }

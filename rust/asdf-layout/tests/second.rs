@@ -1,8 +1,8 @@
 //! Compares this crate with the second program, on every real file: both have to report the same.
 
 use asdf_layout::{
-    check, edit, index_text, row_count, Block, Check, Inner, InnerState, Layout, LineEnd, Md5,
-    Outline, Record, Records, Refusal, Row, Tree, Verdict, Version,
+    edit, index_text, row_count, Block, Inner, InnerState, Layout, LineEnd, Outline, Record,
+    Records, Refusal, Row, Tree, Verdict, Version,
 };
 use asdf_second as second;
 use std::fs;
@@ -109,14 +109,6 @@ fn row(row: &second::Row) -> Row {
     }
 }
 
-fn answer(check: second::Check) -> Check {
-    match check {
-        second::Check::NotStated => Check::NotStated,
-        second::Check::Agrees => Check::Agrees,
-        second::Check::Differs => Check::Differs,
-    }
-}
-
 #[test]
 fn layouts_and_blocks_are_the_same() {
     each_real_file(|file| {
@@ -220,52 +212,6 @@ fn indexes_and_edits_are_the_same() {
         let told = second::edit(&mut expected, text).map_err(refusal);
         assert_eq!(edit(&mut found, text), told);
         assert!(found == expected);
-    });
-}
-
-/// Compares the checks of all blocks of a file, and of one more.
-fn compare_checks(file: &[u8]) {
-    let blocks = Layout::read(file).map_or(0, |layout| layout.blocks);
-    for ordinal in 0..=u64::from(blocks) {
-        let told = second::check(file, ordinal);
-        assert_eq!(
-            check(file, ordinal),
-            told.map(answer).map_err(refusal),
-            "{ordinal}"
-        );
-    }
-}
-
-#[test]
-fn checks_are_the_same() {
-    each_real_file(|file| {
-        compare_checks(file);
-        compare_checks(&file[1..]);
-        // One bit is changed in the content of every block that has any.
-        let mut damaged = file.to_vec();
-        for block in Records::read(file).iter().flat_map(Records::blocks) {
-            if let Some(last) = damaged[block.content()].last_mut() {
-                *last ^= 1;
-            }
-        }
-        compare_checks(&damaged);
-    });
-}
-
-#[test]
-fn digests_in_parts_are_the_same() {
-    each_real_file(|file| {
-        for length in [1, 64, 1_000] {
-            let mut md5 = Md5::new();
-            let mut expected = second::Md5::start();
-            for part in file.chunks(length) {
-                let (after, told) = expected.part(part);
-                assert_eq!(md5.update(part), told.map_err(refusal));
-                expected = after;
-                assert_eq!(md5.digest(), expected.digest());
-            }
-            assert_eq!(md5.digest(), second::md5(file));
-        }
     });
 }
 

@@ -1,8 +1,8 @@
 //! Checks that the public types can be compared, copied, hashed and sent as users expect.
 
 use asdf_layout::{
-    Block, Check, Inner, InnerState, Layout, LineEnd, Md5, Outline, Reason, Record, Records,
-    Refusal, Row, Tree, Verdict, Version,
+    Block, Inner, InnerState, Layout, LineEnd, Outline, Reason, Record, Records, Refusal, Row,
+    Tree, Verdict, Version,
 };
 use std::fmt::Debug;
 use std::hash::Hash;
@@ -13,7 +13,6 @@ fn is_small_value<T: Copy + Debug + Eq + Hash + Send + Sync>() {}
 #[test]
 fn public_types_have_the_common_traits() {
     is_small_value::<Block>();
-    is_small_value::<Check>();
     is_small_value::<Inner>();
     is_small_value::<InnerState>();
     is_small_value::<Layout>();
@@ -25,7 +24,6 @@ fn public_types_have_the_common_traits() {
     is_small_value::<Tree>();
     is_small_value::<Verdict>();
     is_small_value::<Version>();
-    is_value::<Md5>();
     is_value::<Outline>();
     is_value::<Records>();
 }

@@ -20,8 +20,7 @@ fn header_has_every_reason_in_the_same_words() {
     let expected: Vec<String> = REASONS
         .iter()
         .map(|reason| {
-            let is_last = usize::from(reason.number) == REASONS.len();
-            let comma = if is_last { "" } else { "," };
+            let comma = if reason.number == 24 { "" } else { "," };
             let (name, number, words) = (reason.name, reason.number, reason.words);
             format!("ASDF_{name} = {number}{comma} /* {words} */")
         })
@@ -82,8 +81,6 @@ fn header_says_the_same_sizes() {
             asdf_sys::ROW_NUMBERS * asdf_sys::NUMBER_BYTES,
         ),
         ("LONGEST_INDEX", asdf_sys::LONGEST_INDEX),
-        ("MD5_STATE_BYTES", asdf_sys::MD5_STATE_BYTES),
-        ("MD5_BYTES", asdf_sys::MD5_BYTES),
     ];
     for (name, size) in sizes {
         assert!(

@@ -26,10 +26,6 @@ pub const ROW_BYTES: usize = 16;
 pub const LEAST_BLOCK: usize = 54;
 /// The maximum length of an index that is written, in bytes. An index that is read may be longer.
 pub const LONGEST_INDEX: usize = 809;
-/// How many bytes the state of a running digest has.
-pub const MD5_STATE_BYTES: usize = 104;
-/// How many bytes a digest has.
-pub const MD5_BYTES: usize = 16;
 /// How many low bits of a returned number hold the place of a refusal. The bits above hold the
 /// refusal's number.
 pub const PLACE_BITS: u32 = 56;
@@ -74,20 +70,6 @@ extern "C" {
         out: *mut u8,
         out_length: usize,
     ) -> u64;
-    fn asdf_check(file: *const u8, file_length: usize, ordinal: u64) -> u64;
-    fn asdf_md5_start(state: *mut u8, state_length: usize) -> u64;
-    fn asdf_md5_part(
-        state: *mut u8,
-        state_length: usize,
-        part: *const u8,
-        part_length: usize,
-    ) -> u64;
-    fn asdf_md5_digest(
-        state: *const u8,
-        state_length: usize,
-        out: *mut u8,
-        out_length: usize,
-    ) -> u64;
     fn asdf_edit(file: *mut u8, file_length: usize, text: *const u8, text_length: usize) -> u64;
 }
 
@@ -97,9 +79,6 @@ type Counter = unsafe extern "C" fn(*const u8, usize) -> u64;
 type Writer = unsafe extern "C" fn(*const u8, usize, *mut u8, usize) -> u64;
 /// A proved function that writes the one item with a given number.
 type NumberedWriter = unsafe extern "C" fn(*const u8, usize, u64, *mut u8, usize) -> u64;
-
-/// A proved function that changes bytes in place.
-type Change = unsafe extern "C" fn(*mut u8, usize, *const u8, usize) -> u64;
 
 /// Reads a returned number: as a count, or as the number and the place of a refusal.
 pub fn answer(word: u64) -> Result<u64, (u8, u64)> {
@@ -169,39 +148,11 @@ pub fn rewrite(stored: &[u8], out: &mut [u8]) -> u64 {
     written(asdf_rewrite, stored, out)
 }
 
-/// Compares the data of a block with the checksum in its header, and returns 0 if it states none, 1
-/// if both agree and 2 if they differ.
-pub fn check(file: &[u8], ordinal: u64) -> u64 {
-    // SAFETY: the pointer comes from a slice with this length, which lives through the call.
-    unsafe { asdf_check(file.as_ptr(), file.len(), ordinal) }
-}
-
-/// Writes the state of a running digest before any byte.
-pub fn md5_start(state: &mut [u8]) -> u64 {
-    // SAFETY: the pointer comes from a slice with this length, which lives through the call.
-    unsafe { asdf_md5_start(state.as_mut_ptr(), state.len()) }
-}
-
-/// Gives a part to a running digest, and returns 0 if it was taken.
-pub fn md5_part(state: &mut [u8], part: &[u8]) -> u64 {
-    changed(asdf_md5_part, state, part)
-}
-
-/// Writes the digest of all bytes that were given to a running digest.
-pub fn md5_digest(state: &[u8], out: &mut [u8]) -> u64 {
-    written(asdf_md5_digest, state, out)
-}
-
 /// Replaces the tree of a file by a text, and returns 0 if that is done.
 pub fn edit(file: &mut [u8], text: &[u8]) -> u64 {
-    changed(asdf_edit, file, text)
-}
-
-/// Calls a function that changes bytes in place, by what other bytes say.
-fn changed(change: Change, bytes: &mut [u8], by: &[u8]) -> u64 {
     // SAFETY: both pointers come from slices with these lengths, which live through the call and do
     // not overlap.
-    unsafe { change(bytes.as_mut_ptr(), bytes.len(), by.as_ptr(), by.len()) }
+    unsafe { asdf_edit(file.as_mut_ptr(), file.len(), text.as_ptr(), text.len()) }
 }
 
 /// Calls a function that only counts.

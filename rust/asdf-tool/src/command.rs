@@ -17,43 +17,15 @@ use std::slice;
 pub enum Command {
     Help(&'static str),
     Version,
-    List {
-        files: Vec<PathBuf>,
-        form: Form,
-    },
-    /// Without ordinals, all blocks are checked.
-    Check {
-        file: PathBuf,
-        ordinals: Vec<u64>,
-        json: bool,
-    },
-    Tree {
-        file: PathBuf,
-    },
-    Verdict {
-        file: PathBuf,
-    },
-    Index {
-        file: PathBuf,
-        out: Out,
-    },
-    Outline {
-        file: PathBuf,
-        out: Out,
-    },
-    ReadOutline {
-        stored: PathBuf,
-    },
-    Edit {
-        file: PathBuf,
-        tree: PathBuf,
-    },
-    Restore {
-        file: PathBuf,
-    },
-    SetAside {
-        file: PathBuf,
-    },
+    List { files: Vec<PathBuf>, form: Form },
+    Tree { file: PathBuf },
+    Verdict { file: PathBuf },
+    Index { file: PathBuf, out: Out },
+    Outline { file: PathBuf, out: Out },
+    ReadOutline { stored: PathBuf },
+    Edit { file: PathBuf, tree: PathBuf },
+    Restore { file: PathBuf },
+    SetAside { file: PathBuf },
 }
 
 /// The forms of a listing.
@@ -74,18 +46,12 @@ struct Usage {
     make: fn(Words) -> Parsed<Command>,
 }
 
-const USAGES: [Usage; 7] = [
+const USAGES: [Usage; 6] = [
     Usage {
         name: "list",
         help: help::LIST,
         options: &["--plain", "--json"],
         make: Words::list,
-    },
-    Usage {
-        name: "check",
-        help: help::CHECK,
-        options: &["--json"],
-        make: Words::check,
     },
     Usage {
         name: "tree",
@@ -311,20 +277,6 @@ impl Words {
         }
     }
 
-    fn check(self) -> Parsed<Command> {
-        let Some((file, ordinals)) = self.files.split_first() else {
-            return Err(self.missing(&["FILE"]));
-        };
-        Ok(Command::Check {
-            file: file.clone(),
-            ordinals: ordinals
-                .iter()
-                .map(|word| ordinal(word))
-                .collect::<Parsed<_>>()?,
-            json: self.has("--json"),
-        })
-    }
-
     fn tree(self) -> Parsed<Command> {
         let [file] = self.exactly(["FILE"])?;
         Ok(Command::Tree { file })
@@ -418,16 +370,6 @@ fn out_name(word: Option<&OsString>) -> Parsed<PathBuf> {
     }
 }
 
-/// Reads the ordinal of a block.
-fn ordinal(word: &Path) -> Parsed<u64> {
-    let digits = word.to_str().filter(|text| !text.starts_with('+'));
-    let number = digits.and_then(|text| text.parse().ok());
-    number.ok_or_else(|| {
-        let word = backquoted(word.as_os_str());
-        format!("{word} is not an ordinal; blocks are counted from 0, and only one file is checked")
-    })
-}
-
 #[cfg(test)]
 mod tests {
     use super::*;
@@ -476,30 +418,6 @@ mod tests {
         assert_eq!(parsed("list -- -"), list(&["-"], Form::Table));
         let [file, tree] = ["-o", "-"].map(PathBuf::from);
         assert_eq!(parsed("edit -- -o -"), Ok(Command::Edit { file, tree }));
-    }
-
-    #[test]
-    fn ordinals_come_after_the_file() {
-        let check = |file: &str, ordinals: &[u64], json| {
-            Ok(Command::Check {
-                file: file.into(),
-                ordinals: ordinals.to_vec(),
-                json,
-            })
-        };
-        assert_eq!(parsed("check a"), check("a", &[], false));
-        assert_eq!(
-            parsed("check a 2 0 02 --json"),
-            check("a", &[2, 0, 2], true)
-        );
-        assert_eq!(parsed("check --json 0 1"), check("0", &[1], true));
-        assert_eq!(parsed("check -- -a 1"), check("-a", &[1], false));
-        assert_eq!(parsed("check - 0"), check("-", &[0], false));
-        let most = u64::MAX;
-        assert_eq!(
-            parsed(&format!("check a {most}")),
-            check("a", &[most], false)
-        );
     }
 
     #[test]
@@ -583,22 +501,6 @@ mod tests {
             (
                 "list - a -",
                 "`-` was given twice, but standard input is read only once",
-            ),
-            ("check", "`check` needs FILE; FILE was not given"),
-            ("check --json", "`check` needs FILE; FILE was not given"),
-            ("check a --plain", "`--plain` is not an option of `check`"),
-            ("check a -1", "`-1` is not an option of `check`"),
-            (
-                "check a 0 b",
-                "`b` is not an ordinal; blocks are counted from 0, and only one file is checked",
-            ),
-            (
-                "check a +1",
-                "`+1` is not an ordinal; blocks are counted from 0, and only one file is checked",
-            ),
-            (
-                "check a 18446744073709551616",
-                "`18446744073709551616` is not an ordinal; blocks are counted from 0, and only one file is checked",
             ),
             ("tree", "`tree` needs FILE; FILE was not given"),
             ("tree a b", "`tree` takes one file; `b` is one too many"),

@@ -6,8 +6,8 @@ use std::fmt::{self, Display};
 use std::io::{self, Write};
 use std::path::Path;
 
-/// The status when a proved function refuses something, or data differs from its checksum.
-const FOUND_WRONG: u8 = 1;
+/// The status when a proved function refuses something.
+const REFUSED: u8 = 1;
 /// The status of a wrong call, and of an operation that the system does not carry out.
 const NOT_DONE: u8 = 2;
 
@@ -28,14 +28,9 @@ pub struct Failure {
 impl Failure {
     /// Reports that a proved function refused something.
     pub fn refused(name: impl Display, refusal: Refusal) -> Failure {
-        Failure::found_wrong(name, refusal)
-    }
-
-    /// Reports that the command was carried out, and found this to be wrong with a file.
-    pub fn found_wrong(name: impl Display, what: impl Display) -> Failure {
         Failure {
-            status: FOUND_WRONG,
-            sentence: format!("{name}: {what}"),
+            status: REFUSED,
+            sentence: format!("{name}: {refusal}"),
         }
     }
 

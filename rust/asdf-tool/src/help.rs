@@ -1,10 +1,9 @@
 //! The texts that `--help` prints.
 
 pub const ALL: &str = "\
-Shows where everything is in an ASDF file, including the ASDF files inside its blocks, and checks the data of blocks.
+Shows where everything is in an ASDF file, including the ASDF files inside its blocks.
 
   asdf-layout list FILE... [--plain | --json]         prints the layout and all blocks of each file
-  asdf-layout check FILE [ORDINAL...] [--json]        says which blocks agree with the checksum in their header
   asdf-layout tree FILE                               prints the text of the tree
   asdf-layout index FILE                              prints the verdict on the block index
   asdf-layout index FILE --write [-o OUT] [--force]   prints or stores the text of the correct index
@@ -23,9 +22,9 @@ name after `-o`, such a name is given as `./-name`.
 A file that is only read can be given as `-`, which means standard input, also after `--`. A file with the name `-` is
 given as `./-`.
 
-The exit status is 0 if the command succeeded, 1 if something was refused or a block differs from its checksum, and 2 if
-the call was wrong or the command could not be carried out. If it is not 0, a sentence on standard error says why. If
-the reader of standard output closes it early, as `head` does, that is no failure.
+The exit status is 0 if the command succeeded, 1 if something was refused, and 2 if the call was wrong or the command
+could not be carried out. If it is not 0, a sentence on standard error says why. If the reader of standard output closes
+it early, as `head` does, the command ends without a message.
 ";
 
 pub const LIST: &str = "\
@@ -56,32 +55,6 @@ one could not be read, otherwise 1 if one was refused.
             has the same number as text, for programs that read numbers as floating point.
 
 A long listing into a file or a pipe shows its progress on standard error, if that is a terminal.
-";
-
-pub const CHECK: &str = "\
-asdf-layout check FILE [ORDINAL...] [--json]
-
-Works out the MD5 of the data of each block of FILE and compares it with the checksum in the block's header.
-
-If ordinals are given after FILE, only these blocks are checked, in this order. The blocks of a file are counted from 0;
-those of ASDF files inside its blocks cannot be named, but their bytes are part of the data of the block around them. If
-FILE has no block with one of the ordinals, nothing is checked, and the exit status is 1. For each block the table says:
-
-  agrees       the data has the MD5 that the header states
-  differs      it has another one: the data or the header is damaged
-  not stated   the header states no checksum, so nothing is known about the data
-
-The exit status is 1 if a block differs. The data is the content as it is stored: the used part of a block, and for a
-streamed block everything to the end of the file. Compressed data is not unpacked. Some programs, such as the ASDF
-project's library for Python, state the MD5 of the unpacked data instead, so that their compressed blocks differ.
-
-  --json   prints one JSON object instead, on one line. The key `file` holds the name as it was given, and `blocks` an
-           array with `ordinal`, `offset`, `used`, `compression`, `checksum` and `check` of each block. The value of
-           `check` is `agrees`, `differs` or `not-stated`. If FILE or an ordinal is refused, the only other key is
-           `refused`.
-
-The data is read in parts and does not stay in memory, unless it comes from standard input or a pipe. If the check takes
-more than a second, its progress is shown on standard error, if that is a terminal.
 ";
 
 pub const TREE: &str = "\

@@ -1,10 +1,10 @@
-//! The listing of a file, and the check of its blocks, each as one JSON object on a line of its own.
+//! The listing as one JSON object, on a line of its own.
 
 use crate::names::is_harmless;
 use crate::output::{Output, Stop};
 use crate::progress;
 use crate::words;
-use asdf_layout::{Block, Check, Inner, Layout, Record, Records, Refusal, Tree};
+use asdf_layout::{Inner, Layout, Record, Records, Refusal, Tree};
 use std::fmt::{self, Display, Formatter, Write};
 use std::path::Path;
 
@@ -37,14 +37,7 @@ pub fn print(
     writeln!(out, "{object}")
 }
 
-/// Prints blocks of the file with this name that were checked.
-pub fn print_checks(name: &Path, checks: &[(Block, Check)], out: &mut Output) -> Result<(), Stop> {
-    let name = Text(name.to_string_lossy());
-    let object = Object([("file", &name), ("blocks", &Checks(checks))]);
-    writeln!(out, "{object}")
-}
-
-/// Prints what is known of a file if it, or what was asked of it, is refused.
+/// Prints the listing of a refused file.
 pub fn print_refusal(name: &Path, refusal: &Refusal, out: &mut Output) -> Result<(), Stop> {
     let name = Text(name.to_string_lossy());
     let object = Object([("file", &name), ("refused", &Reason(*refusal))]);
@@ -81,38 +74,21 @@ struct Blocks<'a>(&'a Records);
 
 impl Display for Blocks<'_> {
     fn fmt(&self, f: &mut Formatter<'_>) -> fmt::Result {
-        write_array(self.0.iter(), write_block, f)
+        f.write_char('[')?;
+        let mut separator = "";
+        for record in progress::shown(self.0.iter()) {
+            f.write_str(separator)?;
+            write_block(&record, f)?;
+            separator = ",";
+        }
+        f.write_char(']')
     }
-}
-
-/// Blocks that were checked.
-struct Checks<'a>(&'a [(Block, Check)]);
-
-impl Display for Checks<'_> {
-    fn fmt(&self, f: &mut Formatter<'_>) -> fmt::Result {
-        write_array(self.0.iter(), write_check, f)
-    }
-}
-
-/// Writes values in brackets.
-fn write_array<T>(
-    items: impl ExactSizeIterator<Item = T>,
-    write: fn(T, &mut Formatter<'_>) -> fmt::Result,
-    f: &mut Formatter<'_>,
-) -> fmt::Result {
-    f.write_char('[')?;
-    let mut separator = "";
-    for item in progress::shown(items) {
-        f.write_str(separator)?;
-        write(item, f)?;
-        separator = ",";
-    }
-    f.write_char(']')
 }
 
 /// Writes a block of the file or of one of its inner files.
-fn write_block(record: Record, f: &mut Formatter<'_>) -> fmt::Result {
+fn write_block(record: &Record, f: &mut Formatter<'_>) -> fmt::Result {
     let block = &record.block;
+    let checksum = block.has_checksum().then_some(Checksum(block.checksum));
     Object([
         ("depth", &record.depth),
         ("ordinal", &block.ordinal),
@@ -124,26 +100,8 @@ fn write_block(record: Record, f: &mut Formatter<'_>) -> fmt::Result {
         ("allocated", &block.allocated),
         ("used", &block.used),
         ("data_size", &DataSize(block.data_size)),
-        ("checksum", &OrNull(checksum(block))),
+        ("checksum", &OrNull(checksum)),
         ("inner", &State(record.inner)),
-    ])
-    .fmt(f)
-}
-
-/// Writes a block of the file itself that was checked.
-fn write_check((block, check): &(Block, Check), f: &mut Formatter<'_>) -> fmt::Result {
-    let check = match check {
-        Check::NotStated => "not-stated",
-        Check::Agrees => "agrees",
-        Check::Differs => "differs",
-    };
-    Object([
-        ("ordinal", &block.ordinal),
-        ("offset", &block.at),
-        ("used", &block.used),
-        ("compression", &OrNull(words::compression(block).map(Text))),
-        ("checksum", &OrNull(checksum(block))),
-        ("check", &Text(check)),
     ])
     .fmt(f)
 }
@@ -191,11 +149,6 @@ impl<const N: usize> Display for Object<'_, N> {
         }
         f.write_char('}')
     }
-}
-
-/// Returns the checksum of a block, if it has one.
-fn checksum(block: &Block) -> Option<Checksum> {
-    block.has_checksum().then_some(Checksum(block.checksum))
 }
 
 /// A checksum in quotes, with two digits for each byte.

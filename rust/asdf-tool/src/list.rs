@@ -2,7 +2,7 @@
 
 use crate::command::Form;
 use crate::failure::Failure;
-use crate::output::{unless_closed, Output, Stop};
+use crate::output::{Output, Stop};
 use crate::source::Source;
 use crate::{json, names, plain, table};
 use asdf_layout::{Layout, Outline, Records, Refusal};
@@ -120,6 +120,9 @@ impl Listings {
             Form::Plain => plain::print_refusal(refusal, &mut self.out),
             Form::Json => json::print_refusal(path, refusal, &mut self.out),
         };
-        unless_closed(printed.and_then(|()| self.out.flush()))
+        match printed.and_then(|()| self.out.flush()) {
+            Err(Stop::Closed) => Ok(()),
+            printed => printed,
+        }
     }
 }

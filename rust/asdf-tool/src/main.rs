@@ -4,7 +4,6 @@
 #![forbid(unsafe_code)]
 
 mod change;
-mod check;
 mod command;
 mod digest;
 mod edit;
@@ -53,11 +52,6 @@ fn run(command: Command) -> Result<(), Stop> {
         Command::Help(text) => Output::print(text.as_bytes())?,
         Command::Version => Output::print(VERSION.as_bytes())?,
         Command::List { files, form } => list::list(&files, form)?,
-        Command::Check {
-            file,
-            ordinals,
-            json,
-        } => check::check(&file, &ordinals, json)?,
         Command::Tree { file } => print_tree(&file)?,
         Command::Verdict { file } => index::print_verdict(&file)?,
         Command::Index { file, out } => index::write(&file, &out)?,

@@ -43,14 +43,6 @@ impl Stop {
     }
 }
 
-/// Passes over it if nobody reads what was printed. A failure that was found before is still to be reported then.
-pub fn unless_closed(printed: Result<(), Stop>) -> Result<(), Stop> {
-    match printed {
-        Err(Stop::Closed) => Ok(()),
-        printed => printed,
-    }
-}
-
 impl From<Failure> for Stop {
     fn from(failure: Failure) -> Stop {
         Stop::Failed(failure)

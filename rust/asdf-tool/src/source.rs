@@ -7,9 +7,8 @@ use crate::target::is_same;
 use asdf_layout::Refusal;
 use asdf_system::{input_was_closed, Filled, Sentences};
 use std::fs::{self, File, TryLockError};
-use std::io::{self, ErrorKind, Read};
-use std::ops::{Deref, Range};
-use std::os::unix::fs::FileExt;
+use std::io::{self, Read};
+use std::ops::Deref;
 use std::path::{Path, PathBuf};
 use std::thread::sleep;
 use std::time::{Duration, Instant};
@@ -22,11 +21,6 @@ pub const TOO_LONG: u64 = 1 << 32;
 const PATIENCE: Duration = Duration::from_secs(1);
 /// How long it waits before it tries again.
 const PAUSE: Duration = Duration::from_millis(10);
-
-/// What to do if a file became shorter while it was read.
-const TRY_AGAIN: &str = "try again";
-/// Content is taken in parts of at most this many bytes.
-const PART: usize = 1 << 20;
 
 /// Whether a path means standard input or output.
 pub fn is_standard(path: &Path) -> bool {
@@ -101,37 +95,6 @@ impl Source {
         result.map_err(|refusal| Failure::refused(self.name(), refusal))
     }
 
-    /// Gives these bytes to `take`, in order and in parts. Those of a file are read again, through a buffer of their own, so that
-    /// they do not stay in memory.
-    pub fn in_parts(
-        &self,
-        range: Range<usize>,
-        mut take: impl FnMut(&[u8]) -> Result<(), Failure>,
-    ) -> Result<(), Failure> {
-        let file = match &self.bytes {
-            Bytes::Filled(_, file) => file,
-            Bytes::Read(bytes) => return bytes[range].chunks(PART).try_for_each(take),
-        };
-        let mut buffer = vec![0; range.len().min(PART)];
-        for start in range.clone().step_by(PART) {
-            let part = &mut buffer[..(range.end - start).min(PART)];
-            file.read_exact_at(part, start as u64)
-                .map_err(|error| self.unreadable(error))?;
-            take(part)?;
-        }
-        Ok(())
-    }
-
-    /// Reports that bytes of a file cannot be read, after it was opened.
-    fn unreadable(&self, error: io::Error) -> Failure {
-        match error.kind() {
-            ErrorKind::UnexpectedEof => {
-                Failure::not_done(shortened(&self.name())).with_advice(TRY_AGAIN)
-            }
-            _ => Failure::at("cannot read", &self.path, error),
-        }
-    }
-
     /// Returns the name of the bytes, for messages.
     pub fn name(&self) -> String {
         name(&self.path)
@@ -175,7 +138,10 @@ pub fn filled(file: &File, length: u64, name: &str, holds: &str) -> io::Result<F
     let length = usize::try_from(length).map_err(io::Error::other)?;
     let sentence = |what: String, advice: &str| format!("asdf-layout: {what}; {holds}{advice}\n");
     let sentences = Sentences {
-        shortened: sentence(shortened(name), TRY_AGAIN),
+        shortened: sentence(
+            format!("{name} has fewer bytes than its length said, as if it had become shorter"),
+            "try again",
+        ),
         unreadable: sentence(
             format!("cannot read {name}"),
             "its disk or its file system failed",
@@ -186,11 +152,6 @@ pub fn filled(file: &File, length: u64, name: &str, holds: &str) -> io::Result<F
         ),
     };
     Filled::new(file, length, sentences)
-}
-
-/// Says that a file with this name became shorter while it was read.
-fn shortened(name: &str) -> String {
-    format!("{name} has fewer bytes than its length said, as if it had become shorter")
 }
 
 /// Reads to the end, but no more than `enough` bytes.

@@ -1,16 +1,17 @@
-//! The tables for people: the listing of a file, and the check of its blocks.
+//! The listing for people.
 
 use crate::output::{Output, Stop};
 use crate::progress;
-use crate::words::{self, Compression, Size};
-use asdf_layout::{Block, Check, Layout, Record, Records, Tree};
+use crate::words::{self, Size};
+use asdf_layout::{Layout, Record, Records, Tree};
 use std::fmt::{self, Display, Formatter};
 use std::io::Write;
 use std::iter;
 use std::ops::Range;
 
-/// The headings of the table of all blocks.
-const RECORDS: [&str; 7] = [
+/// The number of columns in the table of blocks.
+const COLUMNS: usize = 7;
+const HEADINGS: [&str; COLUMNS] = [
     "block",
     "offset",
     "allocated",
@@ -19,10 +20,6 @@ const RECORDS: [&str; 7] = [
     "checksum",
     "content",
 ];
-/// The headings of the table of blocks that were checked.
-const CHECKS: [&str; 5] = ["block", "offset", "used", "compression", "checksum"];
-/// What is said instead of a table if there is no block.
-const NO_BLOCKS: &str = "blocks    none";
 /// The number of spaces before the ordinal of a block, for each file around the file of the block.
 const INDENTATION: usize = 2;
 /// The number of spaces between two columns.
@@ -45,22 +42,10 @@ pub fn print(
         Some(tree) => print_tree(tree, out)?,
     }
     match records.is_empty() {
-        true => writeln!(out, "{NO_BLOCKS}")?,
-        false => {
-            writeln!(out)?;
-            print_table(RECORDS, records.iter(), Row::describe_record, out)?;
-            writeln!(out)?;
-        }
+        true => writeln!(out, "blocks    none")?,
+        false => print_blocks(records, out)?,
     }
     writeln!(out, "index     {}", words::verdict(layout.index))
-}
-
-/// Prints blocks that were checked.
-pub fn print_checks(checks: &[(Block, Check)], out: &mut Output) -> Result<(), Stop> {
-    match checks.is_empty() {
-        true => writeln!(out, "{NO_BLOCKS}"),
-        false => print_table(CHECKS, checks.iter(), Row::describe_check, out),
-    }
 }
 
 /// Where something is in the file.
@@ -85,31 +70,28 @@ fn print_tree(tree: Tree, out: &mut Output) -> Result<(), Stop> {
     )
 }
 
-/// Prints a table with a row for each item. The items are read twice, because the widths of the
-/// columns are known only after the last one.
-fn print_table<T, const COLUMNS: usize>(
-    headings: [&str; COLUMNS],
-    items: impl ExactSizeIterator<Item = T> + Clone,
-    describe: fn(&mut Row<COLUMNS>, T),
-    out: &mut Output,
-) -> Result<(), Stop> {
-    let mut row = Row::new();
-    let mut widths = headings.map(str::len);
-    for item in items.clone() {
-        describe(&mut row, item);
+/// Prints the table of all blocks. The records are read twice, because the widths of the columns are
+/// known only after the last one.
+fn print_blocks(records: &Records, out: &mut Output) -> Result<(), Stop> {
+    let mut row = Row::default();
+    let mut widths = HEADINGS.map(str::len);
+    for record in records {
+        row.describe(&record);
         row.widen(&mut widths);
     }
-    row.fill(headings.each_ref().map(|heading| heading as &dyn Display));
+    writeln!(out)?;
+    row.fill(HEADINGS.each_ref().map(|heading| heading as &dyn Display));
     row.print(&widths, out)?;
-    for item in progress::shown(items) {
-        describe(&mut row, item);
+    for record in progress::shown(records.iter()) {
+        row.describe(&record);
         row.print(&widths, out)?;
     }
-    Ok(())
+    writeln!(out)
 }
 
 /// The words of one row of the table. The same memory is used for every row.
-struct Row<const COLUMNS: usize> {
+#[derive(Default)]
+struct Row {
     /// The words, without anything between them.
     text: Vec<u8>,
     /// Where each word ends in the text.
@@ -118,49 +100,7 @@ struct Row<const COLUMNS: usize> {
     line: Vec<u8>,
 }
 
-impl Row<{ RECORDS.len() }> {
-    /// Fills the row with the words for a block of the listing.
-    fn describe_record(&mut self, record: Record) {
-        let block = &record.block;
-        let indentation = INDENTATION * usize::from(record.depth);
-        let allocated: &dyn Display = match block.is_streamed() {
-            true => &"streamed",
-            false => &Size(block.allocated),
-        };
-        self.fill([
-            &format_args!("{:indentation$}{}", "", block.ordinal),
-            &record.offset,
-            allocated,
-            &Size(block.used),
-            &Compression(block),
-            &if block.has_checksum() { "yes" } else { "no" },
-            &record.inner,
-        ]);
-    }
-}
-
-impl Row<{ CHECKS.len() }> {
-    /// Fills the row with the words for a block that was checked.
-    fn describe_check(&mut self, (block, check): &(Block, Check)) {
-        self.fill([
-            &block.ordinal,
-            &block.at,
-            &Size(block.used),
-            &Compression(block),
-            check,
-        ]);
-    }
-}
-
-impl<const COLUMNS: usize> Row<COLUMNS> {
-    fn new() -> Row<COLUMNS> {
-        Row {
-            text: Vec::new(),
-            ends: [0; COLUMNS],
-            line: Vec::new(),
-        }
-    }
-
+impl Row {
     /// Fills the row with words.
     fn fill(&mut self, words: [&dyn Display; COLUMNS]) {
         self.text.clear();
@@ -168,6 +108,30 @@ impl<const COLUMNS: usize> Row<COLUMNS> {
             write!(self.text, "{word}").expect("a vector takes every text");
             *end = self.text.len();
         }
+    }
+
+    /// Fills the row with the words for a block.
+    fn describe(&mut self, record: &Record) {
+        let block = &record.block;
+        let indentation = INDENTATION * usize::from(record.depth);
+        let allocated: &dyn Display = match block.is_streamed() {
+            true => &"streamed",
+            false => &Size(block.allocated),
+        };
+        let name = words::compression(block);
+        let compression: &dyn Display = match &name {
+            None => &"none",
+            Some(name) => name,
+        };
+        self.fill([
+            &format_args!("{:indentation$}{}", "", block.ordinal),
+            &record.offset,
+            allocated,
+            &Size(block.used),
+            compression,
+            &if block.has_checksum() { "yes" } else { "no" },
+            &record.inner,
+        ]);
     }
 
     /// Makes each column at least as wide as its word in this row.

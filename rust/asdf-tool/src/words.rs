@@ -47,18 +47,6 @@ impl Display for Grouped {
     }
 }
 
-/// The name of a block's compression, or `none`.
-pub struct Compression<'a>(pub &'a Block);
-
-impl Display for Compression<'_> {
-    fn fmt(&self, f: &mut Formatter<'_>) -> fmt::Result {
-        match compression(self.0) {
-            None => f.write_str("none"),
-            Some(name) => name.fmt(f),
-        }
-    }
-}
-
 /// Returns the name of a block's compression, without the zeros at its end. Bytes that cannot be
 /// printed are escaped.
 pub fn compression(block: &Block) -> Option<EscapeAscii<'_>> {

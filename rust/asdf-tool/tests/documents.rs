@@ -73,7 +73,7 @@ fn listings_in_the_documents_are_what_is_printed() {
             shown += 1;
         }
     }
-    assert_eq!(shown, 5);
+    assert_eq!(shown, 3);
 }
 
 #[test]
@@ -108,8 +108,8 @@ fn picture_of_the_house_has_every_crate() {
     let names = crates
         .lines()
         .filter(|line| !line.starts_with('#'))
-        .filter_map(|line| line.split_once(':'));
-    for (name, _) in names {
+        .filter_map(|line| line.split([' ', ':']).next());
+    for name in names {
         // A field of the picture begins with the name; one crate is named below it.
         let entries = [
             format!("│ {name} "),

@@ -12,6 +12,11 @@ use std::process::Command;
 /// The minimum number of real files. More may be added, but none may get lost.
 const AT_LEAST: usize = 18;
 
+/// Returns the path of a real file.
+fn real(name: &str) -> String {
+    format!("{DATA}/{name}.asdf")
+}
+
 #[test]
 fn plain_listing_of_every_real_file_is_the_stored_one() {
     let mut compared = 0;
@@ -199,7 +204,7 @@ fn file_above_the_limit_is_refused_and_the_longest_is_listed() {
     let (long, longest) = (folder.join("long"), folder.join("longest"));
     sparse_file(&long, 5 << 30, &[(0, HEADER)]);
     let ran = run(&["list", word(&long)]);
-    let sentence = "there are more than 4,294,967,295 bytes (refusal 1)";
+    let sentence = "file is longer than 4,294,967,295 bytes (refusal 1)";
     assert_eq!(
         ran.errors,
         format!("asdf-layout: {}: {sentence}\n", word(&long))
@@ -226,11 +231,6 @@ fn wrong_calls_and_missing_files_have_status_2() {
         &["list", DATA, "--jsno"],
         &["list", "/no/such/file"],
         &["list", DATA],
-        &["check"],
-        &["check", DATA],
-        &["check", "/no/such/file"],
-        &["check", &real("one-block"), "first"],
-        &["check", &real("one-block"), &real("one-block")],
         &["tree", "a", "b"],
         &["index", DATA, "--force"],
         &["outline", DATA],
@@ -265,9 +265,7 @@ fn wrong_word_is_named_and_escaped() {
 
 #[test]
 fn every_command_has_help() {
-    for name in [
-        "list", "check", "tree", "index", "outline", "edit", "restore",
-    ] {
+    for name in ["list", "tree", "index", "outline", "edit", "restore"] {
         let help = printed(&[name, "--help"]);
         assert!(help.starts_with(&format!("asdf-layout {name} FILE")));
         assert_eq!(printed(&[name, "-h"]), help);

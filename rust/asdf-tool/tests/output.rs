@@ -23,8 +23,6 @@ struct Files {
     /// A file whose listings do not fit into a pipe.
     many: String,
     broken: String,
-    /// A file with a block whose checksum is wrong.
-    damaged: String,
     stored: String,
     /// A file with an edit that was not finished.
     half: String,
@@ -44,10 +42,6 @@ impl Files {
             good: make("good", &file_with_room(3)),
             many: make("many", &nested(2)),
             broken: make("broken", BROKEN),
-            damaged: make(
-                "damaged",
-                &[HEADER, &checked_block(b"abc")[..56], b"d"].concat(),
-            ),
             stored: make(
                 "stored",
                 &[0, 0, 0, 0x30, 0, 0, 0, 12, 0, 0, 0, 9, 0, 0, 0, 7],
@@ -70,10 +64,6 @@ impl Files {
             vec!["list", &self.many],
             vec!["list", &self.many, "--plain"],
             vec!["list", &self.many, "--json"],
-            vec!["check", &self.good],
-            vec!["check", &self.good, "0", "0"],
-            vec!["check", &self.good, "--json"],
-            vec!["check", &self.many],
             vec!["tree", &self.good],
             vec!["index", &self.good],
             vec!["index", &self.good, "--write"],
@@ -113,8 +103,6 @@ fn full_standard_output_is_a_failure() {
     let mut calls = files.printing_calls();
     calls.push(vec!["list", &files.broken, "--plain"]);
     calls.push(vec!["list", &files.broken, "--json"]);
-    calls.push(vec!["check", &files.broken, "--json"]);
-    calls.push(vec!["check", &files.damaged]);
     for words in calls {
         let ran = run_into(full(), &words);
         let sentence = "cannot write to standard output: No space left on device (os error 28)";
@@ -147,7 +135,6 @@ fn standard_stream_that_is_closed_from_the_start_is_a_failure() {
     }
     for words in [
         &["list", "-"][..],
-        &["check", "-"],
         &["tree", "-"],
         &["edit", &files.good, "-"],
     ] {
@@ -200,23 +187,10 @@ fn pipe_that_is_closed_early_ends_a_listing_quietly() {
 #[test]
 fn refusal_is_reported_even_if_the_pipe_is_closed() {
     let files = Files::new("output-closed-refused");
-    for (command, form) in [("list", "--plain"), ("list", "--json"), ("check", "--json")] {
-        let ran = run_into(closed_pipe(), &[command, &files.broken, form]);
+    for form in ["--plain", "--json"] {
+        let ran = run_into(closed_pipe(), &["list", &files.broken, form]);
         let sentence = format!("asdf-layout: {}: {REFUSAL}\n", files.broken);
         assert_eq!((ran.status, ran.errors), (Some(1), sentence));
-    }
-}
-
-#[test]
-fn damaged_block_is_reported_even_if_the_pipe_is_closed() {
-    let files = Files::new("output-closed-damaged");
-    for words in [
-        &["check", &files.damaged][..],
-        &["check", &files.damaged, "--json"],
-    ] {
-        let ran = run_into(closed_pipe(), words);
-        assert_eq!(ran.status, Some(1), "{words:?}");
-        ran.assert_says("the data of block 0 differs from its checksum");
     }
 }
 
@@ -227,8 +201,6 @@ fn closed_or_full_standard_error_changes_no_status() {
         (["list", "/no/such/file"], 2),
         (["list", &files.broken], 1),
         (["list", &files.half], 0),
-        (["check", &files.damaged], 1),
-        (["check", &files.half], 0),
         (["lists", &files.good], 2),
     ] {
         // Otherwise there would be no message that cannot be printed.
@@ -243,16 +215,16 @@ fn closed_or_full_standard_error_changes_no_status() {
     }
 }
 
-/// Checks that a file can be edited while a call waits for a reader. What the call prints must not fit into a pipe.
-fn assert_editable_while_printing(test: &str, words: impl Fn(&str) -> Vec<&str>) {
-    let folder = folder(test);
+#[test]
+fn file_can_be_edited_while_its_listing_waits_for_a_reader() {
+    let folder = folder("output-edited");
     let (path, text) = (folder.join("file"), folder.join("text"));
     let file = [HEADER, TREE, b"     ", &block(&nested(2))].concat();
     fs::write(&path, file).unwrap();
     fs::write(&text, "%YAML 1.1\n---\na: 1\n...\n").unwrap();
-    let mut call = command(&words(word(&path)));
-    let mut printing = call.stdout(Stdio::piped()).spawn().unwrap();
-    let mut output = printing.stdout.take().unwrap();
+    let mut call = command(&["list", word(&path), "--json"]);
+    let mut listing = call.stdout(Stdio::piped()).spawn().unwrap();
+    let mut output = listing.stdout.take().unwrap();
     output.read_exact(&mut [0]).unwrap();
     let mut edit = command(&["edit", word(&path), word(&text)])
         .spawn()
@@ -263,19 +235,7 @@ fn assert_editable_while_printing(test: &str, words: impl Fn(&str) -> Vec<&str>)
     });
     // Otherwise it would wait here for ever.
     drop(output);
-    assert_eq!(printing.wait().unwrap().code(), Some(0));
+    assert_eq!(listing.wait().unwrap().code(), Some(0));
     assert_eq!(edit.wait().unwrap().code(), Some(0));
-    assert!(ended.is_some(), "the edit waited for {test}");
-}
-
-#[test]
-fn file_can_be_edited_while_its_listing_waits_for_a_reader() {
-    assert_editable_while_printing("output-edited", |file| vec!["list", file, "--json"]);
-}
-
-#[test]
-fn file_can_be_edited_while_its_check_waits_for_a_reader() {
-    assert_editable_while_printing("output-edited-check", |file| {
-        [vec!["check", file], vec!["0"; 10_000]].concat()
-    });
+    assert!(ended.is_some(), "the edit waited for the listing");
 }

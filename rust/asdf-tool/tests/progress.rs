@@ -1,4 +1,4 @@
-//! Tests when the progress of a listing or a check is shown on a terminal.
+//! Tests when the progress of a listing is shown on a terminal.
 
 mod common;
 
@@ -184,46 +184,6 @@ fn fast_listing_shows_no_progress() {
     let path = folder("progress-fast").join("file");
     fs::write(&path, nested(2)).unwrap();
     let mut call = command(&["list", word(&path)]);
-    let ran = call.stdout(Stdio::null()).stderr(errors).status();
-    drop(call);
-    assert_eq!(ran.unwrap().code(), Some(0));
-    assert_eq!(read_all(reader), "");
-}
-
-#[test]
-fn long_check_shows_a_bar_and_removes_it_before_the_answers() {
-    let folder = folder("progress-check");
-    let path = folder.join("file");
-    long_checked_file(&path);
-    let (reader, both) = terminal();
-    let mut call = command(&["check", word(&path)]);
-    let output = both.try_clone().unwrap();
-    let mut child = call.stdout(output).stderr(both).spawn().unwrap();
-    // Otherwise the terminal would stay open here.
-    drop(call);
-    let written = read_all(reader).replace("\r\n", "\n");
-    assert_eq!(child.wait().unwrap().code(), Some(0));
-    fs::remove_dir_all(folder).unwrap();
-
-    let (_, bars) = written.split_once('\r').expect("there is a bar");
-    let (bars, _) = bars.rsplit_once('\r').unwrap();
-    let bars = bars.split('\r').map(str::trim_end);
-    for bar in bars.filter(|bar| !bar.is_empty()) {
-        assert!(bar.starts_with("asdf-layout: ["), "{bar:?}");
-        assert!(bar.contains("%, ") && bar.contains(" MiB/s, "), "{bar:?}");
-        assert!(bar.ends_with(" left") && bar.len() < 80, "{bar:?}");
-    }
-    let expected = [
-        "block  offset  used                  compression  checksum",
-        "0      12      1073741824 (1.0 GiB)  none         agrees",
-    ];
-    assert_eq!(lines_shown(&written), expected, "{written:?}");
-}
-
-#[test]
-fn fast_check_shows_no_bar() {
-    let (reader, errors) = terminal();
-    let mut call = command(&["check", &real("sixty-blocks")]);
     let ran = call.stdout(Stdio::null()).stderr(errors).status();
     drop(call);
     assert_eq!(ran.unwrap().code(), Some(0));

@@ -5,10 +5,8 @@
 
 pub mod case;
 
-use asdf_layout::Md5;
 use std::fs::{self, File};
 use std::io::Write;
-use std::ops::Range;
 use std::os::unix::fs::FileExt;
 use std::path::{Path, PathBuf};
 use std::process::{Command, Output, Stdio};
@@ -21,9 +19,6 @@ pub const HEADER: &[u8] = b"#ASDF 1.0.0\n";
 pub const DOS_HEADER: &[u8] = b"#ASDF 1.0.0\r\n";
 /// The smallest tree.
 pub const TREE: &[u8] = b"%YAML 1.1\n---\n...\n";
-
-/// Where the checksum is in a block.
-pub const CHECKSUM: Range<usize> = 38..54;
 
 /// How a run of the tool ended, and what it printed.
 #[derive(Debug, PartialEq)]
@@ -99,11 +94,6 @@ pub fn printed(words: &[&str]) -> String {
     ran.output
 }
 
-/// Returns the path of a real file.
-pub fn real(name: &str) -> String {
-    format!("{DATA}/{name}.asdf")
-}
-
 /// Makes an empty folder for a test.
 pub fn folder(test: &str) -> PathBuf {
     let folder = Path::new(env!("CARGO_TARGET_TMPDIR")).join(test);
@@ -128,29 +118,6 @@ pub fn block_header(size: u64) -> Vec<u8> {
 /// Returns a block with this content.
 pub fn block(content: &[u8]) -> Vec<u8> {
     [&block_header(content.len() as u64), content].concat()
-}
-
-/// Returns a block with this content and its MD5.
-pub fn checked_block(content: &[u8]) -> Vec<u8> {
-    let mut block = block(content);
-    block[CHECKSUM].copy_from_slice(&md5(content));
-    block
-}
-
-pub fn md5(bytes: &[u8]) -> [u8; 16] {
-    let mut md5 = Md5::new();
-    md5.update(bytes).unwrap();
-    md5.digest()
-}
-
-/// Makes a file with one block of 1 GiB. Its content is zeros, and it has their MD5, as md5sum gives it.
-pub fn long_checked_file(path: &Path) -> File {
-    let size = 1 << 30;
-    let mut header = block_header(size);
-    let digest = 0xcd573cfaace07e7949bc0c46028904ffu128;
-    header[CHECKSUM].copy_from_slice(&digest.to_be_bytes());
-    let front = [HEADER, &header].concat();
-    sparse_file(path, front.len() as u64 + size, &[(0, &front)])
 }
 
 /// Returns a file of 64 blocks. Each holds such a file again, on as many levels, and the innermost
