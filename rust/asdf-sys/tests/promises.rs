@@ -1,6 +1,6 @@
 //! Checks what docs/PROMISES.md says about all promises together. Every public function has a
-//! promise, and none has a condition, but for one in `octets`. The promises that carry the demands
-//! cite only definitions of `crates/format/specs`, the one folder that a reader has to believe.
+//! promise, and none has a condition. The promises that carry the demands cite only definitions of
+//! `crates/format/specs`, the one folder that a reader has to believe.
 
 use std::collections::BTreeMap;
 use std::fs;
@@ -20,10 +20,6 @@ const DEMANDS: [&str; 7] = [
     "nest/src/lib.rt",
     "outline/src/stored.rt",
 ];
-
-/// The only public function with a condition. It looks for a byte in a part of a slice, and the part
-/// has to be inside.
-const CONDITIONED: &str = "pub fn find(s: &[u8], from: usize, to: usize, b: u8) -> usize";
 
 /// A public function: its first line, and the lines of its promise.
 struct Function {
@@ -101,8 +97,7 @@ fn every_public_function_has_a_promise_and_no_condition() {
     assert!(functions.len() > 40, "too few functions were found");
     for Function { name, promise } in functions {
         assert!(promise.iter().any(|l| l.starts_with("ensures")), "{name}");
-        let conditioned = promise.iter().any(|l| l.starts_with("requires"));
-        assert_eq!(conditioned, name == CONDITIONED, "{name}");
+        assert!(!promise.iter().any(|l| l.starts_with("requires")), "{name}");
     }
 }
 

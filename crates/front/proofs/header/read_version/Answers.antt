@@ -17,10 +17,12 @@ pub returns-in_default : goal.returns-in_default
 returns-in_default c = search (version_major, rules)
 
 pub returns-in_default-numeral : goal.returns-in_default-numeral
-returns-in_default-numeral c = search (version_minor, rules)
+returns-in_default-numeral c =
+    version_minor c.args.t.now _ c.find-first.ensures.value (search rules) (search rules) _ c.find-second.ensures.value (search rules) (search rules) _ c.numeral.ensures _ c.in-Value.is _ c.numeral-2.ensures (search rules)
 
 pub returns-in_default-numeral-2 : goal.returns-in_default-numeral-2
-returns-in_default-numeral-2 c = search (version_patch, rules)
+returns-in_default-numeral-2 c =
+    version_patch c.args.t.now _ c.find-first.ensures.value (search rules) (search rules) _ c.find-second.ensures.value (search rules) (search rules) _ c.numeral.ensures _ c.in-Value.is _ c.numeral-2.ensures _ c.in-Value-numeral.is _ c.numeral-3.ensures (search rules)
 
 pub overflow_cast-result : goal.overflow_cast-result
 overflow_cast-result c = search (part_fits, rules)
