@@ -93,8 +93,8 @@ layout_of_a t blocks v =
     })
 
 -- A file with one block, which holds B.
-abbrev pub file_bInside : Bytes
-file_bInside = file_a ++ block_header 48 66 66 66 ++ file_b
+abbrev pub file_b_inside : Bytes
+file_b_inside = file_a ++ block_header 48 66 66 66 ++ file_b
 
 -- The table. Each comment names the examples below it.
 abbrev pub examples : List Example
@@ -119,13 +119,13 @@ examples =
     ∷ Reads (file_a ++ block_header 47 0 0 0) (refused (refusal 12 12))
     ∷ Reads (take 65 file_b) (refused (refusal 11 12))
     -- P10: a file that holds B.
-    ∷ Outlines file_bInside
+    ∷ Outlines file_b_inside
     (accepted
     (0x01 ∷ 0x00 ∷ 0x00 ∷ 0x30 ∷ 0x00 ∷ 0x00 ∷ 0x00 ∷ 0x0C ∷ 0x00 ∷ 0x00 ∷ 0x00 ∷ 0x42 ∷ 0x00 ∷ 0x00 ∷ 0x00 ∷ 0x42
     ∷ 0x20 ∷ 0x00 ∷ 0x00 ∷ 0x30 ∷ 0x00 ∷ 0x00 ∷ 0x00 ∷ 0x4E ∷ replicate 8 0x00))
     -- The same as records: depth, offset, inner state, the refusal's number and place, ordinal, offset in its file,
     -- header size, flags, compression, three sizes, the checksum's halves.
-    ∷ Records file_bInside
+    ∷ Records file_b_inside
     ((0 ∷ 12 ∷ 1 ∷ 0 ∷ 0 ∷ 0 ∷ 12 ∷ 48 ∷ 0 ∷ 0 ∷ 66 ∷ 66 ∷ 66 ∷ 0 ∷ 0 ∷ []) ∷ (1 ∷ 78 ∷ 0 ∷ 0 ∷ 0 ∷ 0 ∷ 12 ∷ 48 ∷ 0 ∷ 0 ∷ 0 ∷ 0 ∷ 0 ∷ 0 ∷ 0 ∷ []) ∷ [])
     -- P11: a file with a tree.
     ∷ Reads file_t (layout_of_a (tree_at 12 30 40) 1 Absent)

@@ -98,25 +98,25 @@ pub record Done (s t after : Bytes) (r : EditAnswer) : Type 0 where
   pub edited : r ≡ EditAnswer·is.Edited → Edited s t after
 
 -- The outline `b` and the text `t` are put at the start of two buffers if both fit. Otherwise neither buffer changes.
--- `rows` and `out` are the buffers before, and `rowsAfter` and `outAfter` are the same buffers afterwards. `r` is the
+-- `rows` and `out` are the buffers before, and `rows_after` and `out_after` are the same buffers afterwards. `r` is the
 -- answer.
-pub record BothPut (b t rows out rowsAfter outAfter : Bytes) (r : CountAnswer) : Type 0 where
+pub record BothPut (b t rows out rows_after out_after : Bytes) (r : CountAnswer) : Type 0 where
   pub answer : count_answer r ≡ ◌>>◌ (need (both_fit b t rows out) 21 0) (accepted (length t))
-  pub outline_put : rowsAfter ≡ put_if (both_fit b t rows out) rows b
-  pub text_put : outAfter ≡ put_if (both_fit b t rows out) out t
+  pub outline_put : rows_after ≡ put_if (both_fit b t rows out) rows b
+  pub text_put : out_after ≡ put_if (both_fit b t rows out) out t
 
 -- `r` is the answer of the writer of a listing for the bytes `s`, with its two buffers before and after. Buffers as
 -- long as those that the program lends are always long enough.
-pub record Listed (s rows out rowsAfter outAfter : Bytes) (r : CountAnswer) : Type 0 where
-  pub put : BothPut (outline_for s) (listing s) rows out rowsAfter outAfter r
+pub record Listed (s rows out rows_after out_after : Bytes) (r : CountAnswer) : Type 0 where
+  pub put : BothPut (outline_for s) (listing s) rows out rows_after out_after r
   pub enough : lent_bytes ≤ length rows → lent_bytes ≤ length out → count_answer r ≡ accepted (length (listing s))
 
 -- The same with buffers as long as the program's. The first `n` bytes of the second buffer are then the listing.
-pub record ListedLent (s rows out rowsAfter outAfter : Bytes) (n : ℕ) : Type 0 where
-  pub listed : Listed s rows out rowsAfter outAfter (Counted n)
-  pub inside : n ≤ length outAfter
-  pub size : n ≡ length (take n outAfter)
-  pub text : take n outAfter ≡ listing s
+pub record ListedLent (s rows out rows_after out_after : Bytes) (n : ℕ) : Type 0 where
+  pub listed : Listed s rows out rows_after out_after (Counted n)
+  pub inside : n ≤ length out_after
+  pub size : n ≡ length (take n out_after)
+  pub text : take n out_after ≡ listing s
 
 -- `r` is the number that is returned for this answer, and `lent` is how many bytes were lent in all. If they are fewer
 -- than 2^56, `r` stands for no other answer.

@@ -24,8 +24,8 @@ pub record Outlined (s : Bytes) (answer : LayoutAnswer) (written : CountAnswer) 
   pub outlined : OutlineWritten s before own written
 
 -- An outline `b` and a text `t` were put into two buffers, if both fit. Both fit into buffers as long as the program's.
-pub record BothShort (b t rows out rowsAfter outAfter : Bytes) (r : CountAnswer) : Type 0 where
-  pub put : BothPut b t rows out rowsAfter outAfter r
+pub record BothShort (b t rows out rows_after out_after : Bytes) (r : CountAnswer) : Type 0 where
+  pub put : BothPut b t rows out rows_after out_after r
   pub outline_short : length b ≤ lent_bytes
   pub text_short : length t ≤ lent_bytes
 

@@ -1,6 +1,6 @@
 // Numbers in bytes and in decimal digits.
 ghost use Rattle.std.specs.Prelude.{◌+◌, ◌≤◌, ◌<◌, ◌≡◌, length};
-ghost use Rattle.format.specs.Numeral.{is_digit as Numeral·isDigit};
+ghost use Rattle.format.specs.Numeral.{is_digit as Numeral·is_digit};
 ghost use Rattle.scan.specs.Number.{BigEndian, Four, leads_well, NumeralRead, DigitsRead};
 
 use crate::text;
@@ -115,7 +115,7 @@ fn digits(t: &[u8]) -> Number
 
 // Whether a byte is a decimal digit.
 fn is_digit(b: u8) -> bool
-    ensures { result ≡ Numeral·isDigit b }
+    ensures { result ≡ Numeral·is_digit b }
 {
     if b < 48 {
         return false;
