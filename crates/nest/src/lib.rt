@@ -139,7 +139,8 @@ fn write_measured(s: &[u8], offsets: &[u64], blocks: u8, form: Form, out: &mut [
     if out.len() as u64 / each < n {
         return CountAnswer::refuse(BUFFER_TOO_SHORT, 0);
     }
-    if OWN_BYTES as u64 / each < n {
+    let own_most = OWN_BYTES as u64 / each;
+    if own_most < n {
         walk::walk_all(s, offsets, blocks, form, out);
         return CountAnswer::Counted(each * n);
     }
