@@ -4,12 +4,7 @@ use Prim.Native.Nat.{ℕ, ◌+◌, ◌<◌}
 use native.Mathlib.Omega.{arith}
 use mathlib.Core.Path.{◌≡◌, refl, sym, ap, ◌∙◌}
 use lib.ListN.{length}
-use Rattle.format.specs.declared.answer.CountAnswer.{CountAnswer}
-use Rattle.format.specs.declared.answer.CountAnswer.TheVariants as CountAnswer·is
-use Rattle.format.specs.declared.answer.EditAnswer.{EditAnswer}
-use Rattle.format.specs.declared.answer.EditAnswer.TheVariants as EditAnswer·is
 use Rattle.format.specs.declared.refusal.Refusal.{Refusal}
-use Rattle.format.specs.Answer.{count_answer, edit_answer}
 use Rattle.format.specs.Bytes.{Bytes}
 use Rattle.format.specs.Outcome.{Outcome, accepted, refused, ◌>>◌}
 use Rattle.format.specs.Lent.{writes}
@@ -22,21 +17,21 @@ use Rattle.format.proofs.NumberedLaws.{Numbered, numbered_more, numbered_writes,
 use Rattle.format.proofs.WordLaws.{word_large, Counts, returned, returned_writes}
 
 -- An edit returns 0, or its refusal as one number.
-pub word_edited : (a : EditAnswer) → a ≡ EditAnswer·is.Edited → 0 ≡ word (◌>>◌ (edit_answer a) (accepted 0))
+pub word_edited : (a : Outcome (Unit {0})) → a ≡ accepted tt → 0 ≡ word (◌>>◌ (a) (accepted 0))
 unfolding edit_answer
 word_edited a e = rw e
 
-pub word_unedited : (a : EditAnswer) (r : Refusal) → a ≡ EditAnswer·is.Refused r → (w : ℕ) → w ≡ word (refused r)
-    → w ≡ word (◌>>◌ (edit_answer a) (accepted 0))
+pub word_unedited : (a : Outcome (Unit {0})) (r : Refusal) → a ≡ refused r → (w : ℕ) → w ≡ word (refused r)
+    → w ≡ word (◌>>◌ (a) (accepted 0))
 unfolding edit_answer
 word_unedited a r e w h = rw e h
 
 -- The returned number states the count that was asked for.
-pub returned_count : (a : CountAnswer) (count : Outcome ℕ) (lent : ℕ) → count_answer a ≡ count → Counts lent count → Numbered lent count
-    → (w : ℕ) → w ≡ word (count_answer a) → Returned count lent w
+pub returned_count : (a : Outcome ℕ) (count : Outcome ℕ) (lent : ℕ) → a ≡ count → Counts lent count → Numbered lent count
+    → (w : ℕ) → w ≡ word (a) → Returned count lent w
 returned_count a count lent h c n w e = returned count lent c n w (e ∙ ap word h)
 
-module _ (before after : Bytes) (a : CountAnswer) (w : ℕ) (e : w ≡ word (count_answer a)) where
+module _ (before after : Bytes) (a : Outcome ℕ) (w : ℕ) (e : w ≡ word (a)) where
   -- The promise of a writer carries over to the number that is returned.
   pub exported_written : (s : Bytes) (result : Outcome Bytes) → Numbered (length s) result → Written result before after a
       → Exported s result before after w
@@ -45,13 +40,13 @@ module _ (before after : Bytes) (a : CountAnswer) (w : ℕ) (e : w ≡ word (cou
 
   -- If the returned number is below 2^56, the writer counted that many bytes.
   small_counted : (s : Bytes) (result : Outcome Bytes) → Numbered (length s) result → Written result before after a → w < least_refusal
-      → a ≡ CountAnswer·is.Counted w
+      → a ≡ accepted w
   unfolding count_answer
   small_counted s result n h p = from a h.answer e
     where
-      from : (x : CountAnswer) → count_answer x ≡ writes result before → w ≡ word (count_answer x) → x ≡ CountAnswer·is.Counted w
-      from (CountAnswer·is.Counted m) q f = ap CountAnswer·is.Counted (sym f)
-      from (CountAnswer·is.Refused r) q f =
+      from : (x : Outcome ℕ) → x ≡ writes result before → w ≡ word (x) → x ≡ accepted w
+      from (accepted m) q f = ap accepted (sym f)
+      from (refused r) q f =
           let large = word_large (length s) (writes result before) r (numbered_writes (length s) result before n) q in
           absurd (omega arith)
 
@@ -90,7 +85,7 @@ done_none (accepted a) lent = omega arith
 done_none (refused r) lent = tt
 
 -- The edit of the file `s` to the text `t` was answered with `a`, and `w` is returned for `a`.
-module _ (s t after : Bytes) (a : EditAnswer) (h : Done s t after a) (w : ℕ) (e : w ≡ word (◌>>◌ (edit_answer a) (accepted 0))) where
+module _ (s t after : Bytes) (a : Outcome (Unit {0})) (h : Done s t after a) (w : ℕ) (e : w ≡ word (◌>>◌ (a) (accepted 0))) where
   -- The returned number states the answer of the edit.
   edit_answer_lem : Returned (◌>>◌ (edit s t) (accepted 0)) (length s + length t) w
   edit_answer_lem =
@@ -102,18 +97,18 @@ module _ (s t after : Bytes) (a : EditAnswer) (h : Done s t after a) (w : ℕ) (
       (e ∙ ap (λ (o : Outcome (Unit {0})). word (◌>>◌ o (accepted 0))) h.answer ∙ ap word (done_again (edit s t) tt 0))
 
   -- If 0 is returned, the edit was done.
-  zero_edited : w ≡ 0 → a ≡ EditAnswer·is.Edited
+  zero_edited : w ≡ 0 → a ≡ accepted tt
   unfolding edit_answer
   zero_edited p = from a h.answer e
     where
-      from : (x : EditAnswer) → edit_answer x ≡ ◌>>◌ (edit s t) (accepted tt) → w ≡ word (◌>>◌ (edit_answer x) (accepted 0)) → x ≡ EditAnswer·is.Edited
-      from EditAnswer·is.Edited q f = refl
-      from (EditAnswer·is.Refused r) q f =
+      from : (x : Outcome (Unit {0})) → x ≡ ◌>>◌ (edit s t) (accepted tt) → w ≡ word (◌>>◌ (x) (accepted 0)) → x ≡ accepted tt
+      from accepted tt q f = refl
+      from (refused r) q f =
           let large = word_large (length s) _ r (numbered_done (length s) (edit s t) tt (numbered_edit s t)) q in
           absurd (omega arith)
 
   -- If the edit was done, 0 is returned.
-  edited_zero : a ≡ EditAnswer·is.Edited → w ≡ 0
+  edited_zero : a ≡ accepted tt → w ≡ 0
   edited_zero p = e ∙ sym (word_edited a p)
 
   pub exported_edit : EditExported s t after w

@@ -11,6 +11,7 @@ use mir.Syntax.{w8, w64}
 use mir.Val.{Fits}
 use borrow.Author.Tests.{le-leb, lt-leb, eq-eqb, ne_eqb, not-true, not-false}
 use Rattle.format.specs.declared.block.Block.{Block}
+use Rattle.format.specs.declared.refusal.Reason.TheVariants.{UsedAboveAllocated, DataSizeDiffers, AllocatedPassesEnd}
 use Rattle.format.specs.Bytes.{Bytes}
 use Rattle.format.specs.Outcome.{Outcome, accepted, refused, refusal, need, ◌>>◌}
 use Rattle.format.specs.Block.{header_size, flags, compression, data_size, least_header, is_streamed, is_compressed, content_start, block_with, block, Sound}
@@ -42,9 +43,9 @@ plain_size size compression used x e h = rw (sym e ∙ h)
 -- follow its header, and `ok` states whether its data may have its size.
 abbrev sized : ℕ → ℕ → Bytes → ℕ → ℕ → ℕ → ℕ → Bool → Outcome Block
 sized i n t left a u d ok = do
-  need (leb u a) 13 n
-  need ok 14 n
-  need (leb a left) 15 n
+  need (leb u a) UsedAboveAllocated n
+  need ok DataSizeDiffers n
+  need (leb a left) AllocatedPassesEnd n
   accepted (block_with i n t a u d)
 
 -- If the block is refused with `r`, which is not 0, then `r` is its fault.

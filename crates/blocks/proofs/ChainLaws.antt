@@ -12,6 +12,7 @@ use mir.Syntax.{w64}
 use mir.Val.{Fits}
 use Rattle.format.specs.declared.block.Block.{Block}
 use Rattle.format.specs.declared.refusal.Refusal.{Refusal}
+use Rattle.format.specs.declared.refusal.Reason.TheVariants.{TooManyBlocks, StrayTail}
 use Rattle.format.specs.Bytes.{Bytes, begins, all_zero}
 use Rattle.format.specs.Outcome.{Outcome, accepted, refused, refusal, ◌>>=◌}
 use Rattle.format.specs.Comments.{index_line}
@@ -92,13 +93,13 @@ module _ (s : Bytes) (i n m : ℕ) (next : NextMark s n m) where
         link_zeros h = record { is = onward_tail ∙ rw (tail, zeros_on ∙ h); tail = zeros_on ∙ h }
 
         -- If anything else is at `n`, the chain is refused there with 17.
-        pub link_other : (r : Refusal) → r ≡ refusal 17 n → x ≡ false → z ≡ false → onward s i n ≡ refused r
+        pub link_other : (r : Refusal) → r ≡ refusal StrayTail n → x ≡ false → z ≡ false → onward s i n ≡ refused r
         unfolding tail
         link_other r e h k = onward_tail ∙ rw (tail, zeros_on ∙ k, sym index_is ∙ h, e)
 
 module _ (s : Bytes) (i n m : ℕ) (here : Follows s n m) where
   -- If no further block is allowed, the chain is refused with 16 at the mark `m`.
-  pub mark_many : (r : Refusal) → r ≡ refusal 16 m → most_blocks ≤ i → onward s i n ≡ refused r
+  pub mark_many : (r : Refusal) → r ≡ refusal TooManyBlocks m → most_blocks ≤ i → onward s i n ≡ refused r
   mark_many r e h =
       let none : most_blocks - i ≡ 0 = omega arith in
       rw (none, e, here.at) (chain_many i n here.gap (drop n s) here.next)

@@ -1,6 +1,6 @@
 -- What is found where a block may begin, and what a walk along the chain finds.
 use Rattle.std.specs.Prelude.{ℕ, ◌+◌, ◌-◌, ◌≤◌, ◌<◌, ◌≡◌, Bool, true, false, List, [], length, drop, replicate}
-use Rattle.std.proofs.Math.Option.{none, some}
+use Rattle.std.specs.Prelude.{None, Some}
 use Rattle.format.specs.declared.block.Block.{Block}
 use Rattle.format.specs.declared.refusal.Refusal.{Refusal}
 use Rattle.format.specs.Bytes.{Bytes, all_zero}
@@ -24,14 +24,14 @@ pub record TailBegins (s : Bytes) (i n : ℕ) (zeros : Bool) : Type 0 where
 -- The next block from offset `n` on has its mark at `m`.
 pub record Follows (s : Bytes) (n m : ℕ) : Type 0 where
   pub gap : ℕ
-  pub next : next_block (drop n s) ≡ some gap
+  pub next : next_block (drop n s) ≡ Some gap
   pub at : m ≡ n + gap
   pub inside : m ≤ length s
 
 -- `m` is where the next block from offset `n` on has its mark, or the end of the file if no block follows.
 pub record NextMark (s : Bytes) (n m : ℕ) : Type 0 where
   pub some_block : m < length s → Follows s n m
-  pub no_block : length s ≤ m → next_block (drop n s) ≡ none
+  pub no_block : length s ≤ m → next_block (drop n s) ≡ None
 
 -- Block `i` follows from offset `n` on, its mark is at `m`, and `o` is the chain after it.
 pub record BlockBegins (s : Bytes) (i n m : ℕ) (o : Outcome Chain) : Type 0 where

@@ -1,22 +1,21 @@
 -- Laws about the check of a block's data: where the data is, its digest, and one law for each return.
 use Prim.Native.Nat.{ℕ, ◌+◌, ◌-◌, ◌≤◌}
+use Rattle.std.specs.Prelude.{Option}
 use mathlib.Core.Path.{◌≡◌, refl, sym, ap, ◌∙◌}
 use mathlib.Core.Bool.{Bool, true, false, not}
 use mathlib.Core.List.{[], ◌∷◌, append-nil}
-use mathlib.Core.Option.{none, some}
+use Rattle.std.specs.Prelude.{None, Some}
 use native.Mathlib.Omega.{arith}
-use lib.ListN.{length, take, drop, get_elem?, length-drop}
+use lib.ListN.{length, take, drop, length-drop}
+use Rattle.std.specs.Prelude.{slice_get}
 use lib.Seq.{length-take-le}
 use lib.Dec.{leb, eqb}
 use borrow.Author.Tests.{leb-true, leb-false, eq-eqb, ne_eqb, not-true, not-false}
-use Rattle.format.specs.declared.answer.BlockAnswer.{BlockAnswer}
-use Rattle.format.specs.declared.answer.BlockAnswer.TheVariants as BlockAnswer·is
 use Rattle.format.specs.declared.answer.Check.{Check}
 use Rattle.format.specs.declared.answer.Check.TheVariants.{NotStated, Agrees, Differs}
-use Rattle.format.specs.declared.answer.CheckAnswer.TheVariants as CheckAnswer·is
 use Rattle.format.specs.declared.block.Block.{Block}
 use Rattle.format.specs.declared.refusal.Refusal.{Refusal}
-use Rattle.format.specs.Answer.{block_answer, check_answer}
+use Rattle.format.specs.declared.refusal.Reason.TheVariants.{NoSuchBlock}
 use Rattle.format.specs.Bytes.{Bytes, number}
 use Rattle.format.specs.Check.{states_md5, is_checksum, check_block, named, checked}
 use Rattle.format.specs.File.{File, most_bytes, file, block_at}
@@ -39,7 +38,7 @@ pub record Inside (s : Bytes) (b : Block) : Type 0 where
   pub short : length s ≤ most_bytes
 
 -- The block that is found by its ordinal is inside the file.
-found_inside : (s : Bytes) (f : File) → file s ≡ accepted f → (j : ℕ) (b : Block) → get_elem? f.blocks j ≡ some b → Inside s b
+found_inside : (s : Bytes) (f : File) → file s ≡ accepted f → (j : ℕ) (b : Block) → slice_get f.blocks j ≡ Some b → Inside s b
 found_inside s f e j b found = go (leb (length f.blocks) j) refl
   where
     go : (t : Bool) → leb (length f.blocks) j ≡ t → Inside s b
@@ -55,36 +54,36 @@ found_inside s f e j b found = go (leb (length f.blocks) j) refl
         let whole : content_at here.b + here.b.used ≤ length s = omega (arith, known.inside, known.used, length-drop here.b.at.0 s, here.inside) in
         record { end = rw same at whole; short = leb-true _ _ (file_parts s f e).short }
 
-block_inside : (s : Bytes) (j : ℕ) (b : Block) → block_at s j ≡ accepted (some b) → Inside s b
+block_inside : (s : Bytes) (j : ℕ) (b : Block) → block_at s j ≡ accepted (Some b) → Inside s b
 unfolding block_at
 block_inside s j b h = go (file s) refl
   where
     go : (o : Outcome File) → file s ≡ o → Inside s b
     go (accepted f) e =
-        let some-b : accepted (get_elem? f.blocks j) ≡ accepted (some b) = rw (block_at, e) at h in
-        let found : get_elem? f.blocks j ≡ some b = cc in
+        let some-b : accepted (slice_get f.blocks j) ≡ accepted (Some b) = rw (block_at, e) at h in
+        let found : slice_get f.blocks j ≡ Some b = cc in
         found_inside s f e j b found
     go (refused r) e =
-        let clash : refused r ≡ accepted (some b) = rw (block_at, e) at h in
+        let clash : refused r ≡ accepted (Some b) = rw (block_at, e) at h in
         let z : ◌≡◌ {A = ℕ} 0 1 = cc in
         absurd (omega arith)
 
 -- The answer about a block `x` for the file `s` leads to that of the check.
-module _ (s : Bytes) (j : ℕ) (x : BlockAnswer) (read : block_answer x ≡ block_at s j) where
+module _ (s : Bytes) (j : ℕ) (x : Outcome (Option Block)) (read : x ≡ block_at s j) where
   -- Case: the file is refused.
-  pub check_refused : (r : Refusal) → x ≡ BlockAnswer·is.Refused r → check_answer (CheckAnswer·is.Refused r) ≡ checked md5 s j
-  unfolding block_answer check_answer checked
-  check_refused r e = let is : block_at s j ≡ refused r = sym read ∙ ap block_answer e in rw (checked, is)
+  pub check_refused : (r : Refusal) → x ≡ refused r → (refused r) ≡ checked md5 s j
+  unfolding checked
+  check_refused r e = let is : block_at s j ≡ refused r = sym read ∙ e in rw (checked, is)
 
   -- Case: there is no such block.
-  pub check_none : x ≡ BlockAnswer·is.NoSuchBlock → (r : Refusal) → r ≡ refusal 25 0 → check_answer (CheckAnswer·is.Refused r) ≡ checked md5 s j
-  unfolding block_answer check_answer checked named
-  check_none e r q = let is : block_at s j ≡ accepted none = sym read ∙ ap block_answer e in rw (checked, is, q)
+  pub check_none : x ≡ accepted None → (r : Refusal) → r ≡ refusal NoSuchBlock 0 → (refused r) ≡ checked md5 s j
+  unfolding checked named
+  check_none e r q = let is : block_at s j ≡ accepted None = sym read ∙ e in rw (checked, is, q)
 
-  module _ (b : Block) (e : x ≡ BlockAnswer·is.Found b) where
-    found_is : block_at s j ≡ accepted (some b)
+  module _ (b : Block) (e : x ≡ accepted (Some b)) where
+    found_is : block_at s j ≡ accepted (Some b)
     unfolding block_answer
-    found_is = sym read ∙ ap block_answer e
+    found_is = sym read ∙ e
 
     -- Case: the block is found and checked. Its content is inside the file.
     pub check_end : content_at b + b.used ≤ length s
@@ -93,8 +92,8 @@ module _ (s : Bytes) (j : ℕ) (x : BlockAnswer) (read : block_answer x ≡ bloc
     pub check_short : length s ≤ most_bytes
     check_short = (block_inside s j b found_is).short
 
-    pub check_found : (c : Check) → c ≡ check_block md5 s b → check_answer (CheckAnswer·is.Checked c) ≡ checked md5 s j
-    unfolding check_answer checked named
+    pub check_found : (c : Check) → c ≡ check_block md5 s b → (accepted c) ≡ checked md5 s j
+    unfolding checked named
     check_found c q = rw (checked, found_is, q)
 
 -- One part that is not too long is taken, and the digest is its MD5.

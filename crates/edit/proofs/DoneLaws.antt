@@ -8,15 +8,12 @@ use lib.ListN.{length, take, drop, replicate, length-drop}
 use lib.Seq.{length-take-le, drop-drop}
 use lib.Dec.{leb}
 use borrow.Author.Tests.{not-true, not-false, leb-true}
-use Rattle.format.specs.declared.answer.EditAnswer.TheVariants as EditAnswer·is
-use Rattle.format.specs.declared.answer.LayoutAnswer.{LayoutAnswer}
-use Rattle.format.specs.declared.answer.LayoutAnswer.TheVariants as LayoutAnswer·is
 use Rattle.format.specs.declared.layout.Layout.{Layout}
 use Rattle.format.specs.declared.layout.Tree.{Tree}
 use Rattle.format.specs.declared.layout.Tree.TheVariants.{NoTree, Found}
 use Rattle.format.specs.declared.offset.Offset.{Offset}
 use Rattle.format.specs.declared.refusal.Refusal.{Refusal}
-use Rattle.format.specs.Answer.{edit_answer, layout_answer}
+use Rattle.format.specs.declared.refusal.Reason.TheVariants.{EditWithoutTree, TextNotOneTree, TextLongerThanRoom}
 use Rattle.format.specs.Bytes.{Bytes}
 use Rattle.format.specs.Outcome.{Outcome, accepted, refused, refusal, ◌>>=◌}
 use Rattle.format.specs.File.{File, file, layout_of, layout}
@@ -28,10 +25,10 @@ use Rattle.format.proofs.EditLaws.{accepted_editable, editable_accepted, accepte
 use Rattle.edit.specs.Tree.{HasTree}
 
 -- If the edit is refused, returning the refusal and leaving the file unchanged keeps the whole promise.
-refused_done : (s t : Bytes) (x : Refusal) → edit s t ≡ refused x → Done s t s (EditAnswer·is.Refused x)
-unfolding edit_answer edit_leaves
+refused_done : (s t : Bytes) (x : Refusal) → edit s t ≡ refused x → Done s t s (refused x)
+unfolding edit_leaves
 refused_done s t x e =
-    let never : EditAnswer·is.Refused x ≡ EditAnswer·is.Edited → ⊥ = λ h. let z : ◌≡◌ {A = ℕ} 0 1 = cc in omega arith in
+    let never : refused x ≡ accepted tt → ⊥ = λ h. let z : ◌≡◌ {A = ℕ} 0 1 = cc in omega arith in
     record {
       answer = rw e;
       bytes = rw e;
@@ -41,27 +38,27 @@ refused_done s t x e =
     }
 
 -- If the edit is accepted, leaving the edited file keeps the whole promise.
-accepted_done : (s t u : Bytes) → edit s t ≡ accepted u → Done s t u EditAnswer·is.Edited
-unfolding edit_answer edit_leaves
+accepted_done : (s t u : Bytes) → edit s t ≡ accepted u → Done s t u accepted tt
+unfolding edit_leaves
 accepted_done s t u e =
     record { answer = rw e; bytes = rw e; accepts = λ h. refl; only = λ h. accepted_editable s t u e; edited = λ h. accepted_edited s t u e }
 
-module _ (s : Bytes) (a : LayoutAnswer) (h : layout_answer a ≡ layout s) where
+module _ (s : Bytes) (a : Outcome Layout) (h : a ≡ layout s) where
   -- If the file is refused, the edit is refused in the same way.
-  pub edit_refused : (t : Bytes) (r : Refusal) → a ≡ LayoutAnswer·is.Refused r → Done s t s (EditAnswer·is.Refused r)
-  unfolding layout_answer layout edit
-  edit_refused t r e = refused_done s t r (on (file s) (sym h ∙ ap layout_answer e))
+  pub edit_refused : (t : Bytes) (r : Refusal) → a ≡ refused r → Done s t s (refused r)
+  unfolding layout edit
+  edit_refused t r e = refused_done s t r (on (file s) (sym h ∙ e))
     where
       on : (o : Outcome File) → ◌>>=◌ o (λ f. accepted (layout_of f)) ≡ refused r → ◌>>=◌ o (λ f. edit_tree s t f.tree) ≡ refused r
       on (accepted f) q = cc
       on (refused x) q = cc
 
   -- If the layout of the file is read, the file is accepted and has the tree of that layout.
-  pub edit_accepted : (l : Layout) → a ≡ LayoutAnswer·is.Accepted l → HasTree s l.tree
-  unfolding layout_answer layout layout_of
+  pub edit_accepted : (l : Layout) → a ≡ accepted l → HasTree s l.tree
+  unfolding layout layout_of
   edit_accepted l e =
       accepted_holds (λ k. HasTree s k.tree) (layout s) l (accepts_bind _ (file s) _ (λ f q. record { found = f; read = q; is = refl }))
-      (sym h ∙ ap layout_answer e)
+      (sym h ∙ e)
 
 -- A text that fits is no longer than the room.
 pub text_inside : (s t : Bytes) (n m : ℕ) (d : Bool) → not d ≡ false → d ≡ leb (length t) (m - n) → m ≤ length s
@@ -85,7 +82,7 @@ module _ (s t : Bytes) (x : Tree) (h : HasTree s x) where
   edit_tree_lem = rw (h.read, h.is)
 
   -- If the file has no tree, the edit is refused with 18.
-  pub tree_none : (r : Refusal) → x ≡ NoTree → r ≡ refusal 18 0 → Done s t s (EditAnswer·is.Refused r)
+  pub tree_none : (r : Refusal) → x ≡ NoTree → r ≡ refusal EditWithoutTree 0 → Done s t s (refused r)
   unfolding edit_tree
   tree_none r q e = rw e (refused_done s t _ (rw (edit_tree_lem, q)))
 
@@ -103,20 +100,20 @@ module _ (s t : Bytes) (x : Tree) (h : HasTree s x) where
 
     module _ (b : Bool) (one : b ≡ is_one_tree t) where
       -- If the text is not exactly one tree, the edit is refused with 19.
-      pub text_other : (r : Refusal) → not b ≡ true → r ≡ refusal 19 0 → Done s t s (EditAnswer·is.Refused r)
+      pub text_other : (r : Refusal) → not b ≡ true → r ≡ refusal TextNotOneTree 0 → Done s t s (refused r)
       unfolding edit_tree
       text_other r p f = rw f (refused_done s t _ (rw (edit_tree_lem, q, sym one ∙ not-true b p)))
 
       module _ (p : not b ≡ false) (d : Bool) (fit : d ≡ leb (length t) (m.0 - n.0)) where
         -- If the text is longer than the room, the edit is refused with 20.
-        pub text_long : (r : Refusal) → not d ≡ true → r ≡ refusal 20 0 → Done s t s (EditAnswer·is.Refused r)
+        pub text_long : (r : Refusal) → not d ≡ true → r ≡ refusal TextLongerThanRoom 0 → Done s t s (refused r)
         unfolding edit_tree
         text_long r l f = rw f (refused_done s t _ (rw (edit_tree_lem, q, sym one ∙ not-false b p, sym fit ∙ not-true d l)))
 
         -- If the text fits and the room is filled with it, the file is edited.
         pub text_put : (Room-after : Bytes) → not d ≡ false
             → Room-after ≡ t ++ replicate (length (take (m.0 - n.0) (drop n.0 s)) - length t) 32
-            → Done s t (take n.0 s ++ (Room-after ++ drop (m.0 - n.0) (drop n.0 s))) EditAnswer·is.Edited
+            → Done s t (take n.0 s ++ (Room-after ++ drop (m.0 - n.0) (drop n.0 s))) accepted tt
         unfolding edit_tree
         text_put Room-after l f =
             rw (room_filled s t n.0 m.0 Room-after f room_order room_inside)

@@ -4,23 +4,20 @@ use native.Mathlib.Omega.{arith}
 use mathlib.Core.Path.{◌≡◌, refl, sym, ap, ◌∙◌}
 use mathlib.Core.Bool.{Bool, true, false, not}
 use mathlib.Core.List.{List, [], ◌∷◌}
-use mathlib.Core.Option.{some}
-use lib.ListN.{length, take, drop, get_or, get_elem?}
+use Rattle.std.specs.Prelude.{Some}
+use lib.ListN.{length, take, drop, get_or}
+use Rattle.std.specs.Prelude.{slice_get}
 use lib.Seq.{length-take-le}
 use borrow.Author.Tests.{le-leb}
 use mir.Syntax.{w8}
 use mir.Val.{Fits}
-use Rattle.format.specs.declared.answer.CountAnswer.{CountAnswer}
-use Rattle.format.specs.declared.answer.CountAnswer.TheVariants.{Counted, Refused}
-use Rattle.format.specs.declared.answer.LayoutAnswer.{LayoutAnswer}
-use Rattle.format.specs.declared.answer.LayoutAnswer.TheVariants as LayoutAnswer·is
 use Rattle.format.specs.declared.layout.Layout.{Layout}
 use Rattle.format.specs.declared.line.LineEnd.{LineEnd}
 use Rattle.format.specs.declared.block.Block.{Block}
 use Rattle.format.specs.declared.refusal.Refusal.{Refusal}
-use Rattle.format.specs.Answer.{layout_answer}
+use Rattle.format.specs.declared.refusal.Reason.TheVariants.{NoIndexPossible}
 use Rattle.format.specs.Bytes.{Bytes, IsBytes}
-use Rattle.format.specs.Outcome.{accepted, refused, refusal}
+use Rattle.format.specs.Outcome.{Outcome, accepted, refused, refusal}
 use Rattle.format.specs.Block.{is_streamed}
 use Rattle.format.specs.Chain.{most_blocks}
 use Rattle.format.specs.Index.{index_text}
@@ -40,7 +37,7 @@ use Rattle.put.proofs.WrittenLaws.{written_refused, Taken, written_taken}
 use Rattle.index.specs.Text.{offsets_index}
 
 -- The last block decides whether there may be an index: there may, unless it is streamed.
-last_decides : (bs : List Block) (j : ℕ) (b : Block) → length bs ≡ suc j → get_elem? bs j ≡ some b → may_have_index bs ≡ not (is_streamed b.flags)
+last_decides : (bs : List Block) (j : ℕ) (b : Block) → length bs ≡ suc j → slice_get bs j ≡ Some b → may_have_index bs ≡ not (is_streamed b.flags)
 unfolding may_have_index
 last_decides [] j b n h = absurd (omega arith)
 last_decides (a ∷ []) zero b n h = let same : a ≡ b = cc in rw same
@@ -51,7 +48,7 @@ last_decides (a ∷ c ∷ bs) (suc j) b n h = last_decides (c ∷ bs) j b (omega
 module _ (s : Bytes) (kept : List ℕ) (count : ℕ) (h : Kept s kept count) where
   -- If the blocks may have an index, it lists the offsets that are kept; otherwise the index is refused with 22.
   index_is : (b : Bool) → may_have_index h.f.blocks ≡ b
-      → index_for s ≡ elim b [ true ↦ accepted (index_text h.f.header.line_end (take count kept)) | false ↦ refused (refusal 22 0) ]
+      → index_for s ≡ elim b [ true ↦ accepted (index_text h.f.header.line_end (take count kept)) | false ↦ refused (refusal NoIndexPossible 0) ]
   unfolding index_for
   index_is true e = rw (index_for, h.is, e, h.begin)
   index_is false e = rw (index_for, h.is, e)
@@ -62,9 +59,9 @@ module _ (s : Bytes) (kept : List ℕ) (count : ℕ) (h : Kept s kept count) whe
   same_header l told = cc (rw (h.is, layout) at told)
 
   -- If the file has no block, the index is refused with 22.
-  pub no_block : count ≡ 0 → (out : Bytes) (x : CountAnswer) → x ≡ Refused (refusal 22 0) → Written (index_for s) out out x
+  pub no_block : count ≡ 0 → (out : Bytes) (x : Outcome ℕ) → x ≡ refused (refusal NoIndexPossible 0) → Written (index_for s) out out x
   unfolding may_have_index
-  no_block p out = written_refused (index_for s) out (refusal 22 0) (index_is false (none_may h.f.blocks (h.count ∙ p)))
+  no_block p out = written_refused (index_for s) out (refusal NoIndexPossible 0) (index_is false (none_may h.f.blocks (h.count ∙ p)))
     where
       none_may : (bs : List Block) → length bs ≡ 0 → may_have_index bs ≡ false
       none_may [] q = refl
@@ -106,17 +103,17 @@ module _ (s : Bytes) (kept : List ℕ) (count : ℕ) (h : Kept s kept count) whe
           last_decides h.f.blocks (count - 1) last_each.b (omega (arith, h.count)) last_each.found ∙ ap not (sym told) ∙ q
 
       -- If the last block is streamed, the index is refused with 22.
-      pub last_streamed : x ≡ true → (out : Bytes) (y : CountAnswer) → y ≡ Refused (refusal 22 0) → Written (index_for s) out out y
-      last_streamed q out = written_refused (index_for s) out (refusal 22 0) (index_is false (last_may false (rw q)))
+      pub last_streamed : x ≡ true → (out : Bytes) (y : Outcome ℕ) → y ≡ refused (refusal NoIndexPossible 0) → Written (index_for s) out out y
+      last_streamed q out = written_refused (index_for s) out (refusal NoIndexPossible 0) (index_is false (last_may false (rw q)))
 
       -- If the last block is not streamed, writing the index of the kept offsets is writing the index of the file.
       pub last_plain : x ≡ false → (l : Layout) → layout s ≡ accepted l → (k : LineEnd) → k ≡ l.header.line_end
-          → (out after : Bytes) (y : CountAnswer) → Written (offsets_index k (take count kept)) out after y → Written (index_for s) out after y
+          → (out after : Bytes) (y : Outcome ℕ) → Written (offsets_index k (take count kept)) out after y → Written (index_for s) out after y
       last_plain q l told k e out after y w = rw (index_is true (last_may true (rw q)), same_header l told, ← e) (rw (part_index k) at w)
 
 -- What is written is a good index, and it is short enough.
 module _ (s : Bytes) (known : (i : ℕ) → Fits w8 (get_or s i 0)) where
-  pub index_written : (out after : Bytes) (r : CountAnswer) → Written (index_for s) out after r → IndexWritten s out after r
+  pub index_written : (out after : Bytes) (r : Outcome ℕ) → Written (index_for s) out after r → IndexWritten s out after r
   index_written out after r w = record {
     written = w;
     good = λ n e. index_good s bytes (take n after) (taken n e).is;
@@ -126,12 +123,12 @@ module _ (s : Bytes) (known : (i : ℕ) → Fits w8 (get_or s i 0)) where
       bytes : IsBytes s
       bytes i = (known i).fits
 
-      taken : (n : ℕ) → r ≡ Counted n → Taken (index_for s) after n
+      taken : (n : ℕ) → r ≡ accepted n → Taken (index_for s) after n
       taken n e = written_taken (index_for s) out after n (rw e at w)
 
   -- If the file is refused, its refusal is the answer, and nothing is written.
-  pub index_refused : (a : LayoutAnswer) → layout_answer a ≡ layout s → (r : Refusal) → a ≡ LayoutAnswer·is.Refused r → (out : Bytes)
-      → IndexWritten s out out (Refused r)
+  pub index_refused : (a : Outcome Layout) → a ≡ layout s → (r : Refusal) → a ≡ refused r → (out : Bytes)
+      → IndexWritten s out out (refused r)
   unfolding index_for
   index_refused a is r e out =
-      index_written out out (Refused r) (written_refused (index_for s) out r (rw (file_refused s a is r e, index_for)) (Refused r) refl)
+      index_written out out (refused r) (written_refused (index_for s) out r (rw (file_refused s a is r e, index_for)) (refused r) refl)

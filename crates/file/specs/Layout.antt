@@ -1,10 +1,10 @@
 -- The steps of reading a file. Each step includes everything that comes after it.
 use Rattle.std.specs.Prelude.{ℕ, ◌≡◌, List, length, take, drop}
-use Rattle.format.specs.declared.answer.LayoutAnswer.{LayoutAnswer}
 use Rattle.format.specs.declared.layout.Header.{Header}
 use Rattle.format.specs.declared.layout.Tree.{Tree}
 use Rattle.format.specs.declared.layout.Verdict.{Verdict}
 use Rattle.format.specs.declared.layout.Layout.{Layout}
+use Rattle.format.specs.declared.refusal.Reason.TheVariants.{NeitherTreeNorBlock}
 use Rattle.format.specs.Bytes.{Bytes}
 use Rattle.format.specs.Outcome.{Outcome, accepted, need, ◌>>=◌, ◌>>◌}
 use Rattle.format.specs.Line.{lines}
@@ -13,7 +13,6 @@ use Rattle.format.specs.Tree.{tree}
 use Rattle.format.specs.Chain.{Chain, chain, most_blocks}
 use Rattle.format.specs.Index.{verdict}
 use Rattle.format.specs.File.{File, file, first_block, goes_on, offsets, table_of, layout_of}
-use Rattle.format.specs.Answer.{layout_answer}
 
 -- The file with the header `h`, comments that end at `n`, the tree `t` and the chain `c`.
 abbrev pub file_with : Header → ℕ → Tree → Chain → File
@@ -28,7 +27,7 @@ with_blocks s h n t first = do
 -- The file from the end of its tree on. `n` is where its comments end.
 unfoldable pub after_tree : Bytes → Header → ℕ → Tree → Outcome File
 after_tree s h n t = do
-  need (goes_on t (drop n s)) 7 n
+  need (goes_on t (drop n s)) NeitherTreeNorBlock n
   with_blocks s h n t (first_block n t)
 
 -- The file from the end of its comments on, which is at `n`.
@@ -49,8 +48,8 @@ layout_with h n t blocks v = record { header = h; comments_end = record { 0 = n 
 
 -- `r` is the right answer for the outcome `o`. If the file is accepted, the table was changed from `before` to `out`,
 -- and the front of `out` holds where its blocks begin.
-pub record Judged (o : Outcome File) (before out : List ℕ) (r : LayoutAnswer) : Type 0 where
-  pub is : layout_answer r ≡ ◌>>=◌ o (λ f. accepted (layout_of f))
+pub record Judged (o : Outcome File) (before out : List ℕ) (r : Outcome Layout) : Type 0 where
+  pub is : r ≡ ◌>>=◌ o (λ f. accepted (layout_of f))
   pub kept : (f : File) → o ≡ accepted f → out ≡ table_of before f.blocks
 
 -- `s` is an accepted file of `blocks` blocks, and the first `blocks` entries of `out` are where they begin.

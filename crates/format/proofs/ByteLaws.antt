@@ -1,7 +1,7 @@
 -- The tests on byte strings decide what their names say.
 use Rattle.std.proofs.Common.{◌≡◌, ℕ, zero, suc, Bool, true, false, not, ◌&&◌, eqb, [], ◌∷◌, ◌++◌, reverse, length, drop, replicate, refl, eq-eqb, eqb-true}
 use mathlib.Core.List.{reverse-cons}
-use mathlib.Core.Option.{none, some}
+use Rattle.std.specs.Prelude.{None, Some}
 use borrow.Author.Tests.{not-true}
 use Rattle.format.specs.Bytes.{Bytes, begins, same, all_zero}
 use Rattle.format.specs.Index.{without}
@@ -47,15 +47,15 @@ begins_append [] s = refl
 begins_append (a ∷ p) s = and_both (eqb a a) (begins p (p ++ s)) (eq-eqb a a refl) (begins_append p s)
 
 -- If `without p s` gives `u`, then `s` is `p` followed by `u`.
-pub without_some : (p s u : Bytes) → without p s ≡ some u → s ≡ p ++ u
+pub without_some : (p s u : Bytes) → without p s ≡ Some u → s ≡ p ++ u
 unfolding without
 without_some [] s u h = cc
 without_some (a ∷ p) [] u h = cc
 without_some (a ∷ p) (b ∷ s) u h = go (eqb a b) refl (without_some p s u)
   where
-    go : (x : Bool) → eqb a b ≡ x → (without p s ≡ some u → s ≡ p ++ u) → b ∷ s ≡ a ∷ (p ++ u)
+    go : (x : Bool) → eqb a b ≡ x → (without p s ≡ Some u → s ≡ p ++ u) → b ∷ s ≡ a ∷ (p ++ u)
     go true e i = cc (eqb-true a b e, i (rw (e, without) at h))
-    go false e i = let n : none ≡ some u = rw (e, without) at h in cc
+    go false e i = let n : None ≡ Some u = rw (e, without) at h in cc
 
 -- If `all_zero` holds for `z`, then `z` consists of zeros, one for each of its bytes.
 pub all_zero_true : (z : Bytes) → all_zero z ≡ true → z ≡ replicate (length z) 0

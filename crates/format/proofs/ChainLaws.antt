@@ -1,9 +1,10 @@
 -- The blocks of a chain, with the space between them, are a front part of the bytes. They are the same with another
 -- tail after the last of them.
 use Rattle.std.proofs.Common.{◌≡◌, ℕ, zero, suc, ◌+◌, ◌≤◌, Bool, true, false, not, ◌&&◌, eqb, leb, List, [], ◌∷◌, ◌++◌, length, take, drop, sym, refl, ap, ◌∙◌, subst, true≢false, append_assoc, append-nil, arith, length-append, length-drop, take-append-drop, length-take-le, drop-drop, take_at, drop_at, leb-true}
-use mathlib.Core.Option.{none, some}
+use Rattle.std.specs.Prelude.{None, Some}
 use lib.Seq.{take-append_seam, drop-append_seam, take-append-le, drop-append-le}
 use Rattle.format.specs.declared.block.Block.{Block}
+use Rattle.format.specs.declared.refusal.Reason.TheVariants.{TooManyBlocks}
 use Rattle.format.specs.Bytes.{Bytes, begins}
 use Rattle.format.specs.Outcome.{accepted, refused, refusal}
 use Rattle.format.specs.Block.{flags, least_block, is_streamed, block_with, block, sound_block, Sound}
@@ -60,18 +61,18 @@ record ChainFront (k i n : ℕ) (t : Bytes) (c : Chain) : Type 0 where
       → chain k i n (front ++ y) ≡ accepted (record { blocks = c.blocks; tail = y })
 
 -- If no block follows, the outcome of the chain is that of the tail.
-pub chain_none : (k i n : ℕ) (t : Bytes) → next_block t ≡ none → chain k i n t ≡ tail n t
+pub chain_none : (k i n : ℕ) (t : Bytes) → next_block t ≡ None → chain k i n t ≡ tail n t
 unfolding chain
 chain_none zero i n t h = rw (h, chain)
 chain_none (suc k) i n t h = rw (h, chain)
 
 -- If a block follows and no further block is allowed, the chain is refused at its mark.
-pub chain_many : (i n g : ℕ) (t : Bytes) → next_block t ≡ some g → chain zero i n t ≡ refused (refusal 16 (n + g))
+pub chain_many : (i n g : ℕ) (t : Bytes) → next_block t ≡ Some g → chain zero i n t ≡ refused (refusal TooManyBlocks (n + g))
 unfolding chain
 chain_many i n g t h = rw (h, chain)
 
 -- If a block follows and is allowed, the chain continues at its mark.
-pub chain_next : (k i n g : ℕ) (t : Bytes) → next_block t ≡ some g → chain (suc k) i n t ≡ linked_at i (n + g) (drop g t) (chain k (i + 1))
+pub chain_next : (k i n g : ℕ) (t : Bytes) → next_block t ≡ Some g → chain (suc k) i n t ≡ linked_at i (n + g) (drop g t) (chain k (i + 1))
 unfolding chain
 chain_next k i n g t h = rw (h, chain)
 
@@ -130,8 +131,8 @@ module _ (k i n : ℕ) (q p z : Bytes) (b : Block) (size : length p ≡ extent b
       let same_block = block_again_lem i (n + length q) p u z b size unstreamed read in
       let here : linked_at i (n + length q) (p ++ u) (chain k (i + 1)) ≡ accepted (linked b d)
       = rw (same_block, linked_at, unstreamed, drop_at p u (extent b) size, h) in
-      let after : next_block (q ++ (p ++ u)) ≡ some (length q)
-      = next_mark (q ++ (p ++ u)) index (simp length-append (omega (arith, gap, known.header_least))) ∙ ap some gap in
+      let after : next_block (q ++ (p ++ u)) ≡ Some (length q)
+      = next_mark (q ++ (p ++ u)) index (simp length-append (omega (arith, gap, known.header_least))) ∙ ap Some gap in
       chain_next k i n (length q) (q ++ (p ++ u)) after
       ∙ ap (λ (v : Bytes). linked_at i (n + length q) v (chain k (i + 1))) (drop-append_seam q (p ++ u))
       ∙ here

@@ -2,6 +2,7 @@
 -- only the tree is new.
 use Rattle.std.proofs.Common.{◌≡◌, ℕ, ◌+◌, ◌-◌, ◌≤◌, leb, length, take, drop, refl, subst, append_assoc, arith, length-append, length-drop, take-append-drop, length-take-le, le-leb, leb-true}
 use lib.ListN.{length-replicate}
+use Rattle.format.specs.declared.refusal.Reason.TheVariants.{TextNotOneTree, TextLongerThanRoom}
 use Rattle.format.specs.declared.layout.Tree.{Tree}
 use Rattle.format.specs.declared.layout.Tree.TheVariants.{NoTree, Found}
 use Rattle.format.specs.Bytes.{Bytes}
@@ -25,8 +26,8 @@ module _ (s t : Bytes) where
       on_tree : (f : File) → file s ≡ accepted f → (x : Tree) → f.tree ≡ x → Accepts (λ u. Editable s t) (edit_tree s t x)
       on_tree f e NoTree q = tt
       on_tree f e (Found n k m) q =
-          accepts_need _ (is_one_tree t) 19 0 _
-          λ one. accepts_need _ (leb (length t) (m.0 - n.0)) 20 0 _
+          accepts_need _ (is_one_tree t) TextNotOneTree 0 _
+          λ one. accepts_need _ (leb (length t) (m.0 - n.0)) TextLongerThanRoom 0 _
           λ fits. record {
             before = f;
             read_before = e;

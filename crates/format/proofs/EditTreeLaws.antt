@@ -1,6 +1,6 @@
 -- A file with another tree, followed by spaces: what comes before the tree reads as it did, and the tree is the text.
 use Rattle.std.proofs.Common.{◌≡◌, ℕ, ◌+◌, ◌≤◌, true, List, ◌++◌, length, take, drop, replicate, sym, refl, ap, ◌∙◌, append_assoc, add-zero, arith, length-append, drop-drop, take_at, drop_at, eqb-true, le-leb}
-use mathlib.Core.Option.{Option, none, some}
+use Rattle.std.specs.Prelude.{Option, None, Some}
 use lib.ListN.{length-replicate}
 use lib.Seq.{slice, drop-append_seam}
 use Rattle.format.specs.declared.block.Block.{Block}
@@ -20,14 +20,14 @@ use Rattle.format.proofs.LocalLaws.{header_again, comments_kept, tree_anywhere, 
 use Rattle.format.proofs.FileLaws.{blocks_start, Parts, file_parts, in_order}
 
 -- If a text is exactly one tree, that tree ends where the text ends.
-pub one_tree_end : (t : Bytes) → is_one_tree t ≡ true → tree_end 0 (lines t) ≡ accepted (some (length t))
+pub one_tree_end : (t : Bytes) → is_one_tree t ≡ true → tree_end 0 (lines t) ≡ accepted (Some (length t))
 unfolding is_one_tree ends_at
 one_tree_end t = ends (tree_end 0 (lines t))
   where
-    ends : (o : Outcome (Option ℕ)) → ends_at (length t) o ≡ true → o ≡ accepted (some (length t))
+    ends : (o : Outcome (Option ℕ)) → ends_at (length t) o ≡ true → o ≡ accepted (Some (length t))
     ends (refused r) h = cc
-    ends (accepted none) h = cc
-    ends (accepted (some m)) h = ap (λ (n : ℕ). accepted (some n)) (eqb-true m (length t) h)
+    ends (accepted None) h = cc
+    ends (accepted (Some m)) h = ap (λ (n : ℕ). accepted (Some n)) (eqb-true m (length t) h)
 
 -- The tree, if there is one, begins at offset `n`.
 abbrev BeginsAt : ℕ → Tree → Type 0
@@ -40,8 +40,8 @@ unfolding tree with_room
 tree_begins_at n s t = accepted_holds (BeginsAt n) (tree n s) t (accepts_bind _ (tree_end n (lines (drop n s))) _ with_room_lem)
   where
     with_room_lem : (o : Option ℕ) → tree_end n (lines (drop n s)) ≡ accepted o → BeginsAt n (with_room n s o)
-    with_room_lem none q = tt
-    with_room_lem (some k) q = refl
+    with_room_lem None q = tt
+    with_room_lem (Some k) q = refl
 
 -- The room of the file `s`, which is accepted as `f`. It goes from `n`, where the comments end, to `m`, where the first
 -- block begins.

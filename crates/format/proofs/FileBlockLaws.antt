@@ -1,8 +1,8 @@
 -- The blocks of an accepted file. Each is read where it begins, they are in the file one after another, and their
 -- numbers keep their bounds.
 use Rattle.std.proofs.Common.{◌≡◌, ℕ, zero, suc, ◌+◌, ◌<◌, ◌≤◌, List, [], ◌∷◌, length, get_or, drop, sym, refl, ap, ◌∙◌, subst, arith, length-drop, drop-drop}
-use mathlib.Core.Option.{some}
-use lib.ListN.{get_elem?}
+use Rattle.std.specs.Prelude.{Some}
+use Rattle.std.specs.Prelude.{slice_get}
 use Rattle.format.specs.declared.block.Block.{Block}
 use Rattle.format.specs.Bytes.{Bytes, IsBytes}
 use Rattle.format.specs.Outcome.{accepted}
@@ -67,7 +67,7 @@ module _ {s : Bytes} {i n : ℕ} {b : Block} (h : IsBlock s i n b) where
 -- Element `j` of these blocks is block `k` of the file `s`.
 pub record BlockAt (s : Bytes) (bs : List Block) (j k : ℕ) : Type 0 where
   pub b : Block
-  pub found : get_elem? bs j ≡ some b
+  pub found : slice_get bs j ≡ Some b
   pub at : get_or (offsets bs) j 0 ≡ b.at.0
   pub read : block k b.at.0 (drop b.at.0 s) ≡ accepted b
   pub inside : b.at.0 ≤ length s

@@ -1,5 +1,6 @@
 -- A file is accepted exactly if its parts are read one after another, and they are in the file in this order.
 use Rattle.std.proofs.Common.{◌≡◌, ℕ, ◌≤◌, true, leb, length, drop, refl, arith, length-drop}
+use Rattle.format.specs.declared.refusal.Reason.TheVariants.{FileTooLong, NeitherTreeNorBlock}
 use Rattle.format.specs.Bytes.{Bytes}
 use Rattle.format.specs.Outcome.{accepted}
 use Rattle.format.specs.Line.{lines}
@@ -34,11 +35,11 @@ pub file_parts : (s : Bytes) (f : File) → file s ≡ accepted f → Parts s f
 unfolding file body
 file_parts s f =
     accepted_holds (Parts s) (file s) f
-    (accepts_need _ (leb (length s) most_bytes) 1 0 _
+    (accepts_need _ (leb (length s) most_bytes) FileTooLong 0 _
     λ short. accepts_bind _ (header s) _
     λ h header_read. accepts_bind _ (comments h.end.0 (lines (drop h.end.0 s))) _
     λ n comments_read. accepts_bind _ (tree n s) _
-    λ t tree_read. accepts_need _ (goes_on t (drop n s)) 7 n _
+    λ t tree_read. accepts_need _ (goes_on t (drop n s)) NeitherTreeNorBlock n _
     λ goes-on. accepts_bind _ (chain most_blocks 0 (first_block n t) (drop (first_block n t) s)) _
     λ c chain_read. record {
       short = short;

@@ -1,7 +1,7 @@
 -- An index is good exactly if it is a rendering of the blocks' offsets. The index that is written here is one.
 use Rattle.std.proofs.Common.{◌≡◌, ℕ, suc, ◌+◌, ◌-◌, ◌*◌, ◌^◌, ◌<◌, ◌≤◌, Bool, true, false, eqb, List, [], ◌∷◌, ◌++◌, map, reverse, length, get_or, replicate, sym, refl, ap, ◌∙◌, ap₂, append_assoc, map-id, arith, length-append}
 use mathlib.Core.List.{flat_map, map-map, reverse-cons, reverse-append, reverse-reverse}
-use mathlib.Core.Option.{Option, none, some, none-ne-some}
+use Rattle.std.specs.Prelude.{Option, None, Some}
 use lib.ListN.{length-map, length-replicate}
 use Rattle.format.specs.declared.layout.Verdict.TheVariants.{Absent, Good, IgnoredList}
 use Rattle.format.specs.declared.line.LineEnd.{LineEnd}
@@ -16,31 +16,32 @@ use Rattle.format.proofs.LineLaws.{end_length, join_lines, join_lines_lem, IsLin
 use Rattle.format.proofs.NumeralLaws.{decimal_is, decimal_lacks, joined_lacks, numeral_decimal, numeral_text, both_some, joined, AllLack, split_joined, split_parts}
 use Rattle.format.proofs.SpaceLaws.{trim_padded, trim_text}
 use Rattle.format.proofs.DashLaws.{dashed_numbers, dash_lines, end_lines, zeros_read, dashes_read, some_read, some_again, dash_join, dashes_are_lines, dashes_again}
+use Rattle.format.proofs.OutcomeLaws.{none_is_not_some}
 
 -- The line of a list in brackets, with `u` between the brackets.
 abbrev list_line : Bytes → Bytes
 list_line u = text "--- [" ++ (u ++ text "]")
 
 -- If `u` is found between the brackets of a line, the line is `u` in brackets.
-brackets_some : (c u : Bytes) → in_brackets c ≡ some u → c ≡ list_line u
+brackets_some : (c u : Bytes) → in_brackets c ≡ Some u → c ≡ list_line u
 unfolding in_brackets
 brackets_some c u h = outer (without (text "--- [") c) refl
   where
-    inner : (w : Bytes) (o : Option Bytes) → without (text "]") (reverse w) ≡ o → without (text "--- [") c ≡ some w → c ≡ list_line u
-    inner w none e k = let n : none ≡ some u = rw (k, e, in_brackets) at h in cc
-    inner w (some v) e k =
-        let found : some (reverse v) ≡ some u = rw (k, e, in_brackets) at h in
+    inner : (w : Bytes) (o : Option Bytes) → without (text "]") (reverse w) ≡ o → without (text "--- [") c ≡ Some w → c ≡ list_line u
+    inner w None e k = let n : None ≡ Some u = rw (k, e, in_brackets) at h in cc
+    inner w (Some v) e k =
+        let found : Some (reverse v) ≡ Some u = rw (k, e, in_brackets) at h in
         let back : w ≡ reverse (93 ∷ v) = sym (reverse-reverse w) ∙ ap reverse (without_some (text "]") (reverse w) v e) in
         cc (without_some (text "--- [") c w k, reverse-cons 93 v)
 
     outer : (o : Option Bytes) → without (text "--- [") c ≡ o → c ≡ list_line u
-    outer none e = let n : none ≡ some u = rw (e, in_brackets) at h in cc
-    outer (some w) e = inner w (without (text "]") (reverse w)) refl e
+    outer None e = let n : None ≡ Some u = rw (e, in_brackets) at h in cc
+    outer (Some w) e = inner w (without (text "]") (reverse w)) refl e
 
 -- In the line with `u` between the brackets, `u` is found there.
-brackets_of : (u : Bytes) → in_brackets (list_line u) ≡ some u
+brackets_of : (u : Bytes) → in_brackets (list_line u) ≡ Some u
 unfolding in_brackets without
-brackets_of u = rw (reverse-append u (text "]"), in_brackets) (ap some (reverse-reverse u))
+brackets_of u = rw (reverse-append u (text "]"), in_brackets) (ap Some (reverse-reverse u))
 
 -- The numbers of these entries.
 abbrev numbers : List Entry → List ℕ
@@ -64,12 +65,12 @@ abbrev entry_of : Bytes → ℕ → Entry
 entry_of p n = record { before = (trim_padded p).before; number = n; after = (trim_padded p).after }
 
 -- If a part is read as a number when it is trimmed, it is the text of an entry with that number.
-entry_written : (p : Bytes) (n : ℕ) → numeral 10 (trim p) ≡ some n → entry (entry_of p n) ≡ p
+entry_written : (p : Bytes) (n : ℕ) → numeral 10 (trim p) ≡ Some n → entry (entry_of p n) ≡ p
 unfolding entry
 entry_written p n h = rw (← numeral_text 10 (trim p) n h) (sym (trim_padded p).padded)
 
 -- If parts are read as numbers when they are trimmed, they are the texts of entries with these numbers.
-all_entries : (ps : List Bytes) (ns : List ℕ) → numerals 10 (map trim ps) ≡ some ns → AreEntries ps ns
+all_entries : (ps : List Bytes) (ns : List ℕ) → numerals 10 (map trim ps) ≡ Some ns → AreEntries ps ns
 unfolding numerals
 all_entries [] ns h = record { list = []; written = refl; same_numbers = cc }
 all_entries (p ∷ ps) ns h =
@@ -89,7 +90,7 @@ record IsList (t : Bytes) (ns : List ℕ) : Type 0 where
   some_number : 1 ≤ length list
 
 -- If the text between brackets is read as numbers, it is a list of entries with these numbers.
-list_read : (t : Bytes) (ns : List ℕ) → listed (some t) ≡ some ns → IsList t ns
+list_read : (t : Bytes) (ns : List ℕ) → listed (Some t) ≡ Some ns → IsList t ns
 unfolding listed
 list_read t ns h =
     let parts = split_parts 44 t in
@@ -102,13 +103,13 @@ list_read t ns h =
     }
 
 -- If a line is read as numbers in brackets, it has a text between brackets, and that text is read as these numbers.
-line_read : (c : Bytes) (ns : List ℕ) → listed (in_brackets c) ≡ some ns → (u : Bytes) × (c ≡ list_line u) × (listed (some u) ≡ some ns)
+line_read : (c : Bytes) (ns : List ℕ) → listed (in_brackets c) ≡ Some ns → (u : Bytes) × (c ≡ list_line u) × (listed (Some u) ≡ Some ns)
 unfolding listed
 line_read c ns h = go (in_brackets c) refl
   where
-    go : (o : Option Bytes) → in_brackets c ≡ o → (u : Bytes) × (c ≡ list_line u) × (listed (some u) ≡ some ns)
-    go none e = absurd (none-ne-some ns (rw (e, listed) at h))
-    go (some u) e = (u, brackets_some c u e, rw e at h)
+    go : (o : Option Bytes) → in_brackets c ≡ o → (u : Bytes) × (c ≡ list_line u) × (listed (Some u) ≡ Some ns)
+    go None e = absurd (none_is_not_some ns (rw (e, listed) at h))
+    go (Some u) e = (u, brackets_some c u e, rw e at h)
 
 -- The lines of a list, followed by the lines `l`.
 unfoldable list_lines : StyledList → Lines → Lines
@@ -120,15 +121,15 @@ abbrev index_lines : LineEnd → LineEnd → StyledList → LineEnd → ℕ → 
 index_lines a b x d zeros = line index_line a (line yaml_line b (list_lines x (end_lines d zeros)))
 
 -- If numbers are found after a word, the first line is that word, and `f` finds the numbers in the lines after it.
-word_read : (word : Bytes) (f : Lines → Option (List ℕ)) (l : Lines) (ns : List ℕ) → after_word word f l ≡ some ns
-    → (e : LineEnd) × (m : Lines) × (l ≡ line word e m) × (f m ≡ some ns)
+word_read : (word : Bytes) (f : Lines → Option (List ℕ)) (l : Lines) (ns : List ℕ) → after_word word f l ≡ Some ns
+    → (e : LineEnd) × (m : Lines) × (l ≡ line word e m) × (f m ≡ Some ns)
 unfolding after_word
-word_read word f (unended t) ns h = absurd (none-ne-some ns h)
+word_read word f (unended t) ns h = absurd (none_is_not_some ns h)
 word_read word f (line t e l) ns h = go (same t word) refl
   where
-    go : (x : Bool) → same t word ≡ x → (k : LineEnd) × (m : Lines) × (line t e l ≡ line word k m) × (f m ≡ some ns)
+    go : (x : Bool) → same t word ≡ x → (k : LineEnd) × (m : Lines) × (line t e l ≡ line word k m) × (f m ≡ Some ns)
     go true q = (e, l, ap (λ (u : Bytes). line u e l) (same_true t word q), rw (q, after_word) at h)
-    go false q = absurd (none-ne-some ns (rw (q, after_word) at h))
+    go false q = absurd (none_is_not_some ns (rw (q, after_word) at h))
 
 -- `l` consists of the lines of a list with these numbers, at least one, followed by the end of an index.
 record ReadList (l : Lines) (ns : List ℕ) : Type 0 where
@@ -140,9 +141,9 @@ record ReadList (l : Lines) (ns : List ℕ) : Type 0 where
   some_number : 1 ≤ length ns
 
 -- If lines are read as a list in either style, `ReadList` holds for them.
-styled_read : (l : Lines) (ns : List ℕ) → styled l ≡ some ns → ReadList l ns
+styled_read : (l : Lines) (ns : List ℕ) → styled l ≡ Some ns → ReadList l ns
 unfolding styled list_lines numbers_of
-styled_read (unended t) ns h = absurd (none-ne-some ns h)
+styled_read (unended t) ns h = absurd (none_is_not_some ns h)
 styled_read (line t e l) ns h = go (same t dash_start) refl
   where
     go : (x : Bool) → same t dash_start ≡ x → ReadList (line t e l) ns
@@ -195,26 +196,26 @@ rendering_join a b x d zeros =
     grouped i a y b x e d z = simp append_assoc
 
 -- If what is found is judged good, it is the offsets.
-judged_good : (offsets : List ℕ) (o : Option (List ℕ)) → judged offsets o ≡ Good → o ≡ some offsets
+judged_good : (offsets : List ℕ) (o : Option (List ℕ)) → judged offsets o ≡ Good → o ≡ Some offsets
 unfolding judged
-judged_good offsets none h = cc
-judged_good offsets (some ns) h = go (same ns offsets) refl
+judged_good offsets None h = cc
+judged_good offsets (Some ns) h = go (same ns offsets) refl
   where
-    go : (x : Bool) → same ns offsets ≡ x → some ns ≡ some offsets
-    go true e = ap some (same_true ns offsets e)
+    go : (x : Bool) → same ns offsets ≡ x → Some ns ≡ Some offsets
+    go true e = ap Some (same_true ns offsets e)
     go false e = let z : IgnoredList ≡ Good = rw (e, judged) at h in cc
 
 -- If the verdict on a tail is good, the tail is read as an index of the offsets.
-good_read : (offsets : List ℕ) (t : Bytes) → verdict offsets t ≡ Good → indexed (lines t) ≡ some offsets
+good_read : (offsets : List ℕ) (t : Bytes) → verdict offsets t ≡ Good → indexed (lines t) ≡ Some offsets
 unfolding verdict
 good_read offsets t h = go (all_zero t) refl
   where
-    go : (x : Bool) → all_zero t ≡ x → indexed (lines t) ≡ some offsets
+    go : (x : Bool) → all_zero t ≡ x → indexed (lines t) ≡ Some offsets
     go true e = let z : Absent ≡ Good = rw (e, verdict) at h in cc
     go false e = judged_good offsets (indexed (lines t)) (rw (e, verdict) at h)
 
 -- If a tail is read as an index of the offsets, it is a rendering of them.
-read_is_index : (offsets : List ℕ) (t : Bytes) → indexed (lines t) ≡ some offsets → IsIndex offsets t
+read_is_index : (offsets : List ℕ) (t : Bytes) → indexed (lines t) ≡ Some offsets → IsIndex offsets t
 unfolding indexed
 read_is_index offsets t h =
     let (a, l, first, then) = word_read index_line _ (lines t) offsets h in
@@ -283,14 +284,14 @@ unfolding entry
 trim_entry e = trim_text e.before (decimal e.number) e.after (decimal_is e.number).some_digit (decimal_lacks 32 e.number refl)
 
 -- If their numbers have at most ten digits, entries are read as their numbers.
-read_entries : (es : List Entry) → ((i : ℕ) → get_or (numbers es) i 0 < 10 ^ 10) → numerals 10 (map trim (map entry es)) ≡ some (numbers es)
+read_entries : (es : List Entry) → ((i : ℕ) → get_or (numbers es) i 0 < 10 ^ 10) → numerals 10 (map trim (map entry es)) ≡ Some (numbers es)
 unfolding numerals both
 read_entries [] h = refl
 read_entries (e ∷ es) h = rw (trim_entry e, numeral_decimal 10 e.number (omega arith) (h 0), read_entries es (λ i. h (suc i)))
 
 -- If there is a number and all have at most ten digits, the lines of an index are read as its numbers.
 read_lines : (a b : LineEnd) (x : StyledList) (d : LineEnd) (zeros : ℕ) → 1 ≤ length (numbers_of x) → ((i : ℕ) → get_or (numbers_of x) i 0 < 10 ^ 10)
-    → indexed (index_lines a b x d zeros) ≡ some (numbers_of x)
+    → indexed (index_lines a b x d zeros) ≡ Some (numbers_of x)
 unfolding indexed after_word styled with_zeros list_lines listed numbers_of
 read_lines a b (brackets es c) d zeros p h =
     let some-entry : 1 ≤ length es = omega (arith, length-map es (λ (e : Entry). e.number)) in
@@ -299,7 +300,7 @@ read_lines a b (dashes c ds) d zeros p h =
     ap at_least_one (dashes_again ds d zeros h) ∙ some_again (dashed_numbers ds) p
 
 -- If a tail that is not all zero is read as the offsets, the verdict on it is good.
-read_good : (offsets : List ℕ) (t : Bytes) → all_zero t ≡ false → indexed (lines t) ≡ some offsets → verdict offsets t ≡ Good
+read_good : (offsets : List ℕ) (t : Bytes) → all_zero t ≡ false → indexed (lines t) ≡ Some offsets → verdict offsets t ≡ Good
 unfolding verdict judged
 read_good offsets t z h = rw (z, verdict, h, eq_same offsets offsets refl, judged)
 

@@ -1,8 +1,9 @@
 -- The induction over the chain of blocks: what holds in each of its cases holds for every chain.
 use Rattle.std.proofs.Common.{◌≡◌, ℕ, zero, suc, ◌+◌, Bool, true, false, [], drop, refl}
-use mathlib.Core.Option.{none}
+use Rattle.std.specs.Prelude.{None}
 use Rattle.format.specs.declared.block.Block.{Block}
 use Rattle.format.specs.declared.refusal.Refusal.{Refusal}
+use Rattle.format.specs.declared.refusal.Reason.TheVariants.{TooManyBlocks, StrayTail}
 use Rattle.format.specs.Bytes.{Bytes}
 use Rattle.format.specs.Outcome.{Outcome, accepted, refused, refusal, ◌>>=◌}
 use Rattle.format.specs.Block.{is_streamed, block}
@@ -13,9 +14,9 @@ use Rattle.format.proofs.NextLaws.{Next, next_is}
 -- What must be shown for a statement `P` about the outcome of a chain.
 pub record ChainCases (P : ℕ → ℕ → ℕ → Bytes → Outcome Chain → Type 0) : Type 0 where
   -- Case: no block follows.
-  pub no_block : (k i n : ℕ) (t : Bytes) → next_block t ≡ none → P k i n t (tail n t)
+  pub no_block : (k i n : ℕ) (t : Bytes) → next_block t ≡ None → P k i n t (tail n t)
   -- Case: a block follows, but no further block is allowed.
-  pub too_many : (i n g : ℕ) (t : Bytes) → Next t g → P zero i n t (refused (refusal 16 (n + g)))
+  pub too_many : (i n g : ℕ) (t : Bytes) → Next t g → P zero i n t (refused (refusal TooManyBlocks (n + g)))
   -- Case: a block follows, and it is refused.
   pub refused_block : (k i n g : ℕ) (t : Bytes) (r : Refusal) → Next t g → block i (n + g) (drop g t) ≡ refused r → P (suc k) i n t (refused r)
   -- Case: a streamed block follows.
@@ -69,7 +70,7 @@ module _ {P : ℕ → ℕ → ℕ → Bytes → Chain → Type 0} (cases : Accep
   accepts_cases : ChainCases (λ k i n t o. Accepts (P k i n t) o)
   unfolding tail
   accepts_cases = record {
-    no_block = λ k i n t e. accepts_need (P k i n t) (is_tail t) 17 n (accepted (ended t)) (cases.no_block k i n t);
+    no_block = λ k i n t e. accepts_need (P k i n t) (is_tail t) StrayTail n (accepted (ended t)) (cases.no_block k i n t);
     too_many = λ i n g t next. tt;
     refused_block = λ k i n g t r next read. tt;
     streamed_block = cases.streamed_block;

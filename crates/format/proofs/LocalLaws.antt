@@ -1,7 +1,7 @@
 -- What a part of a file means depends neither on where it is nor on what follows it.
 use Rattle.std.proofs.Common.{◌≡◌, ℕ, suc, ◌+◌, ◌-◌, ◌<◌, ◌≤◌, Bool, true, false, eqb, [], ◌∷◌, ◌++◌, length, take, drop, replicate, sym, refl, ap, ◌∙◌, subst, append_assoc, append-nil, le_refl, add-zero, zero-add, arith, length-drop, take-append-drop, length-take-le, drop-drop, take_at, ne_eqb}
 use mathlib.Core.Bool.{and-false}
-use mathlib.Core.Option.{Option, none, some}
+use Rattle.std.specs.Prelude.{Option, None, Some}
 use lib.ListN.{length-replicate}
 use lib.Seq.{take-append-le, drop-append-le}
 use borrow.Author.Tests.{eqb-false}
@@ -46,17 +46,17 @@ pub header_again : (p z y : Bytes) (h : Header) → header (p ++ z) ≡ accepted
 header_again p z y h q inside = front_within p z (header_front (p ++ z) h q) (omega arith) y tt
 
 -- A tree is the same at any offset, with anything after it.
-tree_again : (n : ℕ) (t z : Bytes) → tree_end n (lines (t ++ z)) ≡ accepted (some (n + length t)) → (k : ℕ) (y : Bytes)
-    → tree_end k (lines (t ++ y)) ≡ accepted (some (k + length t))
+tree_again : (n : ℕ) (t z : Bytes) → tree_end n (lines (t ++ z)) ≡ accepted (Some (n + length t)) → (k : ℕ) (y : Bytes)
+    → tree_end k (lines (t ++ y)) ≡ accepted (Some (k + length t))
 tree_again n t z q k y = front_again (length t) t z (tree_front n (t ++ z) (n + length t) q) refl (le_refl (length t)) k y tt
 
 -- A text that is one tree at offset 0 is one at any offset, with anything after it.
-pub tree_anywhere : (t : Bytes) → tree_end 0 (lines t) ≡ accepted (some (length t)) → (n : ℕ) (z : Bytes)
-    → tree_end n (lines (t ++ z)) ≡ accepted (some (n + length t))
+pub tree_anywhere : (t : Bytes) → tree_end 0 (lines t) ≡ accepted (Some (length t)) → (n : ℕ) (z : Bytes)
+    → tree_end n (lines (t ++ z)) ≡ accepted (Some (n + length t))
 tree_anywhere t q = tree_again 0 t [] (rw (append-nil, zero-add) q)
 
 -- If the bytes do not begin with `%YAML 1.1`, no tree begins there.
-pub no_tree : (n : ℕ) (s : Bytes) → begins yaml_line s ≡ false → tree_end n (lines s) ≡ accepted none
+pub no_tree : (n : ℕ) (s : Bytes) → begins yaml_line s ≡ false → tree_end n (lines s) ≡ accepted None
 unfolding tree_end join_lines
 no_tree n s h = on_lines (lines s) (rw join_lines_lem h)
   where
@@ -64,12 +64,12 @@ no_tree n s h = on_lines (lines s) (rw join_lines_lem h)
     first t x q true r = r ∙ sym (begins_append yaml_line x) ∙ ap (λ (u : Bytes). begins yaml_line (u ++ x)) (sym (same_true t yaml_line r)) ∙ q
     first t x q false r = r
 
-    on_lines : (l : Lines) → begins yaml_line (join_lines l) ≡ false → tree_end n l ≡ accepted none
+    on_lines : (l : Lines) → begins yaml_line (join_lines l) ≡ false → tree_end n l ≡ accepted None
     on_lines (unended t) q = refl
     on_lines (line t e l) q = rw (first t (line_end e ++ join_lines l) q (same t yaml_line) refl, tree_end)
 
 -- If the bytes begin with a mark, no tree begins there.
-pub no_tree_mark : (n : ℕ) (s : Bytes) → begins mark s ≡ true → tree_end n (lines s) ≡ accepted none
+pub no_tree_mark : (n : ℕ) (s : Bytes) → begins mark s ≡ true → tree_end n (lines s) ≡ accepted None
 no_tree_mark n s h = no_tree n s (ap (begins yaml_line) (begins_true mark s h))
 
 -- Bytes without D3 are free space, and the free space of what follows is added to them.
@@ -105,7 +105,7 @@ free_before (b ∷ p) y z h = go (begins mark (b ∷ p ++ y)) refl (free_before 
   where
     go : (t : Bool) → begins mark (b ∷ p ++ y) ≡ t → (free_space (p ++ y) ≡ length p → free_space (p ++ (mark ++ z)) ≡ length p)
         → free_space (b ∷ p ++ (mark ++ z)) ≡ suc (length p)
-    go true e i = let none : 0 ≡ suc (length p) = rw (e, free_space) at h in absurd (omega arith)
+    go true e i = let None : 0 ≡ suc (length p) = rw (e, free_space) at h in absurd (omega arith)
     go false e i =
         let one : suc (free_space (p ++ y)) ≡ suc (length p) = rw (e, free_space) at h in
         rw (mark_apart b p y z e, free_space) (ap suc (i (omega arith)))
@@ -166,16 +166,16 @@ start_free n s t =
 
     with_room_lem : (m : Option ℕ) → tree_end n (lines (drop n s)) ≡ accepted m → goes_on (with_room n s m) (drop n s) ≡ true
         → free_space (drop (first_block n (with_room n s m)) s) ≡ 0
-    with_room_lem none e h = marked (drop n s) h
-    with_room_lem (some m) e h = ap free_space (sym (drop-drop (free_space (drop m s)) m s)) ∙ free_space_end (drop m s)
+    with_room_lem None e h = marked (drop n s) h
+    with_room_lem (Some m) e h = ap free_space (sym (drop-drop (free_space (drop m s)) m s)) ∙ free_space_end (drop m s)
 
 -- If a tree is read, the bytes begin with `%YAML 1.1`.
-pub tree_begins : (n : ℕ) (s : Bytes) (m : ℕ) → tree_end n (lines s) ≡ accepted (some m) → begins yaml_line s ≡ true
+pub tree_begins : (n : ℕ) (s : Bytes) (m : ℕ) → tree_end n (lines s) ≡ accepted (Some m) → begins yaml_line s ≡ true
 tree_begins n s m h = go (begins yaml_line s) refl
   where
     go : (t : Bool) → begins yaml_line s ≡ t → begins yaml_line s ≡ true
     go true e = e
-    go false e = let z : accepted none ≡ accepted (some m) = sym (no_tree n s e) ∙ h in cc
+    go false e = let z : accepted None ≡ accepted (Some m) = sym (no_tree n s e) ∙ h in cc
 
 -- If a tree or a block begins at the end of the comments, or the file ends there, no comment begins there.
 pub goes_on_no_comment : (n : ℕ) (s : Bytes) (t : Tree) → tree n s ≡ accepted t → goes_on t (drop n s) ≡ true → begins (text "#") (drop n s) ≡ false
@@ -189,8 +189,8 @@ goes_on_no_comment n s t =
     marked (b ∷ u) h = ap (begins (text "#")) (begins_true mark (b ∷ u) h)
 
     with_room_lem : (m : Option ℕ) → tree_end n (lines (drop n s)) ≡ accepted m → goes_on (with_room n s m) (drop n s) ≡ true → begins (text "#") (drop n s) ≡ false
-    with_room_lem none e h = marked (drop n s) h
-    with_room_lem (some m) e h = ap (begins (text "#")) (begins_true yaml_line (drop n s) (tree_begins n (drop n s) m e))
+    with_room_lem None e h = marked (drop n s) h
+    with_room_lem (Some m) e h = ap (begins (text "#")) (begins_true yaml_line (drop n s) (tree_begins n (drop n s) m e))
 
 module _ (n : ℕ) (p z y : Bytes) (before : n ≤ length p) where
   -- Comments that end within `p` are the same with `y` after `p`, if no `#` comes next.
@@ -213,8 +213,8 @@ module _ (n : ℕ) (p z y : Bytes) (before : n ≤ length p) where
     where
       with_room_lem : (m : Option ℕ) → tree_end n (lines (drop n (p ++ z))) ≡ accepted m → first_block n (with_room n (p ++ z) m) ≤ length p
           → begins mark (drop (first_block n (with_room n (p ++ z) m)) p ++ y) ≡ true → tree n (p ++ y) ≡ accepted (with_room n (p ++ z) m)
-      with_room_lem none e inside h = rw (drop-append-le n p y, no_tree_mark n (drop n p ++ y) h)
-      with_room_lem (some m) e inside h =
+      with_room_lem None e inside h = rw (drop-append-le n p y, no_tree_mark n (drop n p ++ y) h)
+      with_room_lem (Some m) e inside h =
           let front = tree_front n (drop n p ++ z) m (rw drop-append-le at e) in
           let end = front_within (drop n p) z front (simp length-drop (omega arith)) y tt in
           let inner : m ≤ length p = omega arith in

@@ -3,6 +3,7 @@
 use Rattle.std.proofs.Common.{◌≡◌, ℕ, zero, suc, ◌+◌, Bool, true, false, List, [], ◌∷◌, map, drop, refl, ap, ◌∙◌, add_assoc}
 use mathlib.Core.List.{map-append}
 use Rattle.format.specs.declared.block.Block.{Block}
+use Rattle.format.specs.declared.refusal.Reason.{Reason}
 use Rattle.format.specs.declared.block.Record.{Record}
 use Rattle.format.specs.declared.block.Inner.TheVariants.{Plain, TooDeep}
 use Rattle.format.specs.Bytes.{Bytes}
@@ -18,7 +19,7 @@ use Rattle.format.proofs.ChainLaws.{chain_none, chain_many, chain_next}
 -- An outcome `d` bytes further on. `f` moves what is accepted.
 abbrev pub further : {A : Type 0} → (A → A) → ℕ → Outcome A → Outcome A
 further f d (accepted a) = accepted (f a)
-further f d (refused r) = refused (refusal r.number (d + r.place.0))
+further f d (refused r) = refused (refusal r.reason (d + r.place.0))
 
 -- A block `d` bytes further on.
 abbrev pub moved_block : ℕ → Block → Block
@@ -40,7 +41,7 @@ abbrev pub moved_chain : ℕ → Chain → Chain
 moved_chain d c = record { blocks = map (moved_block d) c.blocks; tail = c.tail }
 
 module _ {A : Type 0} (f : A → A) (d n : ℕ) where
-  need_further : (x : Bool) (k : ℕ) (o p : Outcome A) → o ≡ further f d p → ◌>>◌ (need x k (d + n)) o ≡ further f d (◌>>◌ (need x k n) p)
+  need_further : (x : Bool) (k : Reason) (o p : Outcome A) → o ≡ further f d p → ◌>>◌ (need x k (d + n)) o ≡ further f d (◌>>◌ (need x k n) p)
   need_further true k o p h = h
   need_further false k o p h = refl
 

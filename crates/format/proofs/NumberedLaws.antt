@@ -1,13 +1,15 @@
--- No refusal has the number 0, and its place is within the bytes that are read or at their end. This is shown step by
+-- The place of a refusal is within the bytes that are read or at their end. This is shown step by
 -- step: first for one file by itself, then for all that is asked about a file or a stored outline.
 use Rattle.std.proofs.Common.{◌≡◌, ℕ, zero, suc, ◌+◌, ◌*◌, ◌/◌, ◌≤◌, Bool, true, false, leb, List, length, take, drop, refl, ap, arith, length-append, length-drop, leb-true}
-use mathlib.Core.Option.{Option, none, some}
+use Rattle.std.specs.Prelude.{Option, None, Some}
+use Rattle.format.specs.declared.refusal.Reason.TheVariants.{FileTooLong, NotAsdf, NeitherTreeNorBlock}
 use Rattle.format.specs.declared.block.Block.{Block}
 use Rattle.format.specs.declared.block.Record.{Record}
 use Rattle.format.specs.declared.layout.Tree.{Tree}
 use Rattle.format.specs.declared.layout.Tree.TheVariants.{NoTree, Found}
 use Rattle.format.specs.declared.layout.Version.{Version}
 use Rattle.format.specs.declared.line.LineEnd.{LineEnd}
+use Rattle.format.specs.declared.refusal.Reason.{Reason}
 use Rattle.format.specs.declared.refusal.Refusal.{Refusal}
 use Rattle.format.specs.declared.row.Row.{Row}
 use Rattle.format.specs.Bytes.{Bytes, text, begins, same}
@@ -33,9 +35,8 @@ use Rattle.format.proofs.ReadLaws.{header_bounds, comments_bounds, first_block_b
 use Rattle.format.proofs.BlockLaws.{accepted_block}
 use Rattle.format.proofs.InductionLaws.{chain_induction}
 
--- A proper refusal: its number is not 0, and its place is at most `most`.
+-- A proper refusal: its place is at most `most`.
 pub record Proper (most : ℕ) (r : Refusal) : Type 0 where
-  pub number : 1 ≤ r.number
   pub place : r.place.0 ≤ most
 
 -- A numbered outcome: it is accepted, or its refusal is proper.
@@ -61,10 +62,10 @@ module _ (most : ℕ) where
 
   -- If the refusal of a test is proper, and what follows is numbered when the test holds, then both together are
   -- numbered.
-  numbered_need : {A : Type 0} (t : Bool) (n p : ℕ) (o : Outcome A) → leb 1 n ≡ true → p ≤ most → (t ≡ true → Numbered most o)
-      → Numbered most (◌>>◌ (need t n p) o)
-  numbered_need true n p o h l k = k refl
-  numbered_need false n p o h l k = omega (arith, leb-true 1 n h)
+  numbered_need : {A : Type 0} (t : Bool) (x : Reason) (p : ℕ) (o : Outcome A) → p ≤ most → (t ≡ true → Numbered most o)
+      → Numbered most (◌>>◌ (need t x p) o)
+  numbered_need true x p o l k = k refl
+  numbered_need false x p o l k = omega arith
 
   -- A numbered step remains numbered with the value `b` as its result.
   pub numbered_done : {A B : Type 0} (o : Outcome A) (b : B) → Numbered most o → Numbered most (◌>>◌ o (accepted b))
@@ -83,8 +84,8 @@ module _ (most : ℕ) where
 
   numbered_header_of : (v : Option Version) (e : LineEnd) (n : ℕ) → 6 ≤ most → Numbered most (header_of v e n)
   unfolding header_of
-  numbered_header_of none e n h = omega arith
-  numbered_header_of (some v) e n h = search numbered_need
+  numbered_header_of None e n h = omega arith
+  numbered_header_of (Some v) e n h = search numbered_need
 
   numbered_version : (l : Lines) → 6 ≤ most → Numbered most (version_line l)
   unfolding version_line
@@ -125,7 +126,7 @@ module _ (most : ℕ) where
   numbered_tree_end n (unended t) h = tt
   numbered_tree_end n (line t e l) h =
       choice (Numbered most) (same t yaml_line) _ _
-      (numbered_value (directives (after_line n t e) l) some (numbered_directives (after_line n t e) l (line_inside n t e l h)))
+      (numbered_value (directives (after_line n t e) l) Some (numbered_directives (after_line n t e) l (line_inside n t e l h)))
       tt
 
   numbered_block : (i n : ℕ) (t : Bytes) → n ≤ most → Numbered most (block i n t)
@@ -161,7 +162,7 @@ lines_inside n s h = rw (join_lines_lem (drop n s), length-drop n s) (omega arit
 numbered_header : (s : Bytes) → Numbered (length s) (header s)
 unfolding header
 numbered_header s =
-    numbered_need (length s) (begins token s) 2 0 _ refl (omega arith)
+    numbered_need (length s) (begins token s) NotAsdf 0 _ (omega arith)
     λ e. numbered_version (length s) _ (omega (arith, simp length-append at (ap length (begins_true token s e))))
 
 numbered_tree : (n : ℕ) (s : Bytes) → n ≤ length s → Numbered (length s) (tree n s)
@@ -173,7 +174,7 @@ numbered_file : (s : Bytes) → Numbered (length s) (file s)
 unfolding file body
 numbered_file s =
     let most = length s in
-    numbered_need most (leb most most_bytes) 1 0 _ refl (omega arith)
+    numbered_need most (leb most most_bytes) FileTooLong 0 _ (omega arith)
     λ short. numbered_bind most (header s) _ (numbered_header s)
     λ h e.
     let n = h.end.0 in
@@ -182,7 +183,7 @@ numbered_file s =
     λ m f.
     let comments_end_lem : m ≤ most = omega (arith, simp length-drop at (comments_bounds n (drop n s) m f)) in
     numbered_bind most (tree m s) _ (numbered_tree m s comments_end_lem)
-    λ t g. numbered_need most (goes_on t (drop m s)) 7 m _ refl comments_end_lem
+    λ t g. numbered_need most (goes_on t (drop m s)) NeitherTreeNorBlock m _ comments_end_lem
     λ q.
     let first : first_block m t ≤ most = omega (arith, first_block_bounds m s t comments_end_lem g) in
     let blocks = numbered_chain most most_blocks 0 (first_block m t) (drop (first_block m t) s) (simp length-drop (omega arith)) in
@@ -207,8 +208,8 @@ module _ (s : Bytes) where
       (numbered_bind (length s) (block_at s i) _ (numbered_value (length s) (file s) _ (numbered_file s)) λ found e. numbered_named found)
     where
       numbered_named : (found : Option Block) → Numbered (length s) (◌>>=◌ (named found) (λ b. accepted (check_block digest s b)))
-      numbered_named none = omega arith
-      numbered_named (some b) = tt
+      numbered_named None = omega arith
+      numbered_named (Some b) = tt
 
   numbered_records : Numbered (length s) (records s)
   unfolding records records_from walk_file

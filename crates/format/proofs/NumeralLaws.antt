@@ -1,7 +1,7 @@
 -- Writing and reading a decimal number undo each other, and so do joining and splitting parts.
 use Rattle.std.proofs.Common.{◌≡◌, ℕ, zero, suc, ◌+◌, ◌-◌, ◌*◌, ◌/◌, ◌%◌, ◌^◌, ◌<◌, ◌≤◌, Bool, true, false, not, ◌&&◌, ◌||◌, eqb, ltb, leb, List, [], ◌∷◌, ◌++◌, length, sym, refl, ap, ◌∙◌, ap₂, true≢false, append-nil, pow-suc, arith, length-append, ltb-false, ltb-true, le-ltb, lt-ltb, eq-eqb, ne_eqb, eqb-true, le-leb, leb-true}
 use mathlib.Core.Bool.{and_assoc, and-true, or-true}
-use mathlib.Core.Option.{Option, none, some, none-ne-some}
+use Rattle.std.specs.Prelude.{Option, None, Some}
 use native.Mathlib.Nat.{pow-succ', one-le-mul, one-le-pow}
 use lib.Seq.{append_snoc}
 use lib.Arith.{digits_lt, digits_div, digits_mod}
@@ -9,6 +9,7 @@ use borrow.Author.Tests.{lt-leb, eqb-false, not-true}
 use Rattle.format.specs.Bytes.{Bytes, text, begins}
 use Rattle.format.specs.Numeral.{is_digit, all_digits, decimal_value, is_numeral, numeral, both, split, lead_first, digits_of, decimal}
 use Rattle.format.proofs.ByteLaws.{and_left, and_right, and_both, lacks, lacks_head, lacks_tail, lacks_cons, lacks_append}
+use Rattle.format.proofs.OutcomeLaws.{none_is_not_some}
 
 -- `t` is `x` in decimal. It has only digits, one or more and no more than `x` takes, and they give `x`. It has no
 -- leading zero except in a lone 0.
@@ -189,21 +190,21 @@ no_leading_zero x t d = go (ltb x 10) refl
     go false e = let h = ltb-false x 10 e in rw (d.no_zero (omega arith)) (or-true (leb (length t) 1))
 
 -- A number in decimal that has at most `most` digits is read as that number.
-pub numeral_decimal : (most n : ℕ) → 1 ≤ most → n < 10 ^ most → numeral most (decimal n) ≡ some n
+pub numeral_decimal : (most n : ℕ) → 1 ≤ most → n < 10 ^ most → numeral most (decimal n) ≡ Some n
 unfolding numeral
 numeral_decimal most n p h =
     let d = decimal_is n in
     let l = length (decimal n) in
     let sized = and_both (leb 1 l) (leb l most) (le-leb 1 l d.some_digit) (le-leb l most (d.few most p h)) in
     let good = and_both _ _ (and_both _ (all_digits (decimal n)) sized d.digits) (no_leading_zero n (decimal n) d) in
-    rw (good, numeral) (ap some d.value)
+    rw (good, numeral) (ap Some d.value)
 
 -- If one of two tests holds and the first does not, the second holds.
 or_second : (a b : Bool) → (a || b) ≡ true → a ≡ false → b ≡ true
 or_second true b h e = cc
 or_second false b h e = h
 
-module _ (most : ℕ) (t : Bytes) (n : ℕ) (h : numeral most t ≡ some n) where
+module _ (most : ℕ) (t : Bytes) (n : ℕ) (h : numeral most t ≡ Some n) where
   -- If `t` is read as the number `n`, it is a numeral and its value is `n`.
   numeral_value : (is_numeral most t ≡ true) × (decimal_value t ≡ n)
   unfolding numeral
@@ -234,12 +235,12 @@ module _ (most : ℕ) (t : Bytes) (n : ℕ) (h : numeral most t ≡ some n) wher
       sym (rw numeral_value.1 at (back (suc n) (omega (arith, numeral_value.1))))
 
 -- If `x` and `y` together give the numbers `ns`, then `x` gives the first of them and `y` gives the others.
-pub both_some : (x : Option ℕ) (y : Option (List ℕ)) (ns : List ℕ) → both x y ≡ some ns
-    → (n : ℕ) × (ms : List ℕ) × (x ≡ some n) × (y ≡ some ms) × (n ∷ ms ≡ ns)
+pub both_some : (x : Option ℕ) (y : Option (List ℕ)) (ns : List ℕ) → both x y ≡ Some ns
+    → (n : ℕ) × (ms : List ℕ) × (x ≡ Some n) × (y ≡ Some ms) × (n ∷ ms ≡ ns)
 unfolding both
-both_some none y ns h = absurd (none-ne-some ns h)
-both_some (some n) none ns h = absurd (none-ne-some ns h)
-both_some (some n) (some ms) ns h = (n, ms, refl, refl, cc)
+both_some None y ns h = absurd (none_is_not_some ns h)
+both_some (Some n) None ns h = absurd (none_is_not_some ns h)
+both_some (Some n) (Some ms) ns h = (n, ms, refl, refl, cc)
 
 -- These parts, with the byte `b` between them.
 unfoldable pub joined : ℕ → List Bytes → Bytes

@@ -1,6 +1,7 @@
 -- What holds for every value that an outcome can accept, shown step by step.
 use Rattle.std.proofs.Common.{◌≡◌, ℕ, Bool, true, false, refl}
-use mathlib.Core.Option.{Option, none, some}
+use Rattle.std.specs.Prelude.{Option, None, Some}
+use Rattle.format.specs.declared.refusal.Reason.{Reason}
 use Rattle.format.specs.Outcome.{Outcome, accepted, refused, need, ◌>>=◌, ◌>>◌}
 
 -- If the outcome is accepted, `P` holds for its value.
@@ -19,10 +20,10 @@ accepts_bind P (accepted a) f h = h a refl
 accepts_bind P (refused r) f h = tt
 
 -- The proof for what follows a test may use that the test holds.
-pub accepts_need : {A : Type 0} (P : A → Type 0) (t : Bool) (n p : ℕ) (o : Outcome A)
-    → (t ≡ true → Accepts P o) → Accepts P (◌>>◌ (need t n p) o)
-accepts_need P true n p o h = h refl
-accepts_need P false n p o h = tt
+pub accepts_need : {A : Type 0} (P : A → Type 0) (t : Bool) (x : Reason) (p : ℕ) (o : Outcome A)
+    → (t ≡ true → Accepts P o) → Accepts P (◌>>◌ (need t x p) o)
+accepts_need P true x p o h = h refl
+accepts_need P false x p o h = tt
 
 -- The proof for each branch of a choice may use the result of its test.
 pub accepts_choice : {A : Type 0} (P : A → Type 0) (t : Bool) (x y : Outcome A) → (t ≡ true → Accepts P x) → (t ≡ false → Accepts P y)
@@ -42,7 +43,11 @@ choice P false x y h k = k
 
 -- If `P` holds for the branch where nothing is found, and for the branch where something is found, it holds for the
 -- choice.
-pub found_choice : {A B : Type 0} (P : B → Type 0) (o : Option A) (x : B) (f : A → B) → (o ≡ none → P x) → ((a : A) → o ≡ some a → P (f a))
-    → P (elim o [ none ↦ x | some a ↦ f a ])
-found_choice P none x f h k = h refl
-found_choice P (some a) x f h k = k a refl
+pub found_choice : {A B : Type 0} (P : B → Type 0) (o : Option A) (x : B) (f : A → B) → (o ≡ None → P x) → ((a : A) → o ≡ Some a → P (f a))
+    → P (elim o [ None ↦ x | Some a ↦ f a ])
+found_choice P None x f h k = h refl
+found_choice P (Some a) x f h k = k a refl
+
+-- Nothing is not something.
+pub none_is_not_some : {A : Type 0} (x : A) → None ≡ Some x → ⊥
+none_is_not_some x e = cc

@@ -4,6 +4,7 @@ use Rattle.std.proofs.Common.{◌≡◌, ℕ, zero, suc, ◌+◌, ◌*◌, ◌/�
 use mathlib.Core.List.{flat_map}
 use Rattle.format.specs.declared.row.Row.{Row}
 use Rattle.format.specs.declared.refusal.Refusal.{Refusal}
+use Rattle.format.specs.declared.refusal.Reason.TheVariants.{FileTooLong, OutlineLength}
 use Rattle.format.specs.Bytes.{Bytes, IsBytes}
 use Rattle.format.specs.Outcome.{Outcome, accepted, refused, refusal, ◌>>=◌}
 use Rattle.format.specs.File.{File, most_bytes, file}
@@ -41,7 +42,7 @@ pub same_bytes : (b : Bytes) (rs : List Row) → IsBytes b → stored b ≡ acce
 unfolding stored
 same_bytes b rs h =
     accepted_holds (Writes b) (stored b) rs
-    (accepts_need _ _ 23 0 _
+    (accepts_need _ _ OutlineLength 0 _
     λ (e : eqb (length b % 16) 0 ≡ true). same_from (length b / 16) 0 0 b h (omega (arith, eqb-true (length b % 16) 0 e)))
 
 -- If a file is refused, its rows are refused in the same way.
@@ -55,7 +56,7 @@ unfolding rows records records_from walk_file
 accepted_rows s f e = (map row_of (walk (λ n t. opened (records_from 6 1 n t)) 0 0 s f.blocks), rw e)
 
 -- A file that is too long is refused.
-too_long : (s : Bytes) → leb (length s) most_bytes ≡ false → file s ≡ refused (refusal 1 0)
+too_long : (s : Bytes) → leb (length s) most_bytes ≡ false → file s ≡ refused (refusal FileTooLong 0)
 unfolding file
 too_long s e = rw e
 
@@ -69,7 +70,7 @@ rows_kept s bytes = by_length (leb (length s) most_bytes) refl
         let lead = records_lead deepest 0 0 s bytes (omega (arith, leb-true (length s) most_bytes e)) (omega arith) in
         accepts_bind (Kept 0) (records_from deepest 0 0 s) _
         λ rs q. rw append-nil at (accepted_holds (Leads 0) _ rs lead q [] (λ m h. tt) 0 (omega arith))
-    by_length false e = rw (refused_no_rows s (refusal 1 0) (too_long s e)) tt
+    by_length false e = rw (refused_no_rows s (refusal FileTooLong 0) (too_long s e)) tt
 
 -- An outline has sixteen bytes for each row.
 outline_length : (rs : List Row) → length (outline_of rs) ≡ length rs * 16

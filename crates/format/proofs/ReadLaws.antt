@@ -1,7 +1,7 @@
 -- What is read of bytes is a front part of them. It ends within them, and reads the same at another offset and with
 -- other bytes after it.
 use Rattle.std.proofs.Common.{◌≡◌, ℕ, suc, ◌+◌, ◌≤◌, true, false, [], ◌∷◌, ◌++◌, length, drop, sym, refl, ap, ◌∙◌, subst, append_assoc, add-zero, add_assoc, arith, length-append, length-drop}
-use mathlib.Core.Option.{Option, none, some}
+use Rattle.std.specs.Prelude.{Option, None, Some}
 use Rattle.format.specs.declared.layout.Version.{Version}
 use Rattle.format.specs.declared.layout.Header.{Header}
 use Rattle.format.specs.declared.layout.Tree.{Tree}
@@ -76,7 +76,7 @@ Ends reader n s m = reader n (lines s) ≡ accepted m
 
 -- The reading of a tree that ends at offset `m`.
 abbrev pub TreeEnds : Reading
-TreeEnds n s m = tree_end n (lines s) ≡ accepted (some m)
+TreeEnds n s m = tree_end n (lines s) ≡ accepted (Some m)
 
 -- The reading that reads nothing more.
 abbrev Stops : Reading
@@ -130,8 +130,8 @@ directives_lines n (line t e l) a =
 
 -- There is no tree, or the tree is a front part.
 abbrev TreeFront : ℕ → Bytes → Option ℕ → Type 0
-TreeFront n s none = Unit {0}
-TreeFront n s (some m) = Front Any TreeEnds n s m
+TreeFront n s None = Unit {0}
+TreeFront n s (Some m) = Front Any TreeEnds n s m
 
 -- A tree, if there is one, is a front part of the bytes of its lines.
 tree_lines : (n : ℕ) (l : Lines) → AreLines l → Accepts (TreeFront n (join_lines l)) (tree_end n l)
@@ -182,22 +182,22 @@ module _ (n : ℕ) (s : Bytes) (m : ℕ) where
   comments_front = of_lines NoComment comments (comments_lines n (lines s) (are_lines s))
 
   -- A tree is a front part of `s`.
-  pub tree_front : tree_end n (lines s) ≡ accepted (some m) → Front Any TreeEnds n s m
-  tree_front = accepted_holds (TreeFront n s) (tree_end n (lines s)) (some m) (rw join_lines_lem at (tree_lines n (lines s) (are_lines s)))
+  pub tree_front : tree_end n (lines s) ≡ accepted (Some m) → Front Any TreeEnds n s m
+  tree_front = accepted_holds (TreeFront n s) (tree_end n (lines s)) (Some m) (rw join_lines_lem at (tree_lines n (lines s) (are_lines s)))
 
   -- Comments end no earlier than they begin, and within the bytes.
   pub comments_bounds : comments n (lines s) ≡ accepted m → Between n (n + length s) m
   comments_bounds h = front_bounds (comments_front h)
 
   -- A tree ends no earlier than it begins, and within the bytes.
-  pub tree_bounds : tree_end n (lines s) ≡ accepted (some m) → Between n (n + length s) m
+  pub tree_bounds : tree_end n (lines s) ≡ accepted (Some m) → Between n (n + length s) m
   tree_bounds h = front_bounds (tree_front h)
 
 -- An accepted header ends where its line ends.
 header_end : (v : Option Version) (e : LineEnd) (n : ℕ) → Accepts (λ h. h.end.0 ≡ n) (header_of v e n)
 unfolding header_of
-header_end none e n = tt
-header_end (some v) e n = search accepts_need
+header_end None e n = tt
+header_end (Some v) e n = search accepts_need
 
 -- The reading of the line of the header `h`, from the version on.
 abbrev IsVersion : Header → Reading
@@ -243,6 +243,6 @@ first_block_bounds n s t inside =
     accepted_holds (λ u. Between n (length s) (first_block n u)) (tree n s) t (accepts_bind _ (tree_end n (lines (drop n s))) _ with_room_lem)
   where
     with_room_lem : (m : Option ℕ) → tree_end n (lines (drop n s)) ≡ accepted m → Between n (length s) (first_block n (with_room n s m))
-    with_room_lem none h = omega arith
-    with_room_lem (some m) h =
+    with_room_lem None h = omega arith
+    with_room_lem (Some m) h =
         omega (arith, simp length-drop at (tree_bounds n (drop n s) m h), simp length-drop at (free_space_bounds (drop m s)))

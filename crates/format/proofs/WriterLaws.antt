@@ -3,6 +3,7 @@
 use Rattle.std.proofs.Common.{◌≡◌, ℕ, zero, suc, ◌+◌, ◌^◌, ◌<◌, ◌≤◌, true, List, [], ◌∷◌, ◌++◌, length, get_or, take, drop, sym, refl, ap, ◌∙◌, true≢false, arith, length-drop, take-append-drop, length-take-le, le-leb, leb-true}
 use lib.ListN.{length-map}
 use lib.Seq.{drop-append-le}
+use Rattle.format.specs.declared.refusal.Reason.TheVariants.{NoIndexPossible}
 use Rattle.format.specs.declared.layout.Tree.{Tree}
 use Rattle.format.specs.declared.layout.Tree.TheVariants.{NoTree, Found}
 use Rattle.format.specs.declared.layout.Verdict.{Verdict}
@@ -131,7 +132,7 @@ written_holds : (s : Bytes) (P : Bytes → Type 0)
     → (t : Bytes) → index_for s ≡ accepted t → P t
 unfolding index_for
 written_holds s P h t =
-    accepted_holds P (index_for s) t (accepts_bind P (file s) _ λ f e. accepts_need P (may_have_index f.blocks) 22 0 _ λ m. h f e m)
+    accepted_holds P (index_for s) t (accepts_bind P (file s) _ λ f e. accepts_need P (may_have_index f.blocks) NoIndexPossible 0 _ λ m. h f e m)
 
 module _ (s : Bytes) (bytes : IsBytes s) where
   -- The index that is written is a good index of the file.

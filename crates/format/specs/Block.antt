@@ -2,6 +2,7 @@
 -- block's first byte.
 use Rattle.std.specs.Prelude.{◌≡◌, ℕ, ◌+◌, ◌-◌, ◌%◌, ◌≤◌, Bool, true, false, not, ◌||◌, length, ◌==◌, nat_le}
 use Rattle.format.specs.declared.block.Block.{Block}
+use Rattle.format.specs.declared.refusal.Reason.TheVariants.{HeaderPassesEnd, HeaderTooSmall, UsedAboveAllocated, DataSizeDiffers, AllocatedPassesEnd}
 use Rattle.format.specs.Bytes.{Bytes, number}
 use Rattle.format.specs.Outcome.{Outcome, accepted, need, ◌>>◌}
 
@@ -86,15 +87,15 @@ block_with i n t allocated used size =
 -- its four bytes are not checked again: with any other four bytes the outcome would be the same.
 unfoldable pub block : ℕ → ℕ → Bytes → Outcome Block
 block i n t = do
-  need (nat_le 6 (length t)) 11 n
-  need (nat_le least_header (header_size t)) 12 n
-  need (nat_le (content_start t) (length t)) 11 n
+  need (nat_le 6 (length t)) HeaderPassesEnd n
+  need (nat_le least_header (header_size t)) HeaderTooSmall n
+  need (nat_le (content_start t) (length t)) HeaderPassesEnd n
   elim (is_streamed (flags t)) [
     | true ↦ accepted (block_with i n t (bytes_left t) (bytes_left t) (bytes_left t))
     | false ↦ do
-      need (nat_le (used_size t) (allocated_size t)) 13 n
-      need (is_compressed (compression t) || data_size t == used_size t) 14 n
-      need (nat_le (allocated_size t) (bytes_left t)) 15 n
+      need (nat_le (used_size t) (allocated_size t)) UsedAboveAllocated n
+      need (is_compressed (compression t) || data_size t == used_size t) DataSizeDiffers n
+      need (nat_le (allocated_size t) (bytes_left t)) AllocatedPassesEnd n
       accepted (block_with i n t (allocated_size t) (used_size t) (data_size t))
   ]
 

@@ -1,7 +1,8 @@
 -- The chain of blocks, with unallocated space between them, and the tail after the last block.
 use Rattle.std.specs.Prelude.{ℕ, zero, suc, ◌+◌, Bool, true, false, ◌||◌, List, [], ◌∷◌, length, drop, nat_lt}
-use Rattle.std.proofs.Math.Option.{Option, none, some}
+use Rattle.std.specs.Prelude.{Option, None, Some}
 use Rattle.format.specs.declared.block.Block.{Block}
+use Rattle.format.specs.declared.refusal.Reason.TheVariants.{TooManyBlocks, StrayTail}
 use Rattle.format.specs.Bytes.{Bytes, begins, all_zero}
 use Rattle.format.specs.Outcome.{Outcome, accepted, refused, refusal, need, ◌>>=◌, ◌>>◌}
 use Rattle.format.specs.Comments.{index_line}
@@ -40,16 +41,16 @@ linked b c = record { blocks = b ∷ c.blocks; tail = c.tail }
 
 -- How many bytes of `t` come before its first mark, if it has one.
 unfoldable pub mark_ahead : Bytes → Option ℕ
-mark_ahead t = elim (nat_lt (free_space t) (length t)) [ true ↦ some (free_space t) | false ↦ none ]
+mark_ahead t = elim (nat_lt (free_space t) (length t)) [ true ↦ Some (free_space t) | false ↦ None ]
 
 -- How many bytes of `t` come before the next block, if there is one. If `t` begins with `index_line`, no block follows.
 unfoldable pub next_block : Bytes → Option ℕ
-next_block t = elim (begins index_line t) [ true ↦ none | false ↦ mark_ahead t ]
+next_block t = elim (begins index_line t) [ true ↦ None | false ↦ mark_ahead t ]
 
 -- The end of the chain at offset `n`, where no block follows; `t` is the rest of the file from there.
 unfoldable pub tail : ℕ → Bytes → Outcome Chain
 tail n t = do
-  need (is_tail t) 17 n
+  need (is_tail t) StrayTail n
   accepted (ended t)
 
 -- Block `i` at offset `n`, and the blocks that `others` reads from its end; `t` is the rest of the file from `n`. After
@@ -63,5 +64,5 @@ linked_at i n t others = do
 -- The blocks from offset `n`, each at the next mark; `t` is the rest of the file from `n`. The first argument is how
 -- many blocks are allowed, and `i` is the ordinal of the first of them.
 unfoldable pub chain : ℕ → ℕ → ℕ → Bytes → Outcome Chain
-chain zero i n t = elim (next_block t) [ none ↦ tail n t | some g ↦ refused (refusal 16 (n + g)) ]
-chain (suc k) i n t = elim (next_block t) [ none ↦ tail n t | some g ↦ linked_at i (n + g) (drop g t) (chain k (i + 1)) ]
+chain zero i n t = elim (next_block t) [ None ↦ tail n t | Some g ↦ refused (refusal TooManyBlocks (n + g)) ]
+chain (suc k) i n t = elim (next_block t) [ None ↦ tail n t | Some g ↦ linked_at i (n + g) (drop g t) (chain k (i + 1)) ]

@@ -1,10 +1,11 @@
 -- The data of a block and the checksum in its header. The digest is a parameter here: it is MD5, which the crate md5
 -- defines.
 use Rattle.std.specs.Prelude.{ℕ, Bool, true, false, ◌&&◌, ◌==◌}
-use Rattle.std.proofs.Math.Option.{Option, none, some}
+use Rattle.std.specs.Prelude.{Option, None, Some}
 use Rattle.format.specs.declared.answer.Check.{Check}
 use Rattle.format.specs.declared.answer.Check.TheVariants.{NotStated, Agrees, Differs}
 use Rattle.format.specs.declared.block.Block.{Block}
+use Rattle.format.specs.declared.refusal.Reason.TheVariants.{NoSuchBlock}
 use Rattle.format.specs.Bytes.{Bytes, number}
 use Rattle.format.specs.Outcome.{Outcome, accepted, refused, refusal, ◌>>=◌}
 use Rattle.format.specs.Block.{has_checksum}
@@ -30,8 +31,8 @@ check_block digest s b =
 
 -- A block that was asked for by its ordinal. If there is none, this is refusal 25.
 unfoldable pub named : Option Block → Outcome Block
-named (some b) = accepted b
-named none = refused (refusal 25 0)
+named (Some b) = accepted b
+named None = refused (refusal NoSuchBlock 0)
 
 -- What the data of block `i` of the file `s` says about its checksum.
 unfoldable pub checked : (Bytes → Bytes) → Bytes → ℕ → Outcome Check

@@ -1,8 +1,9 @@
 -- The edit that replaces a tree in place.
 use Rattle.std.specs.Prelude.{ℕ, ◌-◌, Bool, false, ◌++◌, length, take, drop, replicate, ◌==◌, nat_le}
-use Rattle.std.proofs.Math.Option.{Option, none, some}
+use Rattle.std.specs.Prelude.{Option, None, Some}
 use Rattle.format.specs.declared.layout.Tree.{Tree}
 use Rattle.format.specs.declared.layout.Tree.TheVariants.{NoTree, Found}
+use Rattle.format.specs.declared.refusal.Reason.TheVariants.{EditWithoutTree, TextNotOneTree, TextLongerThanRoom}
 use Rattle.format.specs.Bytes.{Bytes}
 use Rattle.format.specs.Outcome.{Outcome, accepted, refused, refusal, need, ◌>>=◌, ◌>>◌}
 use Rattle.format.specs.Line.{lines}
@@ -12,8 +13,8 @@ use Rattle.format.specs.File.{file}
 -- Whether there is a tree and it ends at offset `n`. The second argument is what `tree_end` gives.
 unfoldable pub ends_at : ℕ → Outcome (Option ℕ) → Bool
 ends_at n (refused r) = false
-ends_at n (accepted none) = false
-ends_at n (accepted (some m)) = m == n
+ends_at n (accepted None) = false
+ends_at n (accepted (Some m)) = m == n
 
 -- Whether `t` is exactly one tree, with nothing before or after it.
 unfoldable pub is_one_tree : Bytes → Bool
@@ -25,10 +26,10 @@ filled s n m t = take n s ++ t ++ replicate (m - n - length t) 32 ++ drop m s
 
 -- The file `s` with the text `t` in place of this tree.
 unfoldable pub edit_tree : Bytes → Bytes → Tree → Outcome Bytes
-edit_tree s t NoTree = refused (refusal 18 0)
+edit_tree s t NoTree = refused (refusal EditWithoutTree 0)
 edit_tree s t (Found n e m) = do
-  need (is_one_tree t) 19 0
-  need (nat_le (length t) (m.0 - n.0)) 20 0
+  need (is_one_tree t) TextNotOneTree 0
+  need (nat_le (length t) (m.0 - n.0)) TextLongerThanRoom 0
   accepted (filled s n.0 m.0 t)
 
 -- The file `s` with the text `t` in place of its tree.

@@ -10,6 +10,7 @@ use Rattle.format.specs.declared.layout.Tree.TheVariants.{NoTree}
 use Rattle.format.specs.declared.layout.Verdict.{Verdict}
 use Rattle.format.specs.declared.layout.Verdict.TheVariants.{Absent, Good, IgnoredForm, IgnoredList}
 use Rattle.format.specs.declared.line.LineEnd.TheVariants.{Lf}
+use Rattle.format.specs.declared.refusal.Reason.TheVariants.{NotAsdf, VersionMalformed, HeaderPassesEnd, HeaderTooSmall, TextLongerThanRoom}
 use Rattle.format.specs.Bytes.{Bytes, text, to_bytes}
 use Rattle.format.specs.Outcome.{Outcome, accepted, refused, refusal, ◌>>=◌}
 use Rattle.format.specs.Tree.{mark, tree_at}
@@ -100,9 +101,9 @@ file_b_inside = file_a ++ block_header 48 66 66 66 ++ file_b
 abbrev pub examples : List Example
 examples =
     -- P1 to P3: no bytes, A, and A without its line end.
-    Reads [] (refused (refusal 2 0))
+    Reads [] (refused (refusal NotAsdf 0))
     ∷ Reads file_a (layout_of_a NoTree 0 Absent)
-    ∷ Reads (take 11 file_a) (refused (refusal 3 6))
+    ∷ Reads (take 11 file_a) (refused (refusal VersionMalformed 6))
     -- P4: the layout and the outline of B.
     ∷ Reads file_b (layout_of_a NoTree 1 Absent)
     ∷ Outlines file_b (accepted (0x00 ∷ 0x00 ∷ 0x00 ∷ 0x30 ∷ 0x00 ∷ 0x00 ∷ 0x00 ∷ 0x0C ∷ replicate 8 0x00))
@@ -116,8 +117,8 @@ examples =
     ∷ Numbers (file_b ++ index_with (text "012")) (1 ∷ 0 ∷ 0 ∷ 12 ∷ 12 ∷ 0 ∷ 0 ∷ 0 ∷ 0 ∷ 1 ∷ 2 ∷ 0 ∷ [])
     ∷ Numbers (file_b ++ index_with (text "13")) (1 ∷ 0 ∷ 0 ∷ 12 ∷ 12 ∷ 0 ∷ 0 ∷ 0 ∷ 0 ∷ 1 ∷ 3 ∷ 0 ∷ [])
     -- P8 and P9: a header size of 47, and B without its last byte.
-    ∷ Reads (file_a ++ block_header 47 0 0 0) (refused (refusal 12 12))
-    ∷ Reads (take 65 file_b) (refused (refusal 11 12))
+    ∷ Reads (file_a ++ block_header 47 0 0 0) (refused (refusal HeaderTooSmall 12))
+    ∷ Reads (take 65 file_b) (refused (refusal HeaderPassesEnd 12))
     -- P10: a file that holds B.
     ∷ Outlines file_b_inside
     (accepted
@@ -133,7 +134,7 @@ examples =
     ∷ Outlines file_t (accepted (0x00 ∷ 0x00 ∷ 0x00 ∷ 0x30 ∷ 0x00 ∷ 0x00 ∷ 0x00 ∷ 0x28 ∷ replicate 8 0x00))
     -- P12 and P13: an edit that fills the room, and one whose text is a byte too long.
     ∷ Edits file_t (text "%YAML 1.1\n---\nxxxxxxxxx\n...\n") (accepted (file_a ++ text "%YAML 1.1\n---\nxxxxxxxxx\n...\n" ++ empty_block))
-    ∷ Edits file_t (text "%YAML 1.1\n---\nxxxxxxxxxx\n...\n") (refused (refusal 20 0))
+    ∷ Edits file_t (text "%YAML 1.1\n---\nxxxxxxxxxx\n...\n") (refused (refusal TextLongerThanRoom 0))
     -- The listing of B.
     ∷ Lists file_b (text "tree none\n0 0 12 48 0 0 0 0 0 0\nindex absent\n")
     ∷ []

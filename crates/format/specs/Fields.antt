@@ -1,7 +1,7 @@
 -- What is reported, as lists of numbers. Each number takes eight bytes when it is put into a lent buffer.
 use Rattle.std.specs.Prelude.{ℕ, List, [], ◌∷◌, ◌++◌}
 use mathlib.Core.List.{flat_map}
-use Rattle.std.proofs.Math.Option.{Option, none, some}
+use Rattle.std.specs.Prelude.{Option, None, Some}
 use Rattle.format.specs.declared.answer.Check.{Check}
 use Rattle.format.specs.declared.answer.Check.TheVariants.{NotStated, Agrees, Differs}
 use Rattle.format.specs.declared.block.Block.{Block}
@@ -17,6 +17,7 @@ use Rattle.format.specs.declared.line.LineEnd.{LineEnd}
 use Rattle.format.specs.declared.line.LineEnd.TheVariants.{Lf, Crlf}
 use Rattle.format.specs.declared.row.Row.{Row}
 use Rattle.format.specs.Bytes.{Bytes, to_bytes, bit}
+use Rattle.format.specs.Reason.{reason_number}
 use Rattle.format.specs.Outcome.{Outcome, accepted, ◌>>=◌}
 use Rattle.format.specs.File.{layout}
 use Rattle.format.specs.Nest.{records}
@@ -74,7 +75,7 @@ block_fields b =
 abbrev pub refusal_fields : Inner → List ℕ
 refusal_fields Plain = 0 ∷ 0 ∷ []
 refusal_fields Opened = 0 ∷ 0 ∷ []
-refusal_fields (Refused r) = r.number ∷ r.place.0 ∷ []
+refusal_fields (Refused r) = reason_number r.reason ∷ r.place.0 ∷ []
 refusal_fields TooDeep = 0 ∷ 0 ∷ []
 
 -- The numbers of a record: depth, offset in the outermost file, the inner state with its refusal, the block.
@@ -119,8 +120,8 @@ stored_rows b = do
 
 -- The bytes of what was found; `fields` gives its numbers. If nothing was found, there are no bytes.
 unfoldable pub found_numbers : {A : Type 0} → (A → List ℕ) → Option A → Bytes
-found_numbers fields none = []
-found_numbers fields (some x) = number_bytes (fields x)
+found_numbers fields None = []
+found_numbers fields (Some x) = number_bytes (fields x)
 
 -- The same for an outcome, whose refusal is passed on.
 unfoldable pub found_bytes : {A : Type 0} → (A → List ℕ) → Outcome (Option A) → Outcome Bytes

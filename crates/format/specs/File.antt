@@ -1,13 +1,14 @@
 -- One file without the files inside its blocks, read from front to back.
 use Rattle.std.specs.Prelude.{ℕ, Bool, true, List, [], ◌∷◌, ◌++◌, map, length, drop, replicate, nat_le}
-use Rattle.std.proofs.Math.Option.{Option}
-use Rattle.std.proofs.Math.ListN.{get_elem?}
+use Rattle.std.specs.Prelude.{Option}
+use Rattle.std.specs.Prelude.{slice_get}
 use Rattle.format.specs.declared.layout.Header.{Header}
 use Rattle.format.specs.declared.layout.Tree.{Tree}
 use Rattle.format.specs.declared.layout.Tree.TheVariants.{NoTree, Found}
 use Rattle.format.specs.declared.layout.Verdict.{Verdict}
 use Rattle.format.specs.declared.layout.Layout.{Layout}
 use Rattle.format.specs.declared.block.Block.{Block}
+use Rattle.format.specs.declared.refusal.Reason.TheVariants.{FileTooLong, NeitherTreeNorBlock}
 use Rattle.format.specs.Bytes.{Bytes, begins}
 use Rattle.format.specs.Outcome.{Outcome, accepted, refused, need, ◌>>=◌, ◌>>◌}
 use Rattle.format.specs.Line.{lines}
@@ -52,14 +53,14 @@ body s = do
   h ← header s
   n ← comments h.end.0 (lines (drop h.end.0 s))
   t ← tree n s
-  need (goes_on t (drop n s)) 7 n
+  need (goes_on t (drop n s)) NeitherTreeNorBlock n
   c ← chain most_blocks 0 (first_block n t) (drop (first_block n t) s)
   accepted (record { header = h; comments_end = n; tree = t; blocks = c.blocks; verdict = verdict (offsets c.blocks) c.tail })
 
 -- The meaning of a file, which must not be longer than `most_bytes`.
 unfoldable pub file : Bytes → Outcome File
 file s = do
-  need (nat_le (length s) most_bytes) 1 0
+  need (nat_le (length s) most_bytes) FileTooLong 0
   body s
 
 -- A table of offsets that begins with the offsets of these blocks. After them, it is the same as `before`.
@@ -85,4 +86,4 @@ layout s = do
 unfoldable pub block_at : Bytes → ℕ → Outcome (Option Block)
 block_at s i = do
   f ← file s
-  accepted (get_elem? f.blocks i)
+  accepted (slice_get f.blocks i)

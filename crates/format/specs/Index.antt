@@ -2,7 +2,7 @@
 -- start line, or each number after a dash on its own line.
 use Rattle.std.specs.Prelude.{◌≡◌, ℕ, ◌≤◌, true, false, List, [], ◌∷◌, ◌++◌, map, reverse, length, replicate, ◌==◌}
 use mathlib.Core.List.{flat_map}
-use Rattle.std.proofs.Math.Option.{Option, none, some}
+use Rattle.std.specs.Prelude.{Option, None, Some}
 use Rattle.format.specs.declared.layout.Verdict.{Verdict}
 use Rattle.format.specs.declared.layout.Verdict.TheVariants.{Absent, Good, IgnoredForm, IgnoredList}
 use Rattle.format.specs.declared.line.LineEnd.{LineEnd}
@@ -14,9 +14,9 @@ use Rattle.format.specs.Tree.{yaml_line, end_line}
 
 -- What is left of `s` after `p`, the first argument, if `s` begins with `p`.
 unfoldable pub without : Bytes → Bytes → Option Bytes
-without [] s = some s
-without (a ∷ p) [] = none
-without (a ∷ p) (b ∷ s) = elim (a == b) [ true ↦ without p s | false ↦ none ]
+without [] s = Some s
+without (a ∷ p) [] = None
+without (a ∷ p) (b ∷ s) = elim (a == b) [ true ↦ without p s | false ↦ None ]
 
 -- `s` without the spaces at its start.
 unfoldable pub trim_start : Bytes → Bytes
@@ -35,15 +35,15 @@ trim s = trim_end (trim_start s)
 unfoldable pub in_brackets : Bytes → Option Bytes
 in_brackets t =
     elim (without (text "--- [") t) [
-      | none ↦ none
-      | some u ↦ elim (without (text "]") (reverse u)) [ none ↦ none | some v ↦ some (reverse v) ]
+      | None ↦ None
+      | Some u ↦ elim (without (text "]") (reverse u)) [ None ↦ None | Some v ↦ Some (reverse v) ]
     ]
 
 -- The numbers in the brackets, if there are brackets. Each number has 1 to 10 digits. Commas separate the numbers, and
 -- spaces may surround each of them.
 unfoldable pub listed : Option Bytes → Option (List ℕ)
-listed none = none
-listed (some t) = numerals 10 (map trim (split 44 t))
+listed None = None
+listed (Some t) = numerals 10 (map trim (split 44 t))
 
 -- The start line of an index with dashes.
 abbrev pub dash_start : Bytes
@@ -55,32 +55,32 @@ dash = text "- "
 
 -- The number on the line `t` of an index with dashes: 1 to 10 digits, which spaces may follow.
 unfoldable pub dashed : Bytes → Option ℕ
-dashed t = elim (without dash t) [ none ↦ none | some u ↦ numeral 10 (trim_end u) ]
+dashed t = elim (without dash t) [ None ↦ None | Some u ↦ numeral 10 (trim_end u) ]
 
 -- What `f` finds in the lines after the first line, if the first line is `word`.
 unfoldable pub after_word : Bytes → (Lines → Option (List ℕ)) → Lines → Option (List ℕ)
-after_word word f (unended t) = none
-after_word word f (line t e l) = elim (same t word) [ true ↦ f l | false ↦ none ]
+after_word word f (unended t) = None
+after_word word f (line t e l) = elim (same t word) [ true ↦ f l | false ↦ None ]
 
 -- The numbers `ns`, if only zero bytes are left.
 unfoldable pub with_zeros : Option (List ℕ) → Lines → Option (List ℕ)
-with_zeros ns (unended z) = elim (all_zero z) [ true ↦ ns | false ↦ none ]
-with_zeros ns (line t e l) = none
+with_zeros ns (unended z) = elim (all_zero z) [ true ↦ ns | false ↦ None ]
+with_zeros ns (line t e l) = None
 
 -- The numbers on the lines before the end line, one on each. Only zero bytes may follow the end line.
 unfoldable pub dash_numbers : Lines → Option (List ℕ)
-dash_numbers (unended t) = none
-dash_numbers (line t e l) = elim (same t end_line) [ true ↦ with_zeros (some []) l | false ↦ both (dashed t) (dash_numbers l) ]
+dash_numbers (unended t) = None
+dash_numbers (line t e l) = elim (same t end_line) [ true ↦ with_zeros (Some []) l | false ↦ both (dashed t) (dash_numbers l) ]
 
 -- The numbers, if there is at least one.
 unfoldable pub at_least_one : Option (List ℕ) → Option (List ℕ)
-at_least_one none = none
-at_least_one (some []) = none
-at_least_one (some (n ∷ ns)) = some (n ∷ ns)
+at_least_one None = None
+at_least_one (Some []) = None
+at_least_one (Some (n ∷ ns)) = Some (n ∷ ns)
 
 -- The numbers, read from the start line on. That line decides the style.
 unfoldable pub styled : Lines → Option (List ℕ)
-styled (unended t) = none
+styled (unended t) = None
 styled (line t e l) =
     elim (same t dash_start) [ true ↦ at_least_one (dash_numbers l) | false ↦ after_word end_line (with_zeros (listed (in_brackets t))) l ]
 
@@ -88,11 +88,11 @@ styled (line t e l) =
 unfoldable pub indexed : Lines → Option (List ℕ)
 indexed l = after_word index_line (after_word yaml_line styled) l
 
--- The verdict on an index with these numbers; `none` means that it does not have the form. `offsets` holds where the
+-- The verdict on an index with these numbers; `None` means that it does not have the form. `offsets` holds where the
 -- blocks of the file begin.
 unfoldable pub judged : List ℕ → Option (List ℕ) → Verdict
-judged offsets none = IgnoredForm
-judged offsets (some ns) = elim (same ns offsets) [ true ↦ Good | false ↦ IgnoredList ]
+judged offsets None = IgnoredForm
+judged offsets (Some ns) = elim (same ns offsets) [ true ↦ Good | false ↦ IgnoredList ]
 
 -- The verdict on the tail `t` of a file whose blocks begin at `offsets`.
 unfoldable pub verdict : List ℕ → Bytes → Verdict

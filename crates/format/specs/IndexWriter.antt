@@ -3,6 +3,7 @@ use Rattle.std.specs.Prelude.{◌≡◌, ℕ, ◌≤◌, Bool, false, not, List,
 use Rattle.format.specs.declared.layout.Verdict.{Verdict}
 use Rattle.format.specs.declared.layout.Verdict.TheVariants.{Good}
 use Rattle.format.specs.declared.block.Block.{Block}
+use Rattle.format.specs.declared.refusal.Reason.TheVariants.{NoIndexPossible}
 use Rattle.format.specs.Bytes.{Bytes}
 use Rattle.format.specs.Outcome.{Outcome, accepted, need, ◌>>=◌, ◌>>◌}
 use Rattle.format.specs.Block.{is_streamed}
@@ -20,7 +21,7 @@ may_have_index (b ∷ c ∷ bs) = may_have_index (c ∷ bs)
 unfoldable pub index_for : Bytes → Outcome Bytes
 index_for s = do
   f ← file s
-  need (may_have_index f.blocks) 22 0
+  need (may_have_index f.blocks) NoIndexPossible 0
   accepted (index_text f.header.line_end (offsets f.blocks))
 
 -- The highest number of bytes in the index of a file: 64 offsets of ten digits each, and line ends of two bytes.

@@ -2,12 +2,13 @@
 use Rattle.std.specs.Prelude.{ℕ, ◌+◌, Bool, true, false, ◌&&◌, ◌++◌, length, take, drop, nat_le}
 use Rattle.format.specs.Bytes.{Bytes}
 use Rattle.format.specs.Outcome.{Outcome, accepted, refused, need, ◌>>=◌, ◌>>◌}
+use Rattle.format.specs.declared.refusal.Reason.TheVariants.{BufferTooShort}
 
 -- How many bytes are written, if the buffer `out` is long enough.
 unfoldable pub writes : Outcome Bytes → Bytes → Outcome ℕ
 writes result out = do
   bytes ← result
-  need (nat_le (length bytes) (length out)) 21 0
+  need (nat_le (length bytes) (length out)) BufferTooShort 0
   accepted (length bytes)
 
 -- The buffer `out` with these bytes at offset `n` and the rest unchanged. If they do not fit, nothing changes.

@@ -1,6 +1,7 @@
 -- The meaning of an ASDF file, from front to back.
 pub mod Bytes
 pub mod Numeral
+pub mod Reason
 pub mod Outcome
 pub mod Line
 pub mod Header
@@ -18,7 +19,6 @@ pub mod Check
 pub mod Lent
 pub mod Edit
 pub mod Listing
-pub mod Answer
 pub mod Export
 pub mod Promise
 pub mod Examples

@@ -7,6 +7,7 @@ use Rattle.format.specs.declared.layout.Verdict.{Verdict}
 use Rattle.format.specs.declared.layout.Verdict.TheVariants.{Absent, Good, IgnoredForm, IgnoredList}
 use Rattle.format.specs.declared.row.Row.{Row}
 use Rattle.format.specs.Bytes.{Bytes, text}
+use Rattle.format.specs.Reason.{reason_number}
 use Rattle.format.specs.Outcome.{Outcome, accepted, refused, ◌>>=◌}
 use Rattle.format.specs.Numeral.{decimal}
 use Rattle.format.specs.File.{file}
@@ -49,7 +50,7 @@ file_listing s = do
 -- What is printed: the listing, or one line that reports the refusal.
 unfoldable pub printed : Outcome Bytes → Bytes
 printed (accepted t) = t
-printed (refused r) = sentence (text "refused" ∷ decimal r.number ∷ decimal r.place.0 ∷ [])
+printed (refused r) = sentence (text "refused" ∷ decimal (reason_number r.reason) ∷ decimal r.place.0 ∷ [])
 
 -- What the program prints for the input `s`.
 unfoldable pub listing : Bytes → Bytes

@@ -4,6 +4,7 @@ use Rattle.std.specs.Prelude.{ℕ, zero, suc, List, [], ◌∷◌, ◌++◌, len
 use Rattle.format.specs.declared.block.Inner.TheVariants.{Plain, Opened, Refused, TooDeep}
 use Rattle.format.specs.declared.layout.Tree.TheVariants.{NoTree}
 use Rattle.format.specs.declared.layout.Verdict.TheVariants.{Absent, Good, IgnoredForm, IgnoredList}
+use Rattle.format.specs.declared.refusal.Reason.TheVariants.{VersionMalformed, IndexAmongComments, HeaderPassesEnd, HeaderTooSmall, UsedAboveAllocated, AllocatedPassesEnd, TooManyBlocks, StrayTail, TextNotOneTree}
 use Rattle.format.specs.Bytes.{Bytes, text}
 use Rattle.format.specs.Outcome.{accepted, refused, refusal}
 use Rattle.format.specs.Comments.{index_line}
@@ -44,12 +45,12 @@ misreadings =
     -- A line of three characters other than `...` does not end the tree, and neither does `...` followed by two 0D.
     ∷ Reads (file_a ++ text "%YAML 1.1\n---\nabc\n...\r\r\n...\r\n ") (layout_of_a (tree_at 12 41 42) 0 Absent)
     -- A size of all FF does not wrap around.
-    ∷ Reads (file_a ++ block_header 48 0xFFFF_FFFF_FFFF_FFFF 0 0) (refused (refusal 15 12))
+    ∷ Reads (file_a ++ block_header 48 0xFFFF_FFFF_FFFF_FFFF 0 0) (refused (refusal AllocatedPassesEnd 12))
     -- The used size may equal the allocated size, but may not be one above it.
     ∷ Reads (file_a ++ block_holding (text "x")) (layout_of_a NoTree 1 Absent)
-    ∷ Reads (file_a ++ block_header 48 1 2 2 ++ text "xy") (refused (refusal 13 12))
+    ∷ Reads (file_a ++ block_header 48 1 2 2 ++ text "xy") (refused (refusal UsedAboveAllocated 12))
     -- A refused inner file does not refuse the outer file. The place of its refusal counts from its own first byte.
-    ∷ States (file_a ++ block_holding (text "#ASDF ") ++ empty_block) (accepted (Refused (refusal 3 6) ∷ Plain ∷ []))
+    ∷ States (file_a ++ block_holding (text "#ASDF ") ++ empty_block) (accepted (Refused (refusal VersionMalformed 6) ∷ Plain ∷ []))
     -- That refusal is in the record of its block, after the inner state 2.
     ∷ Records (file_a ++ block_holding (text "#ASDF ")) ((0 ∷ 12 ∷ 2 ∷ 3 ∷ 6 ∷ 0 ∷ 12 ∷ 48 ∷ 0 ∷ 0 ∷ 6 ∷ 6 ∷ 6 ∷ 0 ∷ 0 ∷ []) ∷ [])
     -- Files are read eight deep. The ninth is too deep.
@@ -68,7 +69,7 @@ misreadings =
     ++ text "7 0 474 48 66 66 0 0 0 3\n"
     ++ text "index absent\n")
     -- An index line among the comments is not a comment.
-    ∷ Reads (file_a ++ text "#ASDF BLOCK INDEX\n%YAML 1.1\n--- [12]\n...\n") (refused (refusal 6 12))
+    ∷ Reads (file_a ++ text "#ASDF BLOCK INDEX\n%YAML 1.1\n--- [12]\n...\n") (refused (refusal IndexAmongComments 12))
     -- An index without a number does not have the form. An index with a number above 2^32 has the form, but its list is
     -- not the list of the blocks' offsets.
     ∷ Reads (file_b ++ index_with []) (layout_of_a NoTree 1 IgnoredForm)
@@ -95,7 +96,7 @@ misreadings =
     ∷ Reads (file_b ++ index_of_lines (text "---\n[12]\n")) (layout_of_a NoTree 1 IgnoredForm)
     -- A file may have 64 blocks. At the mark of one more it is refused.
     ∷ Reads (file_a ++ copies 64 empty_block) (layout_of_a NoTree 64 Absent)
-    ∷ Reads (file_a ++ copies 64 empty_block ++ mark) (refused (refusal 16 3468))
+    ∷ Reads (file_a ++ copies 64 empty_block ++ mark) (refused (refusal TooManyBlocks 3468))
     -- The next block is at the first mark after the preceding block. Zeros and a part of a mark are passed over, and
     -- bytes at the end of the preceding block do not count as part of a mark.
     ∷ Lists (file_b ++ (0 ∷ []) ++ empty_block) (text "tree none\n0 0 12 48 0 0 0 0 0 0\n0 1 67 48 0 0 0 0 0 0\nindex absent\n")
@@ -107,15 +108,15 @@ misreadings =
     (text "tree none\n0 0 12 48 121 121 0 0 0 1\n1 0 78 48 0 0 0 0 0 0\n1 1 133 48 0 0 0 0 0 0\nindex absent\n")
     -- A malformed block after a gap is refused at its mark, even if a good block follows, and so is a 65th block. 17 is
     -- given only if no mark follows, at the end of the last block.
-    ∷ Reads (file_b ++ text "x" ++ mark) (refused (refusal 11 67))
-    ∷ Reads (file_b ++ text "x" ++ block_header 47 0 0 0 ++ empty_block) (refused (refusal 12 67))
-    ∷ Reads (file_a ++ copies 64 empty_block ++ text "x" ++ mark) (refused (refusal 16 3469))
-    ∷ Reads (file_b ++ (0 ∷ []) ++ text "x") (refused (refusal 17 66))
+    ∷ Reads (file_b ++ text "x" ++ mark) (refused (refusal HeaderPassesEnd 67))
+    ∷ Reads (file_b ++ text "x" ++ block_header 47 0 0 0 ++ empty_block) (refused (refusal HeaderTooSmall 67))
+    ∷ Reads (file_a ++ copies 64 empty_block ++ text "x" ++ mark) (refused (refusal TooManyBlocks 3469))
+    ∷ Reads (file_b ++ (0 ∷ []) ++ text "x") (refused (refusal StrayTail 66))
     -- An index is tried first, directly after the block. It ends the chain, whatever follows.
     ∷ Reads (file_b ++ index_line ++ empty_block) (layout_of_a NoTree 1 IgnoredForm)
     ∷ Reads (file_a ++ copies 64 empty_block ++ index_line ++ mark) (layout_of_a NoTree 64 IgnoredForm)
     ∷ Reads (file_b ++ text "#ASDF BLOCK INDE" ++ empty_block) (layout_of_a NoTree 2 Absent)
-    ∷ Reads (file_b ++ (0 ∷ []) ++ index_with (text "12")) (refused (refusal 17 66))
+    ∷ Reads (file_b ++ (0 ∷ []) ++ index_with (text "12")) (refused (refusal StrayTail 66))
     ∷ Reads (file_b ++ (0 ∷ []) ++ index_with (text "12") ++ empty_block) (layout_of_a NoTree 2 Absent)
     -- An index lists where the marks are, and not where the blocks before them end.
     ∷ Reads (file_b ++ text "x" ++ empty_block ++ index_with (text "12, 67")) (layout_of_a NoTree 2 Good)
@@ -130,10 +131,10 @@ misreadings =
     ∷ Indexes (file_a ++ text "#x\r\n%YAML 1.1\r\n---\r\n...\r\n" ++ empty_block ++ dos_index (text "37")) (accepted (index_with (text "37")))
     ∷ Indexes (dos_a ++ block_holding file_b) (accepted (dos_index (text "13")))
     ∷ Indexes (file_a ++ block_holding (dos_a ++ empty_block)) (accepted (index_with (text "12")))
-    ∷ Indexes (text "#ASDF 1.0.0\r\r\n" ++ empty_block) (refused (refusal 3 6))
+    ∷ Indexes (text "#ASDF 1.0.0\r\r\n" ++ empty_block) (refused (refusal VersionMalformed 6))
     -- The listing does not say which line end the header has.
     ∷ Lists (dos_a ++ empty_block) (text "tree none\n0 0 13 48 0 0 0 0 0 0\nindex absent\n")
     -- An edit to an equal text turns the free space into spaces. The new text has to end with its tree.
     ∷ Edits (file_a ++ text "%YAML 1.1\n---\n...\nxx") (text "%YAML 1.1\n---\n...\n") (accepted (file_a ++ text "%YAML 1.1\n---\n...\n  "))
-    ∷ Edits (file_a ++ text "%YAML 1.1\n---\n...\nxx") (text "%YAML 1.1\n---\n...\n ") (refused (refusal 19 0))
+    ∷ Edits (file_a ++ text "%YAML 1.1\n---\n...\nxx") (text "%YAML 1.1\n---\n...\n ") (refused (refusal TextNotOneTree 0))
     ∷ []

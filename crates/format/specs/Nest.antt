@@ -1,7 +1,7 @@
 -- The files inside blocks, and all blocks of an outermost file in walking order.
 use Rattle.std.specs.Prelude.{ℕ, zero, suc, ◌+◌, Bool, true, false, not, ◌&&◌, List, [], ◌∷◌, ◌++◌, length, take, drop}
-use Rattle.std.proofs.Math.Option.{Option}
-use Rattle.std.proofs.Math.ListN.{get_elem?}
+use Rattle.std.specs.Prelude.{Option}
+use Rattle.std.specs.Prelude.{slice_get}
 use Rattle.format.specs.declared.block.Block.{Block}
 use Rattle.format.specs.declared.block.Record.{Record}
 use Rattle.format.specs.declared.block.Inner.{Inner}
@@ -85,4 +85,4 @@ record_count s = do
 unfoldable pub record_at : Bytes → ℕ → Outcome (Option Record)
 record_at s k = do
   rs ← records s
-  accepted (get_elem? rs k)
+  accepted (slice_get rs k)

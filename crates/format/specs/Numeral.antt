@@ -1,6 +1,6 @@
 -- Decimal numbers: how they are read and how they are written. A number has no leading zero unless it is a lone 0.
 use Rattle.std.specs.Prelude.{ℕ, zero, suc, ◌+◌, ◌-◌, ◌*◌, ◌/◌, ◌%◌, ◌^◌, Bool, true, false, not, ◌&&◌, ◌||◌, List, [], ◌∷◌, ◌++◌, length, ◌==◌, nat_le, nat_lt}
-use Rattle.std.proofs.Math.Option.{Option, none, some}
+use Rattle.std.specs.Prelude.{Option, None, Some}
 use Rattle.format.specs.Bytes.{Bytes, text, begins}
 
 -- Whether a byte is a digit, `0` to `9`.
@@ -23,17 +23,17 @@ is_numeral most t = nat_le 1 (length t) && nat_le (length t) most && all_digits 
 
 -- The number that `t` gives, if it has that form.
 unfoldable pub numeral : ℕ → Bytes → Option ℕ
-numeral most t = elim (is_numeral most t) [ true ↦ some (decimal_value t) | false ↦ none ]
+numeral most t = elim (is_numeral most t) [ true ↦ Some (decimal_value t) | false ↦ None ]
 
 -- Puts a number before a list of numbers, if both are there.
 unfoldable pub both : Option ℕ → Option (List ℕ) → Option (List ℕ)
-both none xs = none
-both (some x) none = none
-both (some x) (some xs) = some (x ∷ xs)
+both None xs = None
+both (Some x) None = None
+both (Some x) (Some xs) = Some (x ∷ xs)
 
 -- The numbers that the parts of a list give, if every part gives one.
 unfoldable pub numerals : ℕ → List Bytes → Option (List ℕ)
-numerals most [] = some []
+numerals most [] = Some []
 numerals most (p ∷ ps) = both (numeral most p) (numerals most ps)
 
 -- The parts with one more byte, `a`, at the start of the first.

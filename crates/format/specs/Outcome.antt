@@ -1,16 +1,17 @@
--- An outcome: what was asked for, or a refusal with its number and place. The steps are taken in order, and the first
+-- An outcome: what was asked for, or a refusal with its reason and place. The steps are taken in order, and the first
 -- one that refuses decides.
-use Rattle.std.specs.Prelude.{ℕ, Bool, true, false}
+use Rattle.std.specs.Prelude.{ℕ, Bool, true, false, Result}
+pub use Rattle.std.specs.Prelude.{Ok as accepted, Err as refused}
+use Rattle.format.specs.declared.refusal.Reason.{Reason}
 use Rattle.format.specs.declared.refusal.Refusal.{Refusal}
 
 -- Either what was asked for, of type `A`, or a refusal.
-pub data Outcome (A : Type 0) : Type 0 where
-  accepted : A → Outcome A
-  refused : Refusal → Outcome A
+abbrev pub Outcome : Type 0 → Type 0
+Outcome A = Result A Refusal
 
--- The refusal with number `n` at place `p`. docs/REFUSALS.md lists the numbers.
-abbrev pub refusal : ℕ → ℕ → Refusal
-refusal n p = record { number = n; place = record { 0 = p } }
+-- The refusal for the reason `x` at place `p`. docs/REFUSALS.md lists the reasons.
+abbrev pub refusal : Reason → ℕ → Refusal
+refusal x p = record { reason = x; place = record { 0 = p } }
 
 -- One step and then another, `f`, which takes the result of the first. If the first step refuses, its refusal is the
 -- outcome.
@@ -23,7 +24,7 @@ abbrev pub ◌>>◌ : {A B : Type 0} → Outcome A → Outcome B → Outcome B
 ◌>>◌ (accepted a) b = b
 ◌>>◌ (refused r) b = refused r
 
--- Refuses with number `n` at place `p` unless the test holds.
-abbrev pub need : Bool → ℕ → ℕ → Outcome (Unit {0})
-need true n p = accepted tt
-need false n p = refused (refusal n p)
+-- Refuses for the reason `x` at place `p` unless the test holds.
+abbrev pub need : Bool → Reason → ℕ → Outcome (Unit {0})
+need true x p = accepted tt
+need false x p = refused (refusal x p)

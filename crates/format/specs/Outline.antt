@@ -1,12 +1,13 @@
 -- The outline, with a row of sixteen bytes for each block, and the reader of stored outlines.
 use Rattle.std.specs.Prelude.{ℕ, zero, suc, ◌+◌, ◌*◌, ◌/◌, ◌%◌, ◌^◌, Bool, ◌&&◌, List, [], ◌∷◌, map, length, take, drop, ◌==◌, nat_le, slice_index}
 use mathlib.Core.List.{flat_map}
-use Rattle.std.proofs.Math.Option.{Option}
-use Rattle.std.proofs.Math.ListN.{get_elem?}
+use Rattle.std.specs.Prelude.{Option}
+use Rattle.std.specs.Prelude.{slice_get}
 use Rattle.format.specs.declared.block.Record.{Record}
 use Rattle.format.specs.declared.block.Inner.{Inner}
 use Rattle.format.specs.declared.block.Inner.TheVariants.{Plain, Opened, Refused, TooDeep}
 use Rattle.format.specs.declared.row.Row.{Row}
+use Rattle.format.specs.declared.refusal.Reason.TheVariants.{OutlineLength, OutlineRow}
 use Rattle.format.specs.Bytes.{Bytes, big_endian, to_bytes, bit}
 use Rattle.format.specs.Outcome.{Outcome, accepted, need, ◌>>=◌, ◌>>◌}
 use Rattle.format.specs.Block.{is_streamed, is_compressed, has_checksum, least_header}
@@ -120,7 +121,7 @@ is_row most r = nat_le (suc r.ordinal) most_blocks && nat_le least_header r.head
 unfoldable pub stored_from : ℕ → ℕ → ℕ → Bytes → Outcome (List Row)
 stored_from zero n most b = accepted []
 stored_from (suc k) n most b = do
-  need (is_row most (decode_row (take row_bytes b))) 24 n
+  need (is_row most (decode_row (take row_bytes b))) OutlineRow n
   rs ← stored_from k (n + row_bytes) ((decode_row (take row_bytes b)).depth + 1) (drop row_bytes b)
   accepted (decode_row (take row_bytes b) ∷ rs)
 
@@ -128,7 +129,7 @@ stored_from (suc k) n most b = do
 -- before it.
 unfoldable pub stored : Bytes → Outcome (List Row)
 stored b = do
-  need (length b % row_bytes == 0) 23 0
+  need (length b % row_bytes == 0) OutlineLength 0
   stored_from (length b / row_bytes) 0 0 b
 
 -- How many rows the stored outline `b` has.
@@ -141,7 +142,7 @@ stored_count b = do
 unfoldable pub stored_at : Bytes → ℕ → Outcome (Option Row)
 stored_at b k = do
   rs ← stored b
-  accepted (get_elem? rs k)
+  accepted (slice_get rs k)
 
 -- The stored outline `b`, written again from its rows.
 unfoldable pub rewritten : Bytes → Outcome Bytes

@@ -1,13 +1,10 @@
 -- What the functions promise: the writers, the edit, the writer of a listing, and the exported functions.
-use Rattle.std.specs.Prelude.{◌≡◌, ℕ, ◌+◌, ◌-◌, ◌<◌, ◌≤◌, true, length, take, drop, replicate}
+use Rattle.std.specs.Prelude.{◌≡◌, Some, ℕ, ◌+◌, ◌-◌, ◌<◌, ◌≤◌, true, length, take, drop, replicate}
+use Rattle.std.specs.Prelude.{Some}
 use Rattle.std.proofs.Math.Seq.{slice}
-use Rattle.format.specs.declared.answer.CountAnswer.{CountAnswer}
-use Rattle.format.specs.declared.answer.CountAnswer.TheVariants.{Counted}
-use Rattle.format.specs.declared.answer.EditAnswer.{EditAnswer}
-use Rattle.format.specs.declared.answer.EditAnswer.TheVariants as EditAnswer·is
+use Rattle.format.specs.declared.refusal.Reason.TheVariants.{BufferTooShort}
 use Rattle.format.specs.Bytes.{Bytes}
 use Rattle.format.specs.Outcome.{Outcome, accepted, need, ◌>>◌}
-use Rattle.format.specs.Answer.{count_answer, edit_answer}
 use Rattle.format.specs.Lent.{writes, leaves, both_fit, put_if}
 use Rattle.format.specs.Tree.{tree_at}
 use Rattle.format.specs.File.{File, file}
@@ -20,26 +17,26 @@ use Rattle.format.specs.Export.{least_refusal, word, said}
 
 -- `r` is the answer of a writer that has `result` to write and was lent a buffer. `before` is what the buffer held, and
 -- `after` is what the writer left there.
-pub record Written (result : Outcome Bytes) (before after : Bytes) (r : CountAnswer) : Type 0 where
-  pub answer : count_answer r ≡ writes result before
+pub record Written (result : Outcome Bytes) (before after : Bytes) (r : Outcome ℕ) : Type 0 where
+  pub answer : r ≡ writes result before
   pub buffer : after ≡ leaves result before
 
 -- The same for the outline of the file `s`. What was written is accepted as a stored outline and reads back to the rows
 -- of the file.
-pub record OutlineWritten (s before after : Bytes) (r : CountAnswer) : Type 0 where
+pub record OutlineWritten (s before after : Bytes) (r : Outcome ℕ) : Type 0 where
   pub written : Written (Outline.outline s) before after r
-  pub reads_back : (n : ℕ) → r ≡ Counted n → Outline.stored (take n after) ≡ Outline.rows s
+  pub reads_back : (n : ℕ) → r ≡ accepted n → Outline.stored (take n after) ≡ Outline.rows s
 
 -- The same for the stored outline `b`: what is written from its rows is `b` again.
-pub record WrittenAgain (b before after : Bytes) (r : CountAnswer) : Type 0 where
+pub record WrittenAgain (b before after : Bytes) (r : Outcome ℕ) : Type 0 where
   pub written : Written (Outline.rewritten b) before after r
-  pub same : (n : ℕ) → r ≡ Counted n → take n after ≡ b
+  pub same : (n : ℕ) → r ≡ accepted n → take n after ≡ b
 
 -- The same for the index of the file `s`. What was written is a good index of the file and has at most 809 bytes.
-pub record IndexWritten (s before after : Bytes) (r : CountAnswer) : Type 0 where
+pub record IndexWritten (s before after : Bytes) (r : Outcome ℕ) : Type 0 where
   pub written : Written (index_for s) before after r
-  pub good : (n : ℕ) → r ≡ Counted n → GoodAfter s (take n after)
-  pub short : (n : ℕ) → r ≡ Counted n → n ≤ most_index
+  pub good : (n : ℕ) → r ≡ accepted n → GoodAfter s (take n after)
+  pub short : (n : ℕ) → r ≡ accepted n → n ≤ most_index
 
 -- The file `s` can be edited to the text `t`.
 pub record Editable (s t : Bytes) : Type 0 where
@@ -86,34 +83,34 @@ pub record Edited (s t u : Bytes) : Type 0 where
   pub outline : Outline.outline u ≡ Outline.outline s
 
 -- `r` is the answer of the edit of the file `s` to the text `t`, and `after` is what the file holds then.
-pub record Done (s t after : Bytes) (r : EditAnswer) : Type 0 where
+pub record Done (s t after : Bytes) (r : Outcome (Unit {0})) : Type 0 where
   -- The answer is the defined one. If it is a refusal, so are its number and place.
-  pub answer : edit_answer r ≡ ◌>>◌ (edit s t) (accepted tt)
+  pub answer : r ≡ ◌>>◌ (edit s t) (accepted tt)
   -- The bytes are the defined ones. If the answer is a refusal, they are those of `s`.
   pub bytes : after ≡ edit_leaves s (edit s t)
   -- The edit is accepted exactly if the file can be edited to the text.
-  pub accepts : Editable s t → r ≡ EditAnswer·is.Edited
-  pub only : r ≡ EditAnswer·is.Edited → Editable s t
+  pub accepts : Editable s t → r ≡ accepted tt
+  pub only : r ≡ accepted tt → Editable s t
   -- If it is accepted, the tree is the text and all else is the same.
-  pub edited : r ≡ EditAnswer·is.Edited → Edited s t after
+  pub edited : r ≡ accepted tt → Edited s t after
 
 -- The outline `b` and the text `t` are put at the start of two buffers if both fit. Otherwise neither buffer changes.
 -- `rows` and `out` are the buffers before, and `rows_after` and `out_after` are the same buffers afterwards. `r` is the
 -- answer.
-pub record BothPut (b t rows out rows_after out_after : Bytes) (r : CountAnswer) : Type 0 where
-  pub answer : count_answer r ≡ ◌>>◌ (need (both_fit b t rows out) 21 0) (accepted (length t))
+pub record BothPut (b t rows out rows_after out_after : Bytes) (r : Outcome ℕ) : Type 0 where
+  pub answer : r ≡ ◌>>◌ (need (both_fit b t rows out) BufferTooShort 0) (accepted (length t))
   pub outline_put : rows_after ≡ put_if (both_fit b t rows out) rows b
   pub text_put : out_after ≡ put_if (both_fit b t rows out) out t
 
 -- `r` is the answer of the writer of a listing for the bytes `s`, with its two buffers before and after. Buffers as
 -- long as those that the program lends are always long enough.
-pub record Listed (s rows out rows_after out_after : Bytes) (r : CountAnswer) : Type 0 where
+pub record Listed (s rows out rows_after out_after : Bytes) (r : Outcome ℕ) : Type 0 where
   pub put : BothPut (outline_for s) (listing s) rows out rows_after out_after r
-  pub enough : lent_bytes ≤ length rows → lent_bytes ≤ length out → count_answer r ≡ accepted (length (listing s))
+  pub enough : lent_bytes ≤ length rows → lent_bytes ≤ length out → r ≡ accepted (length (listing s))
 
 -- The same with buffers as long as the program's. The first `n` bytes of the second buffer are then the listing.
 pub record ListedLent (s rows out rows_after out_after : Bytes) (n : ℕ) : Type 0 where
-  pub listed : Listed s rows out rows_after out_after (Counted n)
+  pub listed : Listed s rows out rows_after out_after (accepted n)
   pub inside : n ≤ length out_after
   pub size : n ≡ length (take n out_after)
   pub text : take n out_after ≡ listing s
@@ -122,7 +119,7 @@ pub record ListedLent (s rows out rows_after out_after : Bytes) (n : ℕ) : Type
 -- than 2^56, `r` stands for no other answer.
 pub record Returned (answer : Outcome ℕ) (lent r : ℕ) : Type 0 where
   pub is : r ≡ word answer
-  pub says : lent < least_refusal → said r ≡ answer
+  pub says : lent < least_refusal → said r ≡ Some answer
 
 -- `r` is returned by a writer that has `result` to write. It was lent the bytes `s` to read, and a buffer. `before` is
 -- what the buffer held, and `after` is what the writer left there.

@@ -1,8 +1,9 @@
 -- The tree, and the free space after it.
 use Rattle.std.specs.Prelude.{ℕ, suc, ◌+◌, Bool, true, false, ◌||◌, [], ◌∷◌, drop}
-use Rattle.std.proofs.Math.Option.{Option, none, some}
+use Rattle.std.specs.Prelude.{Option, None, Some}
 use Rattle.format.specs.declared.layout.Tree.{Tree}
 use Rattle.format.specs.declared.layout.Tree.TheVariants.{NoTree, Found}
+use Rattle.format.specs.declared.refusal.Reason.TheVariants.{WrongLineBeforeStart, SecondStartLine, TreeNotEnded}
 use Rattle.format.specs.Bytes.{Bytes, text, begins, same}
 use Rattle.format.specs.Outcome.{Outcome, accepted, refused, refusal, ◌>>=◌}
 use Rattle.format.specs.Line.{Lines, unended, line, after_line, lines}
@@ -25,27 +26,27 @@ is_directive t = begins (text "%") t || begins (text "#") t
 
 -- Where the tree ends, read from the lines after its start line. These begin at offset `n`.
 unfoldable pub content : ℕ → Lines → Outcome ℕ
-content n (unended t) = refused (refusal 10 n)
+content n (unended t) = refused (refusal TreeNotEnded n)
 content n (line t e l) =
     elim (same t end_line) [
       | true ↦ accepted (after_line n t e)
-      | false ↦ elim (is_start t) [ true ↦ refused (refusal 9 n) | false ↦ content (after_line n t e) l ]
+      | false ↦ elim (is_start t) [ true ↦ refused (refusal SecondStartLine n) | false ↦ content (after_line n t e) l ]
     ]
 
 -- Where the tree ends, read from the lines after its first line. These begin at offset `n`.
 unfoldable pub directives : ℕ → Lines → Outcome ℕ
-directives n (unended t) = refused (refusal 10 n)
+directives n (unended t) = refused (refusal TreeNotEnded n)
 directives n (line t e l) =
     elim (is_start t) [
       | true ↦ content (after_line n t e) l
-      | false ↦ elim (is_directive t) [ true ↦ directives (after_line n t e) l | false ↦ refused (refusal 8 n) ]
+      | false ↦ elim (is_directive t) [ true ↦ directives (after_line n t e) l | false ↦ refused (refusal WrongLineBeforeStart n) ]
     ]
 
--- Where the tree that begins at offset `n` ends, or `none` if there is no tree. The lines begin at `n`.
+-- Where the tree that begins at offset `n` ends, or `None` if there is no tree. The lines begin at `n`.
 unfoldable pub tree_end : ℕ → Lines → Outcome (Option ℕ)
-tree_end n (unended t) = accepted none
+tree_end n (unended t) = accepted None
 tree_end n (line t e l) =
-    elim (same t yaml_line) [ true ↦ do m ← directives (after_line n t e) l; accepted (some m) | false ↦ accepted none ]
+    elim (same t yaml_line) [ true ↦ do m ← directives (after_line n t e) l; accepted (Some m) | false ↦ accepted None ]
 
 -- The mark: the first four bytes of a block.
 abbrev pub mark : Bytes
@@ -60,11 +61,11 @@ free_space (b ∷ s) = elim (begins mark (b ∷ s)) [ true ↦ 0 | false ↦ suc
 abbrev pub tree_at : ℕ → ℕ → ℕ → Tree
 tree_at n e m = Found (record { 0 = n }) (record { 0 = e }) (record { 0 = m })
 
--- The tree of the file `s` from offset `n` to the offset that is given, with its room. `none` means that no tree begins
+-- The tree of the file `s` from offset `n` to the offset that is given, with its room. `None` means that no tree begins
 -- at `n`.
 unfoldable pub with_room : ℕ → Bytes → Option ℕ → Tree
-with_room n s none = NoTree
-with_room n s (some m) = Found (record { 0 = n }) (record { 0 = m }) (record { 0 = m + free_space (drop m s) })
+with_room n s None = NoTree
+with_room n s (Some m) = Found (record { 0 = n }) (record { 0 = m }) (record { 0 = m + free_space (drop m s) })
 
 -- What begins at offset `n` of the file `s`: no tree, or a tree that ends.
 unfoldable pub tree : ℕ → Bytes → Outcome Tree

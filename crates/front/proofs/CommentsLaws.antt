@@ -6,6 +6,7 @@ use mathlib.Core.Bool.{Bool, true, false}
 use lib.ListN.{take, drop}
 use Rattle.format.specs.declared.refusal.Refusal.{Refusal}
 use Rattle.format.specs.declared.line.LineEnd.{LineEnd}
+use Rattle.format.specs.declared.refusal.Reason.TheVariants.{CommentNotEnded, IndexAmongComments}
 use Rattle.format.specs.Bytes.{Bytes, text, begins, same}
 use Rattle.format.specs.Outcome.{Outcome, refused, refusal}
 use Rattle.format.specs.Line.{lines}
@@ -26,7 +27,7 @@ module _ (s : Bytes) (at : ℕ) (x : Outcome ℕ) (left : comments at (lines (dr
 
   module _ (p : b ≡ true) (r : Line) (read : LineRead s at r) where
     -- If a comment begins at `at` and its line does not end, then the comments are refused with number 5 at place `at`.
-    pub comments_unended : (y : Refusal) → r ≡ Unended → y ≡ refusal 5 at → end_outcome (Refused y) ≡ x
+    pub comments_unended : (y : Refusal) → r ≡ Unended → y ≡ refusal CommentNotEnded at → end_outcome (Refused y) ≡ x
     unfolding end_outcome comments
     comments_unended y e q = ap refused q ∙ rw (unended_lines s at r read e, comments, sym h ∙ p) at left
 
@@ -40,7 +41,7 @@ module _ (s : Bytes) (at : ℕ) (x : Outcome ℕ) (left : comments at (lines (dr
       hash = first_byte 35 s at _ next ending first refl refl ∙ sym h ∙ p
 
       -- If the line is the first line of an index, then the comments are refused with number 6 at place `at`.
-      pub comments_index : (y : Refusal) → d ≡ true → y ≡ refusal 6 at → end_outcome (Refused y) ≡ x
+      pub comments_index : (y : Refusal) → d ≡ true → y ≡ refusal IndexAmongComments at → end_outcome (Refused y) ≡ x
       unfolding end_outcome comments
       comments_index y z q = ap refused q ∙ rw (first.cut, comments, hash, sym k ∙ z) at left
 

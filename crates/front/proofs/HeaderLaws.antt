@@ -4,7 +4,7 @@ use native.Mathlib.Omega.{arith}
 use mathlib.Core.Path.{◌≡◌, refl, sym, ap, ◌∙◌}
 use mathlib.Core.Bool.{Bool, true, false, not, and-false}
 use mathlib.Core.List.{List, [], ◌∷◌, ◌++◌}
-use mathlib.Core.Option.{Option, none, some}
+use Rattle.std.specs.Prelude.{Option, None, Some}
 use lib.ListN.{length, take, drop}
 use mir.Syntax.{w16}
 use mir.Val.{Fits}
@@ -14,6 +14,7 @@ use Rattle.std.proofs.Math.Seq.{slice}
 use Rattle.format.specs.declared.refusal.Refusal.{Refusal}
 use Rattle.format.specs.declared.layout.Version.{Version}
 use Rattle.format.specs.declared.line.LineEnd.{LineEnd}
+use Rattle.format.specs.declared.refusal.Reason.TheVariants.{NotAsdf, VersionMalformed, VersionNotOne}
 use Rattle.format.specs.Bytes.{Bytes, begins}
 use Rattle.format.specs.Outcome.{refused, refusal}
 use Rattle.format.specs.Line.{lines}
@@ -36,15 +37,15 @@ use Rattle.scan.proofs.SplitLaws.{others, split_found, others_none, others_some}
 
 -- If there are numbers, then there are `n` of them.
 abbrev Counts : ℕ → Option (List ℕ) → Type 0
-Counts n none = Unit {0}
-Counts n (some xs) = length xs ≡ n
+Counts n None = Unit {0}
+Counts n (Some xs) = length xs ≡ n
 
 -- If there are `n` numbers, then with one more there are `n + 1`.
 counts_more : (a : Option ℕ) (o : Option (List ℕ)) (n : ℕ) → Counts n o → Counts (suc n) (both a o)
 unfolding both
-counts_more none o n h = tt
-counts_more (some x) none n h = tt
-counts_more (some x) (some xs) n h = ap suc h
+counts_more None o n h = tt
+counts_more (Some x) None n h = tt
+counts_more (Some x) (Some xs) n h = ap suc h
 
 -- There are as many numbers as parts.
 numbers_count : (ps : List Bytes) → Counts (length ps) (numerals 4 ps)
@@ -53,26 +54,26 @@ numbers_count [] = refl
 numbers_count (p ∷ ps) = counts_more (numeral 4 p) (numerals 4 ps) (length ps) (numbers_count ps)
 
 -- If there are not exactly three parts, then they are no version.
-not_three : (ps : List Bytes) → (length ps ≡ 3 → ⊥) → Header.version_of (numerals 4 ps) ≡ none
+not_three : (ps : List Bytes) → (length ps ≡ 3 → ⊥) → Header.version_of (numerals 4 ps) ≡ None
 unfolding Header.version_of
 not_three ps n = go (numerals 4 ps) (numbers_count ps)
   where
-    go : (o : Option (List ℕ)) → Counts (length ps) o → Header.version_of o ≡ none
-    go none h = refl
-    go (some []) h = refl
-    go (some (x ∷ [])) h = refl
-    go (some (x ∷ y ∷ [])) h = refl
-    go (some (x ∷ y ∷ z ∷ [])) h = absurd (n (sym h))
-    go (some (x ∷ y ∷ z ∷ w ∷ r)) h = refl
+    go : (o : Option (List ℕ)) → Counts (length ps) o → Header.version_of o ≡ None
+    go None h = refl
+    go (Some []) h = refl
+    go (Some (x ∷ [])) h = refl
+    go (Some (x ∷ y ∷ [])) h = refl
+    go (Some (x ∷ y ∷ z ∷ [])) h = absurd (n (sym h))
+    go (Some (x ∷ y ∷ z ∷ w ∷ r)) h = refl
 
 -- If the other parts give no numbers, then all parts together give none.
-both_none : (a : Option ℕ) → both a none ≡ none
+both_none : (a : Option ℕ) → both a None ≡ None
 unfolding both
-both_none none = refl
-both_none (some x) = refl
+both_none None = refl
+both_none (Some x) = refl
 
 -- A text that contains a point is no number.
-point_none : (p s : Bytes) → numeral 4 (p ++ (46 ∷ s)) ≡ none
+point_none : (p s : Bytes) → numeral 4 (p ++ (46 ∷ s)) ≡ None
 unfolding numeral
 point_none p s =
     let other : is_numeral 4 (p ++ (46 ∷ s)) ≡ false = simp (digits_append, and-false) in
@@ -148,7 +149,7 @@ module _ (t : Bytes) (first : ℕ) (f : first ≡ 0 + index_of 46 (slice 0 (leng
 
 module _ (s : Bytes) (b : Bool) (h : b ≡ begins Header.token s) where
   -- If the file does not begin with the token, then it is refused with number 2 at place 0.
-  pub header_token : (y : Refusal) → not b ≡ true → y ≡ refusal 2 0 → header_outcome (Refused y) ≡ Header.header s
+  pub header_token : (y : Refusal) → not b ≡ true → y ≡ refusal NotAsdf 0 → header_outcome (Refused y) ≡ Header.header s
   unfolding header_outcome Header.header
   header_token y p q = rw (← h, not-true b p) (ap refused q)
 
@@ -159,7 +160,7 @@ module _ (s : Bytes) (b : Bool) (h : b ≡ begins Header.token s) where
     header_line = rw (← h, not-false b p)
 
     -- If that line does not end, then the header is refused with number 3 at place 6.
-    pub header_unended : (y : Refusal) → r ≡ Unended → y ≡ refusal 3 6 → header_outcome (Refused y) ≡ Header.header s
+    pub header_unended : (y : Refusal) → r ≡ Unended → y ≡ refusal VersionMalformed 6 → header_outcome (Refused y) ≡ Header.header s
     unfolding header_outcome Header.version_line
     header_unended y e q = rw (header_line, unended_lines s 6 r read e) (ap refused q)
 
@@ -172,13 +173,13 @@ module _ (s : Bytes) (b : Bool) (h : b ≡ begins Header.token s) where
           header_line ∙ rw (first.cut, k, ← first.next_is)
 
       -- If the line is no version, then the header is refused with number 3 at place 6.
-      pub header_malformed : (y : Refusal) → v ≡ VersionStep·is.Malformed → y ≡ refusal 3 6 → header_outcome (Refused y) ≡ Header.header s
+      pub header_malformed : (y : Refusal) → v ≡ VersionStep·is.Malformed → y ≡ refusal VersionMalformed 6 → header_outcome (Refused y) ≡ Header.header s
       unfolding header_outcome Header.header_of version_found
       header_malformed y d q = rw (header_version, d) (ap refused q)
 
       module _ (w : Version) (d : v ≡ VersionStep·is.Read w) where
         -- If the first number of the version is not 1, then the header is refused with number 4 at place 6.
-        pub header_other : (y : Refusal) → (w.major ≡ 1 → ⊥) → y ≡ refusal 4 6 → header_outcome (Refused y) ≡ Header.header s
+        pub header_other : (y : Refusal) → (w.major ≡ 1 → ⊥) → y ≡ refusal VersionNotOne 6 → header_outcome (Refused y) ≡ Header.header s
         unfolding header_outcome Header.header_of version_found
         header_other y n q = rw (header_version, d, ne_eqb w.major 1 n) (ap refused q)
 

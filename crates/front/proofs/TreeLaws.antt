@@ -3,13 +3,14 @@
 use Prim.Native.Nat.{ℕ, ◌-◌}
 use mathlib.Core.Path.{◌≡◌, refl, sym, ap, ◌∙◌}
 use mathlib.Core.Bool.{Bool, true, false, ◌||◌, not}
-use mathlib.Core.Option.{none, some}
+use Rattle.std.specs.Prelude.{None, Some}
 use lib.ListN.{length, take, drop}
 use lib.Dec.{eqb}
 use borrow.Author.Tests.{not-true, not-false}
 use Rattle.format.specs.declared.refusal.Refusal.{Refusal}
 use Rattle.format.specs.declared.layout.Tree.TheVariants.{NoTree, Found}
 use Rattle.format.specs.declared.line.LineEnd.{LineEnd}
+use Rattle.format.specs.declared.refusal.Reason.TheVariants.{WrongLineBeforeStart, SecondStartLine, TreeNotEnded}
 use Rattle.format.specs.Bytes.{Bytes, same}
 use Rattle.format.specs.Outcome.{Outcome, accepted, refused, refusal, ◌>>=◌}
 use Rattle.format.specs.Line.{Lines, unended, line, lines}
@@ -39,12 +40,12 @@ module _ (a b x : Bool) (h : x ≡ a) where
 
 module _ (s : Bytes) (at : ℕ) (r : Line) (read : LineRead s at r) (x : Outcome ℕ) where
   -- If no line is left after the start line to end the tree, then the tree is refused with number 10 at place `at`.
-  pub content_unended : content at (lines (drop at s)) ≡ x → (y : Refusal) → r ≡ Unended → y ≡ refusal 10 at → end_outcome (End.Refused y) ≡ x
+  pub content_unended : content at (lines (drop at s)) ≡ x → (y : Refusal) → r ≡ Unended → y ≡ refusal TreeNotEnded at → end_outcome (End.Refused y) ≡ x
   unfolding end_outcome content
   content_unended left y e q = ap refused q ∙ rw (unended_lines s at r read e) at left
 
   -- If no line is left before a start line is found, then the tree is refused with number 10 at place `at`.
-  pub directives_unended : directives at (lines (drop at s)) ≡ x → (y : Refusal) → r ≡ Unended → y ≡ refusal 10 at → end_outcome (End.Refused y) ≡ x
+  pub directives_unended : directives at (lines (drop at s)) ≡ x → (y : Refusal) → r ≡ Unended → y ≡ refusal TreeNotEnded at → end_outcome (End.Refused y) ≡ x
   unfolding end_outcome directives
   directives_unended left y e q = ap refused q ∙ rw (unended_lines s at r read e) at left
 
@@ -61,7 +62,7 @@ module _ (s : Bytes) (at : ℕ) (r : Line) (read : LineRead s at r) (x : Outcome
 
       module _ (p : b ≡ false) (d : Bool) (k : d ≡ is_start (take (m - at) (drop at s))) where
         -- If the line would start a second tree, then the tree is refused with number 9 at place `at`.
-        pub content_start_lem : (y : Refusal) → d ≡ true → y ≡ refusal 9 at → end_outcome (End.Refused y) ≡ x
+        pub content_start_lem : (y : Refusal) → d ≡ true → y ≡ refusal SecondStartLine at → end_outcome (End.Refused y) ≡ x
         unfolding end_outcome content
         content_start_lem y z q = ap refused q ∙ rw (first.cut, content, sym h ∙ p, sym k ∙ z) at left
 
@@ -78,7 +79,7 @@ module _ (s : Bytes) (at : ℕ) (r : Line) (read : LineRead s at r) (x : Outcome
 
       module _ (p : b ≡ false) (d : Bool) (k : d ≡ is_directive (take (m - at) (drop at s))) where
         -- If the line is neither a start line nor a directive, then the tree is refused with number 8 at place `at`.
-        pub directives_other : (y : Refusal) → not d ≡ true → y ≡ refusal 8 at → end_outcome (End.Refused y) ≡ x
+        pub directives_other : (y : Refusal) → not d ≡ true → y ≡ refusal WrongLineBeforeStart at → end_outcome (End.Refused y) ≡ x
         unfolding end_outcome directives
         directives_other y z q = ap refused q ∙ rw (first.cut, directives, sym h ∙ p, sym k ∙ not-true d z) at left
 
@@ -89,11 +90,11 @@ module _ (s : Bytes) (at : ℕ) (r : Line) (read : LineRead s at r) (x : Outcome
 
 module _ (s : Bytes) (at : ℕ) (r : Exact) (read : ExactRead s yaml_line at r) where
   -- If the first line is not that of a tree, then there is no tree to end.
-  no_end : r ≡ Other → tree_end at (lines (drop at s)) ≡ accepted none
+  no_end : r ≡ Other → tree_end at (lines (drop at s)) ≡ accepted None
   unfolding tree_end
   no_end p = go (lines (drop at s)) refl
     where
-      go : (l : Lines) → lines (drop at s) ≡ l → tree_end at l ≡ accepted none
+      go : (l : Lines) → lines (drop at s) ≡ l → tree_end at l ≡ accepted None
       go (unended t) h = refl
       go (line t e l) h = rw (other_text s yaml_line at r read t e l p h, tree_end)
 
@@ -104,7 +105,7 @@ module _ (s : Bytes) (at : ℕ) (r : Exact) (read : ExactRead s yaml_line at r) 
 
   module _ (next : ℕ) (ending : LineEnd) (p : r ≡ After next ending) (z : EndStep) (h : end_outcome z ≡ directives next (lines (drop next s))) where
     -- The walk over the lines after the first states where the tree ends, or its refusal.
-    tree_end_lem : tree_end at (lines (drop at s)) ≡ (do m ← end_outcome z; accepted (some m))
+    tree_end_lem : tree_end at (lines (drop at s)) ≡ (do m ← end_outcome z; accepted (Some m))
     unfolding tree_end
     tree_end_lem =
         let first = after_first s yaml_line at r read next ending p in

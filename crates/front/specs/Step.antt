@@ -1,6 +1,6 @@
 -- The answers of the readers of the front, as outcomes.
 use Rattle.std.specs.Prelude.{ℕ}
-use Rattle.std.proofs.Math.Option.{Option, none, some}
+use Rattle.std.specs.Prelude.{Option, None, Some}
 use Rattle.format.specs.Outcome.{Outcome, accepted, refused}
 use Rattle.format.specs.declared.layout.Version.{Version}
 use Rattle.format.specs.declared.layout.Header.{Header}
@@ -16,8 +16,8 @@ use Rattle.front.specs.declared.step.TreeStep.TheVariants as TreeStep·is
 
 -- The version that was read, or none if it is malformed.
 unfoldable pub version_found : VersionStep → Option Version
-version_found (VersionStep·is.Read v) = some v
-version_found VersionStep·is.Malformed = none
+version_found (VersionStep·is.Read v) = Some v
+version_found VersionStep·is.Malformed = None
 
 -- The header that was read, or its refusal.
 unfoldable pub header_outcome : HeaderStep → Outcome Header

@@ -4,7 +4,7 @@ use native.Mathlib.Omega.{arith}
 use mathlib.Core.Path.{◌≡◌, refl, sym, ap, ◌∙◌}
 use mathlib.Core.Bool.{Bool, true, false, ◌&&◌, not}
 use mathlib.Core.List.{List, [], ◌∷◌, ◌++◌, reverse-append, reverse-reverse}
-use mathlib.Core.Option.{Option, none, some}
+use Rattle.std.specs.Prelude.{Option, None, Some}
 use lib.ListN.{length, take, drop, get_or, drop_of_length-le, length-take, length-drop}
 use lib.Seq.{length-take-le, take-add, drop_at, drop-drop}
 use lib.Dec.{eqb}
@@ -21,14 +21,14 @@ abbrev opening : Bytes
 opening = text "--- ["
 
 -- If `s` begins with `p`, then `without p s` is all of `s` except `p`. Otherwise it is none.
-pub without_begins : (p s : Bytes) → without p s ≡ elim (begins p s) [ true ↦ some (drop (length p) s) | false ↦ none ]
+pub without_begins : (p s : Bytes) → without p s ≡ elim (begins p s) [ true ↦ Some (drop (length p) s) | false ↦ None ]
 unfolding without
 without_begins [] s = refl
 without_begins (a ∷ p) [] = refl
 without_begins (a ∷ p) (b ∷ s) = go (eqb a b) refl (without_begins p s)
   where
-    go : (x : Bool) → eqb a b ≡ x → without p s ≡ elim (begins p s) [ true ↦ some (drop (length p) s) | false ↦ none ]
-        → without (a ∷ p) (b ∷ s) ≡ elim (x && begins p s) [ true ↦ some (drop (length p) s) | false ↦ none ]
+    go : (x : Bool) → eqb a b ≡ x → without p s ≡ elim (begins p s) [ true ↦ Some (drop (length p) s) | false ↦ None ]
+        → without (a ∷ p) (b ∷ s) ≡ elim (x && begins p s) [ true ↦ Some (drop (length p) s) | false ↦ None ]
     go true e i = rw (e, without) i
     go false e i = rw (e, without)
 
@@ -41,29 +41,29 @@ begins_take (a ∷ p) (b ∷ s) (suc n) h = ap (λ (x : Bool). eqb a b && x) (be
 
 module _ (c : Bytes) where
   -- If no bracket opens, then nothing is in brackets.
-  none_opens : begins opening c ≡ false → in_brackets c ≡ none
+  none_opens : begins opening c ≡ false → in_brackets c ≡ None
   unfolding in_brackets
   none_opens h = rw (without_begins opening c, h, in_brackets)
 
   -- If a bracket opens and no byte follows it, then nothing is in brackets.
-  opens_alone : begins opening c ≡ true → length c < 6 → in_brackets c ≡ none
+  opens_alone : begins opening c ≡ true → length c < 6 → in_brackets c ≡ None
   unfolding in_brackets without
   opens_alone h k = let all : length c ≤ 5 = omega arith in rw (without_begins opening c, h, drop_of_length-le c all, in_brackets)
 
   module _ (u : Bytes) (b : ℕ) (h : begins opening c ≡ true) (last : drop 5 c ≡ u ++ (b ∷ [])) where
     -- If a bracket opens and the last byte does not close it, then nothing is in brackets.
-    none_closes : (b ≡ 93 → ⊥) → in_brackets c ≡ none
+    none_closes : (b ≡ 93 → ⊥) → in_brackets c ≡ None
     unfolding in_brackets without
     none_closes n = rw (without_begins opening c, h, last, reverse-append u (b ∷ []), ne_eqb 93 b (λ e. n (sym e)), in_brackets, without)
 
     -- If a bracket opens and the last byte closes it, then `u` is between the brackets.
-    closes : b ≡ 93 → in_brackets c ≡ some u
+    closes : b ≡ 93 → in_brackets c ≡ Some u
     unfolding in_brackets without
     closes e =
-        rw (without_begins opening c, h, last, reverse-append u (b ∷ []), eq-eqb 93 b (sym e), in_brackets, without) (ap some (reverse-reverse u))
+        rw (without_begins opening c, h, last, reverse-append u (b ∷ []), eq-eqb 93 b (sym e), in_brackets, without) (ap Some (reverse-reverse u))
 
 -- If there are no numbers, then the answer is `Nowhere`.
-pub nowhere : (t : Bytes) (numbers : Option (List ℕ)) → numbers ≡ none → ListRead t numbers Nowhere
+pub nowhere : (t : Bytes) (numbers : Option (List ℕ)) → numbers ≡ None → ListRead t numbers Nowhere
 nowhere t numbers h = record { is = h; inside = tt }
 
 -- `r` is the answer for the line from one offset of `t` to another.
@@ -72,7 +72,7 @@ BracketsRead t from to r = ListRead t (listed (in_brackets (take (to - from) (dr
 
 module _ (t : Bytes) (from to : ℕ) where
   -- If a line lacks a bracket, then it has no list.
-  unbracketed : in_brackets (take (to - from) (drop from t)) ≡ none → BracketsRead t from to Nowhere
+  unbracketed : in_brackets (take (to - from) (drop from t)) ≡ None → BracketsRead t from to Nowhere
   unfolding listed
   unbracketed h = nowhere t _ (ap listed h)
 
@@ -80,7 +80,7 @@ module _ (t : Bytes) (from to : ℕ) where
   pub brackets_short : to - from < 6 → BracketsRead t from to Nowhere
   brackets_short h = unbracketed (go (begins opening (take (to - from) (drop from t))) refl)
     where
-      go : (x : Bool) → begins opening (take (to - from) (drop from t)) ≡ x → in_brackets (take (to - from) (drop from t)) ≡ none
+      go : (x : Bool) → begins opening (take (to - from) (drop from t)) ≡ x → in_brackets (take (to - from) (drop from t)) ≡ None
       go true e = opens_alone _ e (omega (arith, length-take (to - from) (drop from t)))
       go false e = none_opens _ e
 

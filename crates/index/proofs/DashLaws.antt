@@ -5,7 +5,7 @@ use native.Mathlib.Omega.{arith}
 use mathlib.Core.Path.{◌≡◌, refl, sym, ap, ◌∙◌}
 use mathlib.Core.Bool.{Bool, true, false, ◌&&◌, not, and-false}
 use mathlib.Core.List.{List, []}
-use mathlib.Core.Option.{Option, none, some}
+use Rattle.std.specs.Prelude.{Option, None, Some}
 use lib.ListN.{length, take, drop}
 use lib.Dec.{eqb, ltb}
 use borrow.Author.Tests.{lt-ltb, not-true, not-false}
@@ -73,7 +73,7 @@ unfolding after_others
 dashes_begin offsets o = judged_begin offsets (at_least_one o)
 
 -- If no numbers can be read, then none can be read after `k` others either.
-others_none : (k : ℕ) → after_others k none ≡ none
+others_none : (k : ℕ) → after_others k None ≡ None
 unfolding after_others at_least_one
 others_none zero = refl
 others_none (suc k) = refl
@@ -82,9 +82,9 @@ others_none (suc k) = refl
 others_both : (k : ℕ) (x : Option ℕ) (o : Option (List ℕ)) → after_others k (both x o) ≡ both x o
 unfolding after_others at_least_one both
 others_both (suc k) x o = refl
-others_both zero none o = refl
-others_both zero (some x) none = refl
-others_both zero (some x) (some ns) = refl
+others_both zero None o = refl
+others_both zero (Some x) None = refl
+others_both zero (Some x) (Some ns) = refl
 
 -- After one more number, no further number is needed.
 others_more : (k : ℕ) (o : Option (List ℕ)) → after_others (k + 1) o ≡ o
@@ -94,7 +94,7 @@ others_more k o = rw (add-one k, after_others)
 -- If no number is left, then the form is right exactly if there were numbers and only zeros follow. The list is right
 -- exactly if the `k` numbers agree and there are `k` offsets.
 others_end : (equal : Bool) (k : ℕ) (offsets : List ℕ) (z : Bool) → (equal ≡ true → k ≤ length offsets)
-    → judged_from equal k offsets (after_others k (elim z [ true ↦ some [] | false ↦ none ])) ≡ judged_if (ltb 0 k && z) (equal && eqb (length offsets) k)
+    → judged_from equal k offsets (after_others k (elim z [ true ↦ Some [] | false ↦ None ])) ≡ judged_if (ltb 0 k && z) (equal && eqb (length offsets) k)
 unfolding judged_from after_others at_least_one
 others_end equal zero offsets true h = refl
 others_end equal zero offsets false h = refl
@@ -117,7 +117,7 @@ module _ (offsets : List ℕ) (t : Bytes) (at : ℕ) (c : Line) (read : LineRead
     lines_done h inside w d =
         d
         ∙ sym (others_end equal k offsets _ inside)
-        ∙ rw ((ended_first t at c read m next ending e).cut, dash_numbers, sym end ∙ h, with_zeros_lem (some []) (drop next t) _ (ap all_zero (part_all t next))) at left
+        ∙ rw ((ended_first t at c read m next ending e).cut, dash_numbers, sym end ∙ h, with_zeros_lem (Some []) (drop next t) _ (ap all_zero (part_all t next))) at left
 
     module _ (h : x ≡ false) (r : Number) (number : number_of r ≡ dashed (take (m - at) (drop at t))) where
       -- If the line is not the end line, then the numbers that are left are the number of the line and those after it.

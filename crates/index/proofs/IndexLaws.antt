@@ -3,7 +3,7 @@ use Prim.Native.Nat.{ℕ, ◌-◌, ◌≤◌}
 use mathlib.Core.Path.{◌≡◌, refl, sym, ap, ◌∙◌}
 use mathlib.Core.Bool.{Bool, true, false, not}
 use mathlib.Core.List.{List}
-use mathlib.Core.Option.{Option, none, some}
+use Rattle.std.specs.Prelude.{Option, None, Some}
 use lib.ListN.{length, take, drop}
 use borrow.Author.Tests.{not-true, not-false}
 use Rattle.format.specs.declared.layout.Verdict.{Verdict}
@@ -31,11 +31,11 @@ use Rattle.index.proofs.BracketLaws.{nowhere}
 
 module _ (t : Bytes) (at : ℕ) (word : Bytes) (r : Exact) (read : ExactRead t word at r) where
   -- If the line is not the word, then there are no numbers.
-  word_other : (f : Lines → Option (List ℕ)) → r ≡ Other → after_word word f (lines (drop at t)) ≡ none
+  word_other : (f : Lines → Option (List ℕ)) → r ≡ Other → after_word word f (lines (drop at t)) ≡ None
   unfolding after_word
   word_other f e = go (lines (drop at t)) refl
     where
-      go : (l : Lines) → lines (drop at t) ≡ l → after_word word f l ≡ none
+      go : (l : Lines) → lines (drop at t) ≡ l → after_word word f l ≡ None
       go (unended u) h = refl
       go (line u k l) h = rw (other_text t word at r read u k l e h, after_word)
 
@@ -53,12 +53,12 @@ zeros_unended : (z : Bytes) → all_zero z ≡ true → lines z ≡ unended z
 zeros_unended z h = lines_unended z (rw (all_zero_true z h) (lacks_replicate 10 0 (length z) refl))
 
 -- The numbers count exactly if all the bytes that are left are zero.
-pub with_zeros_lem : (o : Option (List ℕ)) (z : Bytes) (x : Bool) → x ≡ all_zero z → with_zeros o (lines z) ≡ elim x [ true ↦ o | false ↦ none ]
+pub with_zeros_lem : (o : Option (List ℕ)) (z : Bytes) (x : Bool) → x ≡ all_zero z → with_zeros o (lines z) ≡ elim x [ true ↦ o | false ↦ None ]
 unfolding with_zeros join_lines
 with_zeros_lem o z true h = rw (zeros_unended z (sym h), with_zeros, sym h)
 with_zeros_lem o z false h = go (lines z) refl
   where
-    go : (l : Lines) → lines z ≡ l → with_zeros o l ≡ none
+    go : (l : Lines) → lines z ≡ l → with_zeros o l ≡ None
     go (unended u) e = rw (ap all_zero (sym (ap join_lines e) ∙ join_lines_lem z) ∙ sym h, with_zeros)
     go (line u k l) e = refl
 
@@ -124,7 +124,7 @@ module _ (t : Bytes) (at : ℕ) (c : Line) (read : LineRead t at c) where
 
     module _ (h : x ≡ false) (z : Bool) (last : EndRead t next z) where
       -- Otherwise the numbers on the start line count only if the index ends after it.
-      start_after : styled (lines (drop at t)) ≡ elim z [ true ↦ numbers | false ↦ none ]
+      start_after : styled (lines (drop at t)) ≡ elim z [ true ↦ numbers | false ↦ None ]
       start_after = rw h at start_read ∙ last.is numbers
 
       -- If the index does not end after the start line, then the answer is `Nowhere`.
@@ -151,7 +151,7 @@ module _ (t : Bytes) (numbers : Option (List ℕ)) (r : ListStep) (read : ListRe
     between_end = (rw e at read.inside).1
 
     -- If the list is in brackets, then the verdict on its numbers is the verdict on the index.
-    pub verdict_between : (offsets : List ℕ) (v : Verdict) → v ≡ judged offsets (listed (some (take (to - from) (drop from t)))) → v ≡ judged offsets numbers
+    pub verdict_between : (offsets : List ℕ) (v : Verdict) → v ≡ judged offsets (listed (Some (take (to - from) (drop from t)))) → v ≡ judged offsets numbers
     verdict_between offsets v h = rw (read.is, e) h
 
   module _ (from : ℕ) (e : r ≡ Dashes from) where

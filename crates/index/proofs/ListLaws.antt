@@ -5,7 +5,7 @@ use native.Mathlib.Omega.{arith}
 use mathlib.Core.Path.{◌≡◌, refl, sym, ap, ◌∙◌}
 use mathlib.Core.Bool.{Bool, true, false, ◌&&◌, not, and-true, and-false, and_assoc}
 use mathlib.Core.List.{List, [], ◌∷◌, map}
-use mathlib.Core.Option.{Option, none, some}
+use Rattle.std.specs.Prelude.{Option, None, Some}
 use lib.ListN.{length, take, drop, get_or, drop_of_length-le}
 use lib.Seq.{drop-cons}
 use lib.Dec.{eqb, ltb}
@@ -52,21 +52,21 @@ module _ (equal : Bool) (count k : ℕ) where
 
 -- The verdict on numbers that follow `k` others. `equal` states whether the others agree with the offsets.
 unfoldable pub judged_from : Bool → ℕ → List ℕ → Option (List ℕ) → Verdict
-judged_from equal k offsets none = IgnoredForm
-judged_from equal k offsets (some ns) = good_if (equal && same ns (drop k offsets))
+judged_from equal k offsets None = IgnoredForm
+judged_from equal k offsets (Some ns) = good_if (equal && same ns (drop k offsets))
 
 -- If there are no others before, then `judged_from` is the verdict on the index.
 pub judged_begin : (offsets : List ℕ) (o : Option (List ℕ)) → judged_from true 0 offsets o ≡ judged offsets o
 unfolding judged_from judged
-judged_begin offsets none = refl
-judged_begin offsets (some ns) = refl
+judged_begin offsets None = refl
+judged_begin offsets (Some ns) = refl
 
 -- The first of the numbers that are left can be compared with its offset, and the rest judged after `k + 1` others.
 pub judged_next : (equal : Bool) (k : ℕ) (offsets : List ℕ) (x : ℕ) (o : Option (List ℕ))
-    → judged_from equal k offsets (both (some x) o) ≡ judged_from (agrees_at equal offsets k x) (k + 1) offsets o
+    → judged_from equal k offsets (both (Some x) o) ≡ judged_from (agrees_at equal offsets k x) (k + 1) offsets o
 unfolding judged_from both
-judged_next equal k offsets x none = refl
-judged_next equal k offsets x (some ns) = ap good_if (go (ltb k (length offsets)) refl)
+judged_next equal k offsets x None = refl
+judged_next equal k offsets x (Some ns) = ap good_if (go (ltb k (length offsets)) refl)
   where
     go : (b : Bool) → ltb k (length offsets) ≡ b
         → (equal && same (x ∷ ns) (drop k offsets)) ≡ (equal && b && eqb x (get_or offsets k 0) && same ns (drop (k + 1) offsets))
@@ -81,7 +81,7 @@ agrees_inside equal offsets k x agree a e =
 
 -- If no number is left, then the list is good exactly if the numbers before agree and no offset is left.
 pub judged_last : (equal : Bool) (k : ℕ) (offsets : List ℕ) → (equal ≡ true → k ≤ length offsets)
-    → judged_from equal k offsets (some []) ≡ good_if (equal && eqb (length offsets) k)
+    → judged_from equal k offsets (Some []) ≡ good_if (equal && eqb (length offsets) k)
 unfolding judged_from
 judged_last false k offsets h = refl
 judged_last true k offsets h = ap good_if (left (eqb (length offsets) k) refl)
@@ -93,9 +93,9 @@ judged_last true k offsets h = ap good_if (left (eqb (length offsets) k) refl)
 -- `t` is the trimmed text before the next comma, and `v` is the verdict on the numbers that are left.
 module _ (offsets : List ℕ) (list : Bytes) (at end : ℕ) (f : end ≡ at + index_of 44 (slice at (length list) list))
     (t : Bytes) (part : t ≡ trim (take (end - at) (drop at list))) (r : Number) (read : NumeralRead t 10 r)
-    (equal : Bool) (k : ℕ) (v : Verdict) (left : judged_from equal k offsets (listed (some (drop at list))) ≡ v) where
+    (equal : Bool) (k : ℕ) (v : Verdict) (left : judged_from equal k offsets (listed (Some (drop at list))) ≡ v) where
   -- The numbers that are left are the number in `t` and those after the comma.
-  next_number : listed (some (drop at list)) ≡ both (number_of r) (numerals 10 (map trim (others 44 (drop end list))))
+  next_number : listed (Some (drop at list)) ≡ both (number_of r) (numerals 10 (map trim (others 44 (drop end list))))
   unfolding listed numerals
   next_number = rw (split_found 44 list at end f, ← part, ← read.is)
 
@@ -110,7 +110,7 @@ module _ (offsets : List ℕ) (list : Bytes) (at end : ℕ) (f : end ≡ at + in
     next_left = rw a (sym (judged_next equal k offsets x _) ∙ rw (next_number, e) at left)
 
     -- If there is a comma, then `v` is the verdict on the list after it.
-    pub list_step : (end ≡ length list → ⊥) → end ≤ length list → judged_from agree (k + 1) offsets (listed (some (drop (end + 1) list))) ≡ v
+    pub list_step : (end ≡ length list → ⊥) → end ≤ length list → judged_from agree (k + 1) offsets (listed (Some (drop (end + 1) list))) ≡ v
     unfolding listed
     list_step n h = rw (others_some 44 list end (omega arith)) at next_left
 

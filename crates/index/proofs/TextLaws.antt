@@ -5,17 +5,16 @@ use mathlib.Core.Path.{◌≡◌, refl, sym, ap}
 use mathlib.Core.List.{List, [], ◌∷◌, ◌++◌, map, append_assoc, append-nil}
 use lib.ListN.{length, take}
 use borrow.Author.Tests.{le-leb, lt-leb}
-use Rattle.format.specs.declared.answer.CountAnswer.{CountAnswer}
-use Rattle.format.specs.declared.answer.CountAnswer.TheVariants.{Refused}
 use Rattle.format.specs.declared.line.LineEnd.{LineEnd}
 use Rattle.format.specs.declared.line.LineEnd.TheVariants.{Lf, Crlf}
+use Rattle.format.specs.declared.refusal.Reason.TheVariants.{NoIndexPossible}
 use Rattle.format.specs.Bytes.{Bytes, text}
 use Rattle.format.specs.Chain.{most_blocks}
 use Rattle.format.specs.Line.{line_end}
 use Rattle.format.specs.Tree.{end_line}
 use Rattle.format.specs.Numeral.{decimal}
 use Rattle.format.specs.Index.{Entry, entry, entries, styled_text, rendering, spaced, index_text}
-use Rattle.format.specs.Outcome.{accepted, refusal}
+use Rattle.format.specs.Outcome.{Outcome, refused, accepted, refusal}
 use Rattle.format.specs.Promise.{Written}
 use Rattle.put.specs.Put.{PutWhole, PutAt, PutDecimals, decimals}
 use Rattle.put.proofs.PartLaws.{whole_put, parts_put, put_same, decimals_put_lem}
@@ -72,13 +71,13 @@ index_put out a b c e ns from to r one two three few = put_same (index_parts e n
 
 module _ (k : LineEnd) (ns : List ℕ) where
   -- If there are too many offsets, then the writer refuses with number 22 at place 0 and leaves the buffer unchanged.
-  pub index_many : most_blocks < length ns → (out : Bytes) (x : CountAnswer) → x ≡ Refused (refusal 22 0) → Written (offsets_index k ns) out out x
+  pub index_many : most_blocks < length ns → (out : Bytes) (x : Outcome ℕ) → x ≡ refused (refusal NoIndexPossible 0) → Written (offsets_index k ns) out out x
   unfolding offsets_index
-  index_many h out = written_refused (offsets_index k ns) out (refusal 22 0) (rw (offsets_index, lt-leb (length ns) most_blocks h))
+  index_many h out = written_refused (offsets_index k ns) out (refusal NoIndexPossible 0) (rw (offsets_index, lt-leb (length ns) most_blocks h))
 
   -- If the text is put into a buffer that is long enough, and written from there, then the index is written.
   pub index_own : length ns ≤ most_blocks → (own after : Bytes) (n : ℕ) → PutAt own after 0 (index_text k ns) most_text n → length own ≡ most_text
-      → (out out-after : Bytes) (x : CountAnswer) → Written (accepted (take n after)) out out-after x → Written (offsets_index k ns) out out-after x
+      → (out out-after : Bytes) (x : Outcome ℕ) → Written (accepted (take n after)) out out-after x → Written (offsets_index k ns) out out-after x
   unfolding offsets_index
   index_own few own after n put room out out-after x w =
       rw (offsets_index, le-leb (length ns) most_blocks few, ← own_bytes own after (index_text k ns) most_text n put room (omega arith)) w

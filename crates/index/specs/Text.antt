@@ -2,6 +2,7 @@
 use Rattle.std.specs.Prelude.{ℕ, ◌+◌, List, length, leb}
 use Rattle.format.specs.declared.line.LineEnd.{LineEnd}
 use Rattle.format.specs.declared.line.LineEnd.TheVariants.{Lf, Crlf}
+use Rattle.format.specs.declared.refusal.Reason.TheVariants.{NoIndexPossible}
 use Rattle.format.specs.Bytes.{Bytes, text}
 use Rattle.format.specs.Chain.{most_blocks}
 use Rattle.format.specs.Index.{index_text}
@@ -11,7 +12,7 @@ use Rattle.put.specs.Put.{most_decimals}
 -- The index of these offsets, if a file can have that many blocks.
 unfoldable pub offsets_index : LineEnd → List ℕ → Outcome Bytes
 offsets_index e offsets = do
-  need (leb (length offsets) most_blocks) 22 0
+  need (leb (length offsets) most_blocks) NoIndexPossible 0
   accepted (index_text e offsets)
 
 -- The text before the list of an index.

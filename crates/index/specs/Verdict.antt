@@ -1,6 +1,6 @@
 -- The list of an index, and the comparison of its numbers with the offsets that the walk over the blocks found.
 use Rattle.std.specs.Prelude.{ℕ, ◌-◌, ◌≤◌, ◌≡◌, Bool, true, false, ◌&&◌, List, length, take, drop, get_or, ltb, eqb}
-use Rattle.std.proofs.Math.Option.{Option, none, some}
+use Rattle.std.specs.Prelude.{Option, None, Some}
 use Rattle.format.specs.declared.layout.Verdict.{Verdict}
 use Rattle.format.specs.declared.layout.Verdict.TheVariants.{Good, IgnoredForm, IgnoredList}
 use Rattle.format.specs.Bytes.{Bytes}
@@ -12,8 +12,8 @@ use Rattle.index.specs.declared.form.ListStep.TheVariants.{Between, Dashes, Nowh
 
 -- The numbers that an answer points to.
 abbrev pub numbers_in : Bytes → ListStep → Option (List ℕ)
-numbers_in t Nowhere = none
-numbers_in t (Between n m) = listed (some (take (m - n) (drop n t)))
+numbers_in t Nowhere = None
+numbers_in t (Between n m) = listed (Some (take (m - n) (drop n t)))
 numbers_in t (Dashes n) = at_least_one (dash_numbers (lines (drop n t)))
 
 -- What an answer points to is inside a tail of `size` bytes.
@@ -29,7 +29,7 @@ pub record ListRead (t : Bytes) (numbers : Option (List ℕ)) (r : ListStep) : T
 
 -- `r` states whether an index ends at offset `at`. Its numbers, whatever they are, count only if it does.
 pub record EndRead (t : Bytes) (at : ℕ) (r : Bool) : Type 0 where
-  pub is : (ns : Option (List ℕ)) → after_word end_line (with_zeros ns) (lines (drop at t)) ≡ elim r [ true ↦ ns | false ↦ none ]
+  pub is : (ns : Option (List ℕ)) → after_word end_line (with_zeros ns) (lines (drop at t)) ≡ elim r [ true ↦ ns | false ↦ None ]
 
 -- Whether the numbers before agree and `x` is number `k` of the offsets.
 abbrev pub agrees_at : Bool → List ℕ → ℕ → ℕ → Bool

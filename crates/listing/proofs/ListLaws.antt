@@ -9,14 +9,10 @@ use lib.Dec.{leb}
 use borrow.Author.Tests.{le-leb, lt-leb, leb-true, leb-false}
 use mir.Syntax.{w8}
 use mir.Val.{Fits}
-use Rattle.format.specs.declared.answer.CountAnswer.{CountAnswer}
-use Rattle.format.specs.declared.answer.CountAnswer.TheVariants.{Counted, Refused}
-use Rattle.format.specs.declared.answer.LayoutAnswer.{LayoutAnswer}
-use Rattle.format.specs.declared.answer.LayoutAnswer.TheVariants as LayoutAnswer·is
 use Rattle.format.specs.declared.layout.Layout.{Layout}
 use Rattle.format.specs.declared.refusal.Refusal.{Refusal}
 use Rattle.format.specs.declared.row.Row.{Row}
-use Rattle.format.specs.Answer.{count_answer, layout_answer}
+use Rattle.format.specs.declared.refusal.Reason.TheVariants.{BufferTooShort}
 use Rattle.format.specs.Bytes.{Bytes, IsBytes, text}
 use Rattle.format.specs.File.{File, file, layout, layout_of}
 use Rattle.format.specs.Lent.{writes, leaves, both_fit}
@@ -38,14 +34,14 @@ use Rattle.format.proofs.FewLaws.{rows_few}
 
 -- If a line was put into a buffer of its own and is written from there, then the line itself is written, and it is
 -- short.
-pub line_written : (t own after : Bytes) (n : ℕ) → PutAt own after 0 t most_short n → length own ≡ most_short → (out out-after : Bytes) (x : CountAnswer)
+pub line_written : (t own after : Bytes) (n : ℕ) → PutAt own after 0 t most_short n → length own ≡ most_short → (out out-after : Bytes) (x : Outcome ℕ)
     → Written (accepted (take n after)) out out-after x → Short t out out-after x
 line_written t own after n put room out out-after x w =
     record { written = rw (own_bytes own after t most_short n put room (omega arith)) at w; short = omega (arith, put.few) }
 
 -- The outline `b` and the text `t` are written into the buffers `rows` and `out`.
 module _ (b t rows out : Bytes) where
-  neither : both_fit b t rows out ≡ false → (x : CountAnswer) → x ≡ Refused (refusal 21 0) → BothPut b t rows out rows out x
+  neither : both_fit b t rows out ≡ false → (x : Outcome ℕ) → x ≡ refused (refusal BufferTooShort 0) → BothPut b t rows out rows out x
   unfolding count_answer
   neither e x is = record { answer = rw (is, e); outline_put = rw e; text_put = rw e }
 
@@ -57,7 +53,7 @@ module _ (b t rows out : Bytes) where
     text_length = omega (arith, measured.end, text_few)
 
     -- Case: the outline does not fit.
-    pub outline_long : length rows < length b → (x : CountAnswer) → x ≡ Refused (refusal 21 0) → BothShort b t rows out rows out x
+    pub outline_long : length rows < length b → (x : Outcome ℕ) → x ≡ refused (refusal BufferTooShort 0) → BothShort b t rows out rows out x
     outline_long h x is = record {
       put = neither (rw (lt-leb (length b) (length rows) h)) x is;
       outline_short = omega arith;
@@ -65,7 +61,7 @@ module _ (b t rows out : Bytes) where
     }
 
     -- Case: the text does not fit.
-    pub text_long : length out < n → (x : CountAnswer) → x ≡ Refused (refusal 21 0) → BothShort b t rows out rows out x
+    pub text_long : length out < n → (x : Outcome ℕ) → x ≡ refused (refusal BufferTooShort 0) → BothShort b t rows out rows out x
     text_long h x is = record {
       put = neither (rw (lt-leb (length t) (length out) (omega (arith, text_length))) (and-false (leb (length b) (length rows)))) x is;
       outline_short = omega arith;
@@ -75,7 +71,7 @@ module _ (b t rows out : Bytes) where
     -- Case: both fit and are put.
     pub both_put : length b ≤ length rows → n ≤ length out → (rows-after : Bytes) → (p : ℕ) → PutWhole rows rows-after 0 b (length b) p → (out-after : Bytes) (k r : ℕ)
         → PutAt out out-after 0 t k r
-        → BothShort b t rows out rows-after out-after (Counted n)
+        → BothShort b t rows out rows-after out-after (accepted n)
     unfolding count_answer
     both_put h g rows-after p e out-after k r put =
         let one = le-leb (length b) (length rows) h in
@@ -91,7 +87,7 @@ module _ (b t rows out : Bytes) where
         }
 
 -- A text that is written alone is a text with an empty outline.
-no_outline : (t rows out after : Bytes) (r : CountAnswer) → Short t out after r → BothShort [] t rows out rows after r
+no_outline : (t rows out after : Bytes) (r : Outcome ℕ) → Short t out after r → BothShort [] t rows out rows after r
 unfolding writes leaves
 no_outline t rows out after r h =
     record { put = by_test (leb (length t) (length out)) refl; outline_short = omega arith; text_short = h.short }
@@ -111,7 +107,7 @@ no_outline t rows out after r h =
     }
 
 -- If the outline and the text that were put are those of `s`, the listing of `s` is written.
-is_listed : (s b t rows out rows-after out-after : Bytes) (r : CountAnswer) → outline_for s ≡ b → listing s ≡ t
+is_listed : (s b t rows out rows-after out-after : Bytes) (r : Outcome ℕ) → outline_for s ≡ b → listing s ≡ t
     → BothShort b t rows out rows-after out-after r
     → Listed s rows out rows-after out-after r
 is_listed s b t rows out rows-after out-after r e f h = record {
@@ -122,7 +118,7 @@ is_listed s b t rows out rows-after out-after r e f h = record {
 }
 
 -- Case: the input is too long.
-pub listed_long : (s rows out after : Bytes) (r : CountAnswer) → most_input < length s
+pub listed_long : (s rows out after : Bytes) (r : Outcome ℕ) → most_input < length s
     → Written (accepted (text "too long for this program\n")) out after r
     → Listed s rows out rows after r
 unfolding outline_for listing sentence
@@ -141,26 +137,26 @@ record OfLayout (s : Bytes) (l : Layout) : Type 0 where
   rows_are : rows s ≡ accepted file_rows
 
 -- The file was read, and its outline was written into a buffer of `most_outline` bytes.
-pub outlined_by : (s before own : Bytes) (a : LayoutAnswer) (w : CountAnswer) → layout_answer a ≡ layout s → OutlineWritten s before own w
+pub outlined_by : (s before own : Bytes) (a : Outcome Layout) (w : Outcome ℕ) → a ≡ layout s → OutlineWritten s before own w
     → length before ≡ most_outline
     → Outlined s a w own
 outlined_by s before own a w read outlined room = record { read = read; before = before; room = room; outlined = outlined }
 
-module _ (s : Bytes) (short : length s ≤ most_input) (a : LayoutAnswer) (w : CountAnswer) (own : Bytes) (h : Outlined s a w own) where
+module _ (s : Bytes) (short : length s ≤ most_input) (a : Outcome Layout) (w : Outcome ℕ) (own : Bytes) (h : Outlined s a w own) where
   is_short : leb (length s) most_input ≡ true
   is_short = le-leb (length s) most_input short
 
   -- Case: the file is refused.
-  module _ (r : Refusal) (e : a ≡ LayoutAnswer·is.Refused r) where
+  module _ (r : Refusal) (e : a ≡ refused r) where
     refused_file : file s ≡ refused r
-    unfolding layout_answer layout
-    refused_file = go (file s) refl (sym h.read ∙ ap layout_answer e)
+    unfolding layout
+    refused_file = go (file s) refl (sym h.read ∙ e)
       where
         go : (o : Outcome File) → file s ≡ o → ◌>>=◌ o (λ f. accepted (layout_of f)) ≡ refused r → file s ≡ refused r
         go (accepted f) q c = cc
         go (refused x) q c = cc
 
-    pub listed_refused : (rows out after : Bytes) (x : CountAnswer) → Short (printed (refused r)) out after x → Listed s rows out rows after x
+    pub listed_refused : (rows out after : Bytes) (x : Outcome ℕ) → Short (printed (refused r)) out after x → Listed s rows out rows after x
     unfolding outline_for outline_bytes listing file_listing outline
     listed_refused rows out after x put =
         is_listed s [] (printed (refused r)) rows out rows after x (rw (outline_for, is_short, outline, refused_no_rows s r refused_file))
@@ -168,7 +164,7 @@ module _ (s : Bytes) (short : length s ≤ most_input) (a : LayoutAnswer) (w : C
         (no_outline _ rows out after x put)
 
   -- Case: the file is accepted.
-  module _ (l : Layout) (e : a ≡ LayoutAnswer·is.Accepted l) (known : (i : ℕ) → Fits w8 (get_or s i 0)) where
+  module _ (l : Layout) (e : a ≡ accepted l) (known : (i : ℕ) → Fits w8 (get_or s i 0)) where
     bytes : IsBytes s
     bytes i = (known i).fits
 
@@ -179,7 +175,7 @@ module _ (s : Bytes) (short : length s ≤ most_input) (a : LayoutAnswer) (w : C
         (accepts_bind (OfLayout s) (file s) _ λ f e.
         let rs = accepted_rows s f e in
         record { f = f; is = e; tree = refl; verdict = refl; file_rows = rs.0; rows_are = rs.1 })
-        (sym h.read ∙ ap layout_answer e)
+        (sym h.read ∙ e)
 
     -- `b` is the outline of the file.
     module _ (b : Bytes) (is : outline s ≡ accepted b) where
@@ -205,8 +201,8 @@ module _ (s : Bytes) (short : length s ≤ most_input) (a : LayoutAnswer) (w : C
       outline_is = rw (outline_for, is_short, is)
 
     -- Case: the outline is refused. This cannot happen, because its buffer is long enough.
-    pub outline_refused : (r : Refusal) → w ≡ Refused r → (rows out : Bytes) → Listed s rows out rows out (Refused r)
-    unfolding outline count_answer writes
+    pub outline_refused : (r : Refusal) → w ≡ refused r → (rows out : Bytes) → Listed s rows out rows out (refused r)
+    unfolding outline writes
     outline_refused r q rows out =
         let whole : outline s ≡ accepted (outline_of of.file_rows) = rw (outline, of.rows_are) in
         let fits = le-leb (length (outline_of of.file_rows)) (length h.before) (omega (arith, h.room, outline_few (outline_of of.file_rows) whole)) in
@@ -215,7 +211,7 @@ module _ (s : Bytes) (short : length s ≤ most_input) (a : LayoutAnswer) (w : C
         absurd (omega arith)
 
     -- Case: the outline is written. It is the first `n` bytes of the buffer.
-    module _ (n : ℕ) (q : w ≡ Counted n) where
+    module _ (n : ℕ) (q : w ≡ accepted n) where
       outline_taken : Taken (outline s) own n
       outline_taken = written_taken (outline s) h.before own n (rw q at h.outlined.written)
 
@@ -228,27 +224,27 @@ module _ (s : Bytes) (short : length s ≤ most_input) (a : LayoutAnswer) (w : C
       pub outline_small : length (take n own) ≤ most_outline
       outline_small = outline_few (take n own) outline_taken.is
 
-      pub outline_listed : (rows out rows-after out-after : Bytes) (r : CountAnswer)
+      pub outline_listed : (rows out rows-after out-after : Bytes) (r : Outcome ℕ)
           → BothShort (take n own) (file_text l.tree (take n own) l.verdict) rows out rows-after out-after r
           → Listed s rows out rows-after out-after r
       outline_listed rows out rows-after out-after r =
           is_listed s _ _ rows out rows-after out-after r (outline_is (take n own) outline_taken.is) (text_is (take n own) outline_taken.is)
 
 -- What the answer `x` for the listing of `s` means.
-module _ (s rows out rows-after out-after : Bytes) (x : CountAnswer) (h : Listed s rows out rows-after out-after x) where
-  module _ (n : ℕ) (e : x ≡ Counted n) where
-    text_written : Written (accepted (listing s)) out out-after (Counted n)
+module _ (s rows out rows-after out-after : Bytes) (x : Outcome ℕ) (h : Listed s rows out rows-after out-after x) where
+  module _ (n : ℕ) (e : x ≡ accepted n) where
+    text_written : Written (accepted (listing s)) out out-after (accepted n)
     unfolding count_answer
     text_written = by_test (both_fit (outline_for s) (listing s) rows out) refl
       where
-        by_test : (t : Bool) → both_fit (outline_for s) (listing s) rows out ≡ t → Written (accepted (listing s)) out out-after (Counted n)
+        by_test : (t : Bool) → both_fit (outline_for s) (listing s) rows out ≡ t → Written (accepted (listing s)) out out-after (accepted n)
         by_test true q =
             let count : accepted n ≡ accepted (length (listing s)) = rw (e, q) at h.put.answer in
             let same : n ≡ length (listing s) = cc in
             let fits = leb-true _ _ (and_right (leb (length (outline_for s)) (length rows)) _ q) in
             written_placed (accepted (listing s)) out (listing s) refl fits out-after (rw q at h.put.text_put) n same
         by_test false q =
-            let clash : accepted n ≡ refused (refusal 21 0) = rw (e, q) at h.put.answer in
+            let clash : accepted n ≡ refused (refusal BufferTooShort 0) = rw (e, q) at h.put.answer in
             let z : ◌≡◌ {A = ℕ} 0 1 = cc in
             absurd (omega arith)
 
@@ -265,7 +261,7 @@ module _ (s rows out rows-after out-after : Bytes) (x : CountAnswer) (h : Listed
     }
 
   -- With buffers as long as the program's, the answer is never a refusal.
-  pub never_refused : (r : Refusal) → x ≡ Refused r → length rows ≡ lent_bytes → length out ≡ lent_bytes → ⊥
+  pub never_refused : (r : Refusal) → x ≡ refused r → length rows ≡ lent_bytes → length out ≡ lent_bytes → ⊥
   unfolding count_answer
   never_refused r e p q =
       let clash : refused r ≡ accepted (length (listing s)) = rw e at (h.enough (omega arith) (omega arith)) in

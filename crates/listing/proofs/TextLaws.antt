@@ -1,25 +1,23 @@
 -- Laws about the lines of a listing: one law for each part that is put.
 use Prim.Native.Nat.{ℕ, suc, ◌+◌, ◌*◌, ◌-◌, ◌/◌, ◌^◌, ◌≤◌, ◌<◌}
+use Rattle.std.specs.Prelude.{Option}
 use native.Mathlib.Omega.{arith}
 use mathlib.Core.Path.{◌≡◌, refl, ap, ◌∙◌}
-use mathlib.Core.Option.{none, some}
+use Rattle.std.specs.Prelude.{None, Some}
 use mathlib.Core.List.{List, [], ◌∷◌, ◌++◌, map, flat_map, append_assoc}
 use lib.ListN.{length, take, drop}
 use lib.Seq.{drop-drop}
 use borrow.Author.Tests.{le-leb}
-use Rattle.format.specs.declared.answer.RowAnswer.{RowAnswer}
-use Rattle.format.specs.declared.answer.RowAnswer.TheVariants as RowAnswer·is
 use Rattle.format.specs.declared.layout.Tree.{Tree}
 use Rattle.format.specs.declared.layout.Tree.TheVariants.{NoTree, Found}
 use Rattle.format.specs.declared.layout.Verdict.{Verdict}
 use Rattle.format.specs.declared.offset.Offset.{Offset}
 use Rattle.format.specs.declared.refusal.Refusal.{Refusal}
 use Rattle.format.specs.declared.row.Row.{Row}
-use Rattle.format.specs.Answer.{row_answer}
 use Rattle.format.specs.Bytes.{Bytes, text}
 use Rattle.format.specs.Fields.{row_fields}
 use Rattle.format.specs.Numeral.{decimal}
-use Rattle.format.specs.Outcome.{accepted, refused}
+use Rattle.format.specs.Outcome.{Outcome, accepted, refused}
 use Rattle.format.specs.Outline.{decode_row, row_bytes}
 use Rattle.format.specs.Listing.{sentence, tree_text, row_text, printed}
 use Rattle.put.specs.Put.{PutWhole, PutAt, PutDecimals, decimals}
@@ -73,35 +71,35 @@ unfolding row_text
 row_put out after at x r numbers e put = rw e at put
 
 -- The outline `b` holds all bytes of row `k`, and `x` is the answer of the function that reads this row.
-module _ (b : Bytes) (k : ℕ) (h : k * row_bytes + row_bytes ≤ length b) (x : RowAnswer) (read : row_answer x ≡ accepted (row_at b (k * row_bytes))) where
+module _ (b : Bytes) (k : ℕ) (h : k * row_bytes + row_bytes ≤ length b) (x : Outcome (Option Row)) (read : x ≡ accepted (row_at b (k * row_bytes))) where
   abbrev here : Row
   here = decode_row (take row_bytes (drop (k * row_bytes) b))
 
-  is_there : row_at b (k * row_bytes) ≡ some here
+  is_there : row_at b (k * row_bytes) ≡ Some here
   unfolding row_at
   is_there = rw (row_at, le-leb (k * row_bytes + row_bytes) (length b) h)
 
-  pub row_at_put : (r : Row) → x ≡ RowAnswer·is.Found r → (out after : Bytes) (at y : ℕ) → PutAt out after at (row_text r) (most_line 0 10) y
+  pub row_at_put : (r : Row) → x ≡ accepted (Some r) → (out after : Bytes) (at y : ℕ) → PutAt out after at (row_text r) (most_line 0 10) y
       → PutAt out after at (row_text (decode_row (take row_bytes (drop (k * row_bytes) b)))) most_row y
   unfolding row_answer
   row_at_put r e out after at y put =
-      let same : accepted (some r) ≡ accepted (some here) = rw e at read ∙ ap accepted is_there in
+      let same : accepted (Some r) ≡ accepted (Some here) = rw e at read ∙ ap accepted is_there in
       let row : r ≡ here = cc in
       let whole = rw row at put in
       record { buffer = whole.buffer; size = whole.size; end = whole.end; few = row_short (take row_bytes (drop (k * row_bytes) b)) }
 
   -- The row exists, so the answer is neither `NoSuchRow` nor a refusal.
-  pub row_not_none : x ≡ RowAnswer·is.NoSuchRow → (out : Bytes) (at : ℕ) → PutAt out out at (row_text here) most_row at
+  pub row_not_none : x ≡ accepted None → (out : Bytes) (at : ℕ) → PutAt out out at (row_text here) most_row at
   unfolding row_answer
   row_not_none e out at =
-      let same : accepted none ≡ accepted (some here) = rw e at read ∙ ap accepted is_there in
+      let same : accepted None ≡ accepted (Some here) = rw e at read ∙ ap accepted is_there in
       let z : ◌≡◌ {A = ℕ} 0 1 = cc in
       absurd (omega arith)
 
-  pub row_not_refused : (r : Refusal) → x ≡ RowAnswer·is.Refused r → (out : Bytes) (at : ℕ) → PutAt out out at (row_text here) most_row at
+  pub row_not_refused : (r : Refusal) → x ≡ refused r → (out : Bytes) (at : ℕ) → PutAt out out at (row_text here) most_row at
   unfolding row_answer
   row_not_refused r e out at =
-      let same : refused r ≡ accepted (some here) = rw e at read ∙ ap accepted is_there in
+      let same : refused r ≡ accepted (Some here) = rw e at read ∙ ap accepted is_there in
       let z : ◌≡◌ {A = ℕ} 0 1 = cc in
       absurd (omega arith)
 
@@ -147,8 +145,8 @@ module _ (before : Bytes) (at : ℕ) (b : Bytes) where
     pub rows_done : length b / row_bytes ≤ k → PutRows before out at (length b / row_bytes) b end
     unfolding flat_map
     rows_done p =
-        let none : length b / row_bytes - k ≡ 0 = omega arith in
-        h.left (rw none (nothing_put h.fits))
+        let None : length b / row_bytes - k ≡ 0 = omega arith in
+        h.left (rw None (nothing_put h.fits))
 
 -- If the tree, the rows and the verdict are put one after another, all lines of the file are put.
 pub file_put : (out a c after : Bytes) (p q r : ℕ) (t : Tree) (b : Bytes) (v : Verdict) → PutAt out a 0 (tree_text t) most_short p

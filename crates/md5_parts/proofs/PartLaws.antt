@@ -10,6 +10,7 @@ use Rattle.md5_parts.specs.Md5.{compressed, blocks, hashed, left, padding, diges
 use Rattle.format.specs.File.{most_bytes}
 use Rattle.format.specs.Outcome.{refusal}
 use Rattle.format.specs.declared.refusal.Refusal.{Refusal}
+use Rattle.format.specs.declared.refusal.Reason.TheVariants.{FileTooLong}
 use Rattle.md5_parts.specs.State.{in_block, held, next, taken, fed, digest}
 use Rattle.format.proofs.PartLaws.{part_all}
 use Rattle.md5_parts.proofs.BlockLaws.{hashed_append, left_append}
@@ -65,7 +66,7 @@ module _ (p t : Bytes) (k : ℕ) where
 
 -- A part that is refused, and one that is taken.
 module _ (st : Md5) (t : Bytes) where
-  pub part_long : most_bytes < st.count + length t → (r : Refusal) → r ≡ refusal 1 0 → ◌≡◌ {A = Fed} (record { state = st; answer = Refused r }) (fed st t)
+  pub part_long : most_bytes < st.count + length t → (r : Refusal) → r ≡ refusal FileTooLong 0 → ◌≡◌ {A = Fed} (record { state = st; answer = Refused r }) (fed st t)
   unfolding fed taken
   part_long q r e = rw (lt-leb (st.count + length t) most_bytes q, fed, taken, e)
 

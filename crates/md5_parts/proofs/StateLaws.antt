@@ -9,6 +9,7 @@ use Rattle.format.specs.File.{most_bytes}
 use Rattle.format.specs.Outcome.{refusal}
 use Rattle.md5_parts.specs.State.{held, starting, next, fits, taken, fed, digest, fed_all, AllTaken, joined_all, taken_of, CutsAgree}
 use Rattle.md5_parts.proofs.BlockLaws.{left_size, hashed_on, left_on}
+use Rattle.format.specs.declared.refusal.Reason.TheVariants.{FileTooLong}
 
 -- The state `st` is that after the message `s`.
 record Holds (st : Md5) (s : Bytes) : Type 0 where
@@ -37,7 +38,7 @@ pub fed_fits : (st : Md5) (t : Bytes) → fits st t ≡ true → ◌≡◌ {A = 
 unfolding fed taken
 fed_fits st t e = rw (fed, taken, e)
 
-pub fed_long : (st : Md5) (t : Bytes) → fits st t ≡ false → ◌≡◌ {A = Fed} (fed st t) (record { state = st; answer = Refused (refusal 1 0) })
+pub fed_long : (st : Md5) (t : Bytes) → fits st t ≡ false → ◌≡◌ {A = Fed} (fed st t) (record { state = st; answer = Refused (refusal FileTooLong 0) })
 unfolding fed taken
 fed_long st t e = rw (fed, taken, e)
 

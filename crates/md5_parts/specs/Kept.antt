@@ -12,6 +12,7 @@ use Rattle.md5_parts.specs.declared.state.PartAnswer.TheVariants.{Taken, Refused
 use Rattle.md5_parts.specs.declared.words.Words.{Words}
 use Rattle.md5_parts.specs.Md5.{md5}
 use Rattle.md5_parts.specs.State.{starting, taken, digest, joined_all, taken_of}
+use Rattle.format.specs.declared.refusal.Reason.TheVariants.{BufferTooShort}
 
 -- How many bytes a state takes.
 abbrev pub state_bytes : ℕ
@@ -42,14 +43,14 @@ decode_state b =
 -- first.
 unfoldable pub part_bytes : Bytes → Bytes → Outcome Bytes
 part_bytes b t = do
-  need (nat_le state_bytes (length b)) 21 0
+  need (nat_le state_bytes (length b)) BufferTooShort 0
   st ← taken (decode_state b) t
   accepted (encode_state st)
 
 -- The digest that the state in `b` gives.
 unfoldable pub digest_bytes : Bytes → Outcome Bytes
 digest_bytes b = do
-  need (nat_le state_bytes (length b)) 21 0
+  need (nat_le state_bytes (length b)) BufferTooShort 0
   accepted (digest (decode_state b))
 
 -- What the answer to a part says. If it is taken, there is no value to give.

@@ -8,6 +8,7 @@ use Rattle.md5_parts.specs.declared.state.Md5.{Md5}
 use Rattle.md5_parts.specs.declared.state.Fed.{Fed}
 use Rattle.md5_parts.specs.declared.state.PartAnswer.TheVariants.{Taken, Refused}
 use Rattle.md5_parts.specs.Md5.{start, hashed, left, padding, digest_of, md5}
+use Rattle.format.specs.declared.refusal.Reason.TheVariants.{FileTooLong}
 
 -- `t` with zeros after it, up to the length of a block.
 abbrev pub in_block : Bytes → Bytes
@@ -32,7 +33,7 @@ fits st t = nat_le (st.count + length t) most_bytes
 -- What comes of the part `t`: the next state, or refusal 1.
 unfoldable pub taken : Md5 → Bytes → Outcome Md5
 taken st t = do
-  need (fits st t) 1 0
+  need (fits st t) FileTooLong 0
   accepted (next st t)
 
 -- The state that comes back, and the answer beside it. After a refusal it is the state before the part.

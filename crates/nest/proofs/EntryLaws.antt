@@ -5,25 +5,22 @@ use native.Mathlib.Nat.{zero-add, sub-zero, mul-zero, add-mul, suc-mul, one-mul,
 use mathlib.Core.Path.{◌≡◌, refl, sym, ap, ◌∙◌}
 use mathlib.Core.Bool.{Bool, true, false}
 use mathlib.Core.List.{List, [], ◌∷◌, ◌++◌, map, flat_map}
-use mathlib.Core.Option.{Option, none}
-use lib.ListN.{length, take, drop, get_or, get_elem?, length-append}
+use Rattle.std.specs.Prelude.{Option, None}
+use lib.ListN.{length, take, drop, get_or, length-append}
+use Rattle.std.specs.Prelude.{slice_get}
 use lib.Seq.{length-take-le}
 use lib.Dec.{eqb}
 use borrow.Author.Tests.{leb-true, eqb-true, eqb-false, ne_eqb}
 use mir.Syntax.{w8, w64}
 use mir.Val.{Fits}
-use Rattle.format.specs.declared.answer.CountAnswer.{CountAnswer}
-use Rattle.format.specs.declared.answer.CountAnswer.TheVariants as CountAnswer·is
-use Rattle.format.specs.declared.answer.LayoutAnswer.{LayoutAnswer}
-use Rattle.format.specs.declared.answer.LayoutAnswer.TheVariants as LayoutAnswer·is
 use Rattle.format.specs.declared.block.Record.{Record}
 use Rattle.format.specs.declared.layout.Layout.{Layout}
 use Rattle.format.specs.declared.offset.OutermostOffset.{OutermostOffset}
 use Rattle.format.specs.declared.refusal.Refusal.{Refusal}
-use Rattle.format.specs.Answer.{count_answer, layout_answer}
+use Rattle.format.specs.declared.refusal.Reason.TheVariants.{BufferTooShort}
 use Rattle.format.specs.Bytes.{Bytes, wrapped}
 use Rattle.format.specs.Block.{least_block}
-use Rattle.format.specs.Outcome.{accepted, refused, refusal}
+use Rattle.format.specs.Outcome.{Outcome, accepted, refused, refusal}
 use Rattle.format.specs.File.{most_bytes, file, offset_table, layout}
 use Rattle.format.specs.Nest.{deepest, records, record_count, record_at}
 use Rattle.format.specs.Fields.{record_fields, record_bytes, encode_record, record_table, found_numbers, found_bytes}
@@ -86,21 +83,21 @@ put_after : (w n : ℕ) (out : Bytes) (rs : List Record) → n + length rs < 2 ^
 unfolding put_all
 put_after w n out [] few h = refl
 put_after w n out (r ∷ rs) few h =
-    let none : placed out (n * 0) (delivery (One w) n r) ≡ out =
+    let None : placed out (n * 0) (delivery (One w) n r) ≡ out =
     rw (mul-zero n, delivery, ne_eqb w n (λ e. omega arith)) (sym (placed_nothing out 0 (omega arith))) in
-    rw none (put_after w (wrapped n 1) out rs (omega arith) (omega arith))
+    rw None (put_after w (wrapped n 1) out rs (omega arith) (omega arith))
 
 -- If one record is wanted, that record is put at the start, or nothing if there is no such record.
 put_one : (w n : ℕ) (out : Bytes) (rs : List Record) → n + length rs < 2 ^ 64 → n ≤ w
-    → put_all (One w) n out rs ≡ placed out 0 (found_numbers record_fields (get_elem? rs (w - n)))
+    → put_all (One w) n out rs ≡ placed out 0 (found_numbers record_fields (slice_get rs (w - n)))
 unfolding put_all found_numbers encode_record
 put_one w n out [] few h = placed_nothing out 0 (omega arith)
 put_one w n out (r ∷ rs) few h = by_test (eqb w n) refl (λ out. put_one w (wrapped n 1) out rs)
   where
     by_test : (t : Bool) → eqb w n ≡ t
         → ((out : Bytes) → wrapped n 1 + length rs < 2 ^ 64 → wrapped n 1 ≤ w
-        → put_all (One w) (wrapped n 1) out rs ≡ placed out 0 (found_numbers record_fields (get_elem? rs (w - wrapped n 1))))
-        → put_all (One w) n out (r ∷ rs) ≡ placed out 0 (found_numbers record_fields (get_elem? (r ∷ rs) (w - n)))
+        → put_all (One w) (wrapped n 1) out rs ≡ placed out 0 (found_numbers record_fields (slice_get rs (w - wrapped n 1))))
+        → put_all (One w) n out (r ∷ rs) ≡ placed out 0 (found_numbers record_fields (slice_get (r ∷ rs) (w - n)))
     by_test true e rest =
         let same = eqb-true w n e in
         let first : w - n ≡ 0 = omega arith in
@@ -111,13 +108,13 @@ put_one w n out (r ∷ rs) few h = by_test (eqb w n) refl (λ out. put_one w (wr
         rw (mul-zero n, delivery, e, ← placed_nothing out 0 (omega arith), next) (rest out (omega arith) (omega arith))
 
 -- If `k` is not below the number of records, there is no record `k`.
-no_record : (rs : List Record) (k : ℕ) → length rs ≤ k → get_elem? rs k ≡ none
+no_record : (rs : List Record) (k : ℕ) → length rs ≤ k → slice_get rs k ≡ None
 no_record [] k h = refl
 no_record (r ∷ rs) zero h = absurd (omega arith)
 no_record (r ∷ rs) (suc k) h = no_record rs k (omega arith)
 
 -- If `k` is below the number of records, there is a record `k`, and it takes `record_bytes` bytes.
-record_there : (rs : List Record) (k : ℕ) → k < length rs → length (found_numbers record_fields (get_elem? rs k)) ≡ record_bytes
+record_there : (rs : List Record) (k : ℕ) → k < length rs → length (found_numbers record_fields (slice_get rs k)) ≡ record_bytes
 unfolding found_numbers encode_record
 record_there [] k h = absurd (omega arith)
 record_there (r ∷ rs) zero h = record_length r
@@ -133,7 +130,7 @@ module _ {s : Bytes} {offsets : List ℕ} {blocks : ℕ} (kept : Kept s offsets 
   -- Case: one record is wanted.
   module _ (w : ℕ) (d : Delivered (One w) 0 out (all_records s) after x) where
     abbrev found : Option Record
-    found = get_elem? (all_records s) w
+    found = slice_get (all_records s) w
 
     one_is : found_bytes record_fields (record_at s w) ≡ accepted (found_numbers record_fields found)
     unfolding found_bytes record_at
@@ -145,10 +142,10 @@ module _ {s : Bytes} {offsets : List ℕ} {blocks : ℕ} (kept : Kept s offsets 
         d.buffer ∙ put_one w 0 out (all_records s) (omega (arith, short kept)) (omega arith) ∙ rw (sub-zero w)
 
     -- If there is no such record, nothing is written.
-    pub one_none : x ≤ w → Written (found_bytes record_fields (record_at s w)) out after (CountAnswer·is.Counted 0)
+    pub one_none : x ≤ w → Written (found_bytes record_fields (record_at s w)) out after (accepted 0)
     unfolding found_numbers encode_record
     one_none h =
-        let none_there : found ≡ none = no_record (all_records s) w (omega (arith, counted (One w) d)) in
+        let none_there : found ≡ None = no_record (all_records s) w (omega (arith, counted (One w) d)) in
         let nothing : found_numbers record_fields found ≡ [] = rw none_there in
         written_placed _ out [] (one_is ∙ ap accepted nothing) (omega arith) after (one_put ∙ rw nothing) 0 refl
 
@@ -160,13 +157,13 @@ module _ {s : Bytes} {offsets : List ℕ} {blocks : ℕ} (kept : Kept s offsets 
       one_room = ap length one_put ∙ placed_length out 0 (found_numbers record_fields found)
 
       -- If the record does not fit, the answer is refusal 21.
-      pub one_short : length after < record_bytes → (a : CountAnswer) → a ≡ CountAnswer·is.Refused (refusal 21 0) → Written (found_bytes record_fields (record_at s w)) out after a
+      pub one_short : length after < record_bytes → (a : Outcome ℕ) → a ≡ refused (refusal BufferTooShort 0) → Written (found_bytes record_fields (record_at s w)) out after a
       one_short g a e =
           let same : after ≡ out = one_put ∙ sym (placed_none out 0 (found_numbers record_fields found) (omega (arith, one_length, one_room))) in
           rw same (written_short _ out (found_numbers record_fields found) one_is (omega (arith, one_length, one_room)) a e)
 
       -- If the record fits, it is put.
-      pub one_written : record_bytes ≤ length after → Written (found_bytes record_fields (record_at s w)) out after (CountAnswer·is.Counted record_bytes)
+      pub one_written : record_bytes ≤ length after → Written (found_bytes record_fields (record_at s w)) out after (accepted record_bytes)
       one_written g = written_placed _ out (found_numbers record_fields found) one_is (omega (arith, one_length, one_room)) after one_put record_bytes (sym one_length)
 
 -- Unless only one record is wanted, what is put for a record has the width of the form.
@@ -233,7 +230,7 @@ module _ {s : Bytes} {offsets : List ℕ} {blocks : ℕ} (kept : Kept s offsets 
     all_room : length (all_records s) * each ≤ length out
     all_room = (le-div_iff_mul-le each_some).0 h
 
-    all_put : Written (accepted (all_encoded form (all_records s))) out after (CountAnswer·is.Counted (each * n))
+    all_put : Written (accepted (all_encoded form (all_records s))) out after (accepted (each * n))
     all_put =
         let rs = all_records s in
         let few = all_few kept in
@@ -247,7 +244,7 @@ module _ {s : Bytes} {offsets : List ℕ} {blocks : ℕ} (kept : Kept s offsets 
     sure : length (all_records s) ≤ length out / each
     sure = let few = all_few kept in omega arith
 
-    pub sure_put : Written (accepted (all_encoded form (all_records s))) out after (CountAnswer·is.Counted (each * n))
+    pub sure_put : Written (accepted (all_encoded form (all_records s))) out after (accepted (each * n))
     sure_put = all_put d sure
 
   -- If the function's own buffer has places for all records that have come, their bytes are inside it.
@@ -257,7 +254,7 @@ module _ {s : Bytes} {offsets : List ℕ} {blocks : ℕ} (kept : Kept s offsets 
   -- Case: the walk into the function's own buffer has counted `n` records.
   module _ (out : Bytes) {own made : Bytes} {n : ℕ} (d : Delivered form 0 own (all_records s) made n) where
     -- If there are more records than the lent buffer has places for, the answer is refusal 21.
-    pub measured_short : length out / each < n → (a : CountAnswer) → a ≡ CountAnswer·is.Refused (refusal 21 0)
+    pub measured_short : length out / each < n → (a : Outcome ℕ) → a ≡ refused (refusal BufferTooShort 0)
         → Written (accepted (all_encoded form (all_records s))) out out a
     measured_short h =
         let many : length out < length (all_records s) * each = (div-lt_iff_lt-mul each_some).0 (rw (counted kept own made n form d) at h) in
@@ -269,7 +266,7 @@ module _ {s : Bytes} {offsets : List ℕ} {blocks : ℕ} (kept : Kept s offsets 
 
       -- If the records fit, a second walk puts them.
       pub measured_put : {after : Bytes} {x : ℕ} → Delivered form 0 out (all_records s) after x
-          → Written (accepted (all_encoded form (all_records s))) out after (CountAnswer·is.Counted (each * n))
+          → Written (accepted (all_encoded form (all_records s))) out after (accepted (each * n))
       measured_put {after} {x} g =
           let same : x ≡ n = counted kept out after x form g ∙ sym (counted kept own made n form d) in
           rw (← same) (all_put g enough)
@@ -279,7 +276,7 @@ module _ {s : Bytes} {offsets : List ℕ} {blocks : ℕ} (kept : Kept s offsets 
         g : n ≤ length own / each
         g = rw own_size All-there
 
-        pub own_put : {after : Bytes} {r : CountAnswer} → Written (accepted (take (each * n) made)) out after r
+        pub own_put : {after : Bytes} {r : Outcome ℕ} → Written (accepted (take (each * n) made)) out after r
             → Written (accepted (all_encoded form (all_records s))) out after r
         own_put w =
             let mine = all_put d (rw (counted kept own made n form d) at g) in
@@ -292,62 +289,62 @@ rows_encoded [] = refl
 rows_encoded (r ∷ rs) = ap (λ (b : Bytes). encode_row (row_of r) ++ b) (rows_encoded rs)
 
 -- The answers of the public functions.
-module _ (s : Bytes) (a : LayoutAnswer) (read : layout_answer a ≡ layout s) where
+module _ (s : Bytes) (a : Outcome Layout) (read : a ≡ layout s) where
   -- If the answer that was read is passed on, it is the layout of the file.
-  pub told_again : (x : LayoutAnswer) → a ≡ x → layout_answer x ≡ layout s
-  told_again x e = sym (ap layout_answer e) ∙ read
+  pub told_again : (x : Outcome Layout) → a ≡ x → x ≡ layout s
+  told_again x e = sym (e) ∙ read
 
   -- If an outline is written, it reads back to the rows of the file.
-  back : ((i : ℕ) → Fits w8 (get_or s i 0)) → (out after : Bytes) (x : CountAnswer) → Written (outline s) out after x → OutlineWritten s out after x
+  back : ((i : ℕ) → Fits w8 (get_or s i 0)) → (out after : Bytes) (x : Outcome ℕ) → Written (outline s) out after x → OutlineWritten s out after x
   back known out after x w =
       record {
         written = w;
         reads_back = λ n e. let t = written_taken (outline s) out after n (rw e at w) in read_back s (take n after) (λ i. (known i).fits) t.is;
       }
 
-  module _ (r : Refusal) (e : a ≡ LayoutAnswer·is.Refused r) where
+  module _ (r : Refusal) (e : a ≡ refused r) where
     -- If the file is refused, its records are refused in the same way.
     no_records : records s ≡ refused r
     unfolding records
     no_records = refused_records deepest 0 0 s r (file_refused s a read r e)
 
-    pub count_refused : count_answer (CountAnswer·is.Refused r) ≡ record_count s
-    unfolding count_answer record_count
+    pub count_refused : (refused r) ≡ record_count s
+    unfolding record_count
     count_refused = rw (record_count, no_records)
 
-    pub record_refused : (w : ℕ) (out : Bytes) → Written (found_bytes record_fields (record_at s w)) out out (CountAnswer·is.Refused r)
+    pub record_refused : (w : ℕ) (out : Bytes) → Written (found_bytes record_fields (record_at s w)) out out (refused r)
     unfolding found_bytes record_at
     record_refused w out = written_refused (found_bytes record_fields (record_at s w)) out r (rw (found_bytes, record_at, no_records)) _ refl
 
-    pub outline_refused : ((i : ℕ) → Fits w8 (get_or s i 0)) → (out : Bytes) → OutlineWritten s out out (CountAnswer·is.Refused r)
+    pub outline_refused : ((i : ℕ) → Fits w8 (get_or s i 0)) → (out : Bytes) → OutlineWritten s out out (refused r)
     unfolding outline rows
     outline_refused known out = back known out out _ (written_refused (outline s) out r (rw (outline, rows, no_records)) _ refl)
 
-    pub table_refused : (out : Bytes) → Written (record_table s) out out (CountAnswer·is.Refused r)
+    pub table_refused : (out : Bytes) → Written (record_table s) out out (refused r)
     unfolding record_table
     table_refused out = written_refused (record_table s) out r (rw (record_table, no_records)) _ refl
 
-  module _ (before table : List ℕ) (is : table ≡ offset_table before (file s)) (l : Layout) (e : a ≡ LayoutAnswer·is.Accepted l) where
+  module _ (before table : List ℕ) (is : table ≡ offset_table before (file s)) (l : Layout) (e : a ≡ accepted l) where
     kept : Kept s table l.blocks
     kept = blocks_kept s a read before table is l e
 
-    pub count_accepted : (n : ℕ) → n ≡ length (all_records s) → count_answer (CountAnswer·is.Counted n) ≡ record_count s
-    unfolding count_answer record_count
+    pub count_accepted : (n : ℕ) → n ≡ length (all_records s) → (accepted n) ≡ record_count s
+    unfolding record_count
     count_accepted n c = rw (record_count, accepted_all kept, c)
 
-    pub outline_written : ((i : ℕ) → Fits w8 (get_or s i 0)) → (out after : Bytes) (x : CountAnswer)
+    pub outline_written : ((i : ℕ) → Fits w8 (get_or s i 0)) → (out after : Bytes) (x : Outcome ℕ)
         → Written (accepted (all_encoded Rows (all_records s))) out after x → OutlineWritten s out after x
     unfolding outline rows all_encoded
     outline_written known out after x w = back known out after x (rw (outline, rows, accepted_all kept, rows_encoded (all_records s)) w)
 
-    pub table_written : (out after : Bytes) (x : CountAnswer) → Written (accepted (all_encoded Table (all_records s))) out after x
+    pub table_written : (out after : Bytes) (x : Outcome ℕ) → Written (accepted (all_encoded Table (all_records s))) out after x
         → Written (record_table s) out after x
     unfolding record_table all_encoded
     table_written out after x w = rw (record_table, accepted_all kept) w
 
 -- If the first `size` bytes of a buffer are put at the start of another that has room for them, they are written there.
 pub handed_over : (own out : Bytes) (size : ℕ) → size ≤ length own → size ≤ length out → (after : Bytes) → after ≡ placed out 0 (take size (drop 0 own))
-    → Written (accepted (take size own)) out after (CountAnswer·is.Counted size)
+    → Written (accepted (take size own)) out after (accepted size)
 handed_over own out size h g after e =
     let long : length (take size own) ≡ size = length-take-le size own h in
     written_placed _ out (take size own) refl (omega arith) after e size (sym long)

@@ -12,10 +12,8 @@ use lib.Dec.{leb}
 use mir.Syntax.{w8}
 use mir.Val.{Fits}
 use borrow.Author.Tests.{le-leb, lt-leb, eq-eqb, ne_eqb, not-true, not-false}
-use Rattle.format.specs.declared.answer.CountAnswer.{CountAnswer}
-use Rattle.format.specs.declared.answer.CountAnswer.TheVariants.{Counted, Refused}
 use Rattle.format.specs.declared.row.Row.{Row}
-use Rattle.format.specs.Answer.{count_answer}
+use Rattle.format.specs.declared.refusal.Reason.TheVariants.{OutlineLength, OutlineRow}
 use Rattle.format.specs.Bytes.{Bytes}
 use Rattle.format.specs.Block.{least_header}
 use Rattle.format.specs.Chain.{most_blocks}
@@ -69,8 +67,8 @@ pub record Counting (b : Bytes) (at most : ℕ) : Type 0 where
   pub left : counted_from (at / row_bytes) (stored_from ((length b - at) / row_bytes) at most (drop at b)) ≡ stored_count b
 
 -- If the bytes are not a whole number of rows, then the count is refused with number 23 at place 0.
-pub count_parts : (b : Bytes) (a : CountAnswer) → a ≡ Refused (refusal 23 0) → (length b % row_bytes ≡ 0 → ⊥) → count_answer a ≡ stored_count b
-unfolding count_answer stored_count stored
+pub count_parts : (b : Bytes) (a : Outcome ℕ) → a ≡ refused (refusal OutlineLength 0) → (length b % row_bytes ≡ 0 → ⊥) → a ≡ stored_count b
+unfolding stored_count stored
 count_parts b a e h = rw (e, ne_eqb (length b % row_bytes) 0 h)
 
 -- If no rows were counted before, then the count is the number of rows in `o`.
@@ -94,7 +92,7 @@ count_start b h =
 -- The row `r` and the rows after it. If the test `x` on `r` fails, the refusal is number 24 at place `at`.
 abbrev row_and : Bool → ℕ → Row → Outcome (List Row) → Outcome (List Row)
 row_and x at r others = do
-  need x 24 at
+  need x OutlineRow at
   rs ← others
   accepted (r ∷ rs)
 
@@ -114,7 +112,7 @@ module _ (b : Bytes) (at most : ℕ) (h : Counting b at most) (p : at < length b
         rw (test, is, ← drop-drop row_bytes at b) (rw more at h.left)
 
     -- If the next row breaks the rules, then the count is refused with number 24 at the offset of that row.
-    pub count_bad : not x ≡ true → (a : CountAnswer) → a ≡ Refused (refusal 24 at) → count_answer a ≡ stored_count b
+    pub count_bad : not x ≡ true → (a : Outcome ℕ) → a ≡ refused (refusal OutlineRow at) → a ≡ stored_count b
     unfolding count_answer
     count_bad e a f = rw f (rw (not-true x e) at next_row)
 
@@ -130,8 +128,8 @@ module _ (b : Bytes) (at most : ℕ) (h : Counting b at most) (p : at < length b
         }
 
 -- If all rows are read, then the count is the number of rows in the bytes.
-pub count_done : (b : Bytes) (at most : ℕ) → Counting b at most → length b ≤ at → count_answer (Counted (length b / row_bytes)) ≡ stored_count b
-unfolding count_answer stored_from
+pub count_done : (b : Bytes) (at most : ℕ) → Counting b at most → length b ≤ at → (accepted (length b / row_bytes)) ≡ stored_count b
+unfolding stored_from
 count_done b at most h p =
     let none : (length b - at) / row_bytes ≡ 0 = omega arith in
     let all : at / row_bytes + 0 ≡ length b / row_bytes = omega arith in

@@ -1,5 +1,7 @@
 -- Laws about rows. The sixteen bytes of a row are four parts of four bytes each.
 use Prim.Native.Nat.{ℕ, ◌+◌, ◌*◌, ◌-◌, ◌/◌, ◌%◌, ◌^◌, ◌≤◌, ◌<◌}
+use Rattle.std.specs.Prelude.{Some}
+use Rattle.std.specs.Prelude.{None}
 use native.Mathlib.Nat.{add-zero, add_assoc, mul-one, div-one, mod-mod, mod-eq_of_lt}
 use native.Mathlib.Omega.{arith}
 use mathlib.Core.Path.{◌≡◌, refl, sym, ap, ◌∙◌}
@@ -11,10 +13,8 @@ use lib.Dec.{eqb}
 use mir.Syntax.{w8}
 use mir.Val.{Fits}
 use borrow.Author.Tests.{le-leb, lt-leb}
-use Rattle.format.specs.declared.answer.RowAnswer.TheVariants.{Found, NoSuchRow}
 use Rattle.format.specs.declared.offset.OutermostOffset.{OutermostOffset}
 use Rattle.format.specs.declared.row.Row.{Row}
-use Rattle.format.specs.Answer.{row_answer}
 use Rattle.format.specs.Bytes.{Bytes, IsBytes, big_endian, to_bytes, wrapped, bit}
 use Rattle.format.specs.Lent.{placed}
 use Rattle.format.specs.Outcome.{accepted}
@@ -163,17 +163,17 @@ row_read s at front p a u start place known room hf hp is-start is-place ha hu =
 
 module _ (s : Bytes) (at : ℕ) where
   -- If there are fewer than sixteen bytes at the offset, then there is no such row.
-  none_there : length s < at + 16 → row_answer NoSuchRow ≡ accepted (row_at s at)
-  unfolding row_answer row_at
+  none_there : length s < at + 16 → accepted None ≡ accepted (row_at s at)
+  unfolding row_at
   none_there h = rw (row_at, lt-leb (at + 16) (length s) h)
 
-  pub row_outside : length s < at → row_answer NoSuchRow ≡ accepted (row_at s at)
+  pub row_outside : length s < at → accepted None ≡ accepted (row_at s at)
   row_outside h = none_there (omega arith)
 
-  pub row_cut : length s - at < 16 → row_answer NoSuchRow ≡ accepted (row_at s at)
+  pub row_cut : length s - at < 16 → accepted None ≡ accepted (row_at s at)
   row_cut h = none_there (omega arith)
 
   -- If there are sixteen bytes at the offset, then the row in them is found.
-  pub row_there : at ≤ length s → 16 ≤ length s - at → (r : Row) → r ≡ decode_row (take 16 (drop at s)) → row_answer (Found r) ≡ accepted (row_at s at)
-  unfolding row_answer row_at
+  pub row_there : at ≤ length s → 16 ≤ length s - at → (r : Row) → r ≡ decode_row (take 16 (drop at s)) → (accepted (Some r)) ≡ accepted (row_at s at)
+  unfolding row_at
   row_there h g r e = rw (row_at, le-leb (at + 16) (length s) (omega arith), e)

@@ -4,20 +4,17 @@ use Prim.Native.Nat.{ℕ, zero, suc, ◌+◌, ◌*◌, ◌/◌, ◌%◌, ◌^◌
 use native.Mathlib.Omega.{arith}
 use mathlib.Core.Path.{◌≡◌, refl, ap, ◌∙◌}
 use mathlib.Core.Bool.{true}
-use mathlib.Core.Option.{none, some}
+use Rattle.std.specs.Prelude.{None, Some}
 use mathlib.Core.List.{List, ◌∷◌}
-use lib.ListN.{length, take, drop, get_elem?, length-drop}
+use lib.ListN.{length, take, drop, length-drop}
+use Rattle.std.specs.Prelude.{slice_get}
 use lib.Seq.{drop-drop}
 use lib.Dec.{eqb}
 use mir.Syntax.{w64}
 use mir.Val.{Fits}
 use borrow.Author.Tests.{eqb-true}
-use Rattle.format.specs.declared.answer.CountAnswer.{CountAnswer}
-use Rattle.format.specs.declared.answer.CountAnswer.TheVariants.{Counted, Refused}
-use Rattle.format.specs.declared.answer.RowAnswer.TheVariants as RowAnswer·is
 use Rattle.format.specs.declared.refusal.Refusal.{Refusal}
 use Rattle.format.specs.declared.row.Row.{Row}
-use Rattle.format.specs.Answer.{count_answer, row_answer}
 use Rattle.format.specs.Bytes.{Bytes}
 use Rattle.format.specs.Outcome.{Outcome, accepted, refused, ◌>>=◌}
 use Rattle.format.specs.Outline.{row_bytes, decode_row, stored_from, stored, stored_count, stored_at}
@@ -61,8 +58,8 @@ pub record HasRows (b : Bytes) (n : ℕ) : Type 0 where
   pub is : stored b ≡ accepted (rows_in n b)
 
 -- If `n` rows are counted, then the outline has these `n` rows.
-pub has_rows : (b : Bytes) (a : CountAnswer) (n : ℕ) → count_answer a ≡ stored_count b → a ≡ Counted n → HasRows b n
-unfolding count_answer stored_count
+pub has_rows : (b : Bytes) (a : Outcome ℕ) (n : ℕ) → a ≡ stored_count b → a ≡ accepted n → HasRows b n
+unfolding stored_count
 has_rows b a n h e = go (stored b) refl (read_stored b) (rw e at h)
   where
     go : (o : Outcome (List Row)) → stored b ≡ o → Accepts (Read b) o → accepted n ≡ ◌>>=◌ o (λ rs. accepted (length rs)) → HasRows b n
@@ -72,8 +69,8 @@ has_rows b a n h e = go (stored b) refl (read_stored b) (rw e at h)
     go (refused r) q read c = let z : ◌≡◌ {A = ℕ} 0 1 = cc in absurd (omega arith)
 
 -- If the count is refused, then the outline is refused in the same way.
-pub no_rows : (b : Bytes) (a : CountAnswer) (r : Refusal) → count_answer a ≡ stored_count b → a ≡ Refused r → stored b ≡ refused r
-unfolding count_answer stored_count
+pub no_rows : (b : Bytes) (a : Outcome ℕ) (r : Refusal) → a ≡ stored_count b → a ≡ refused r → stored b ≡ refused r
+unfolding stored_count
 no_rows b a r h e = go (stored b) refl (rw e at h)
   where
     go : (o : Outcome (List Row)) → stored b ≡ o → refused r ≡ ◌>>=◌ o (λ rs. accepted (length rs)) → stored b ≡ refused r
@@ -81,7 +78,7 @@ no_rows b a r h e = go (stored b) refl (rw e at h)
     go (refused t) q c = cc
 
 -- If `k` is below `n`, then row `k` is the row in its own sixteen bytes.
-row_in : (n k : ℕ) (b : Bytes) → k < n → get_elem? (rows_in n b) k ≡ some (decode_row (take row_bytes (drop (k * row_bytes) b)))
+row_in : (n k : ℕ) (b : Bytes) → k < n → slice_get (rows_in n b) k ≡ Some (decode_row (take row_bytes (drop (k * row_bytes) b)))
 row_in zero k b h = absurd (omega arith)
 row_in (suc n) zero b h = refl
 row_in (suc n) (suc k) b h =
@@ -89,21 +86,21 @@ row_in (suc n) (suc k) b h =
     rw (row_in n k (drop row_bytes b) (omega arith), drop-drop (k * row_bytes) row_bytes b, e)
 
 -- If `k` is not below `n`, then there is no row `k`.
-row_out : (n k : ℕ) (b : Bytes) → n ≤ k → get_elem? (rows_in n b) k ≡ none
+row_out : (n k : ℕ) (b : Bytes) → n ≤ k → slice_get (rows_in n b) k ≡ None
 row_out zero k b h = refl
 row_out (suc n) zero b h = absurd (omega arith)
 row_out (suc n) (suc k) b h = row_out n k (drop row_bytes b) (omega arith)
 
 -- If the count is refused, then reading row `k` is refused in the same way.
-pub row_refused : (b : Bytes) (k : ℕ) (a : CountAnswer) (r : Refusal) → count_answer a ≡ stored_count b → a ≡ Refused r
-    → row_answer (RowAnswer·is.Refused r) ≡ stored_at b k
-unfolding row_answer stored_at
+pub row_refused : (b : Bytes) (k : ℕ) (a : Outcome ℕ) (r : Refusal) → a ≡ stored_count b → a ≡ refused r
+    → (refused r) ≡ stored_at b k
+unfolding stored_at
 row_refused b k a r h e = rw (stored_at, no_rows b a r h e)
 
-module _ (b : Bytes) (k : ℕ) (a : CountAnswer) (n : ℕ) (h : count_answer a ≡ stored_count b) (e : a ≡ Counted n) where
+module _ (b : Bytes) (k : ℕ) (a : Outcome ℕ) (n : ℕ) (h : a ≡ stored_count b) (e : a ≡ accepted n) where
   -- If `k` is not below the count, then there is no such row.
-  pub row_none : n ≤ k → row_answer RowAnswer·is.NoSuchRow ≡ stored_at b k
-  unfolding row_answer stored_at
+  pub row_none : n ≤ k → accepted None ≡ stored_at b k
+  unfolding stored_at
   row_none p = rw (stored_at, (has_rows b a n h e).is, row_out n k b p)
 
   -- If `k` is below the count, then row `k` is inside the bytes.
@@ -115,6 +112,6 @@ module _ (b : Bytes) (k : ℕ) (a : CountAnswer) (n : ℕ) (h : count_answer a �
   row_fits p f = omega (arith, row_inside p)
 
   -- If `k` is below the count, then the row in the sixteen bytes of row `k` is the one asked for.
-  pub row_found : (r : Row) → k < n → r ≡ decode_row (take row_bytes (drop (k * row_bytes) b)) → row_answer (RowAnswer·is.Found r) ≡ stored_at b k
-  unfolding row_answer stored_at
+  pub row_found : (r : Row) → k < n → r ≡ decode_row (take row_bytes (drop (k * row_bytes) b)) → (accepted (Some r)) ≡ stored_at b k
+  unfolding stored_at
   row_found r p f = rw (stored_at, (has_rows b a n h e).is, row_in n k b p, f)

@@ -9,11 +9,9 @@ use lib.ListN.{length, take, drop, get_or, length-append}
 use lib.Seq.{drop-drop}
 use mir.Syntax.{w8, w64}
 use mir.Val.{Fits}
-use Rattle.format.specs.declared.answer.CountAnswer.{CountAnswer}
-use Rattle.format.specs.declared.answer.CountAnswer.TheVariants.{Counted, Refused}
 use Rattle.format.specs.declared.refusal.Refusal.{Refusal}
 use Rattle.format.specs.declared.row.Row.{Row}
-use Rattle.format.specs.Answer.{count_answer}
+use Rattle.format.specs.declared.refusal.Reason.TheVariants.{BufferTooShort}
 use Rattle.format.specs.Bytes.{Bytes}
 use Rattle.format.specs.Fields.{row_fields, number_bytes, encode_stored_row}
 use Rattle.format.specs.Lent.{placed}
@@ -121,12 +119,12 @@ module _ (form : RowForm) (b before out : Bytes) (from to : ℕ) (h : Putting fo
       placed_nothing out to (omega (arith, h.room)) ∙ rw none at h.left
 
 -- If the count is refused, then the writer gives the same refusal and leaves the buffer unchanged.
-pub write_refused : (form : RowForm) (b out : Bytes) (a : CountAnswer) (r : Refusal) → count_answer a ≡ stored_count b → a ≡ Refused r
-    → Written (stored_in form b) out out (Refused r)
+pub write_refused : (form : RowForm) (b out : Bytes) (a : Outcome ℕ) (r : Refusal) → a ≡ stored_count b → a ≡ refused r
+    → Written (stored_in form b) out out (refused r)
 unfolding stored_in
-write_refused form b out a r h e = written_refused (stored_in form b) out r (rw (stored_in, no_rows b a r h e)) (Refused r) refl
+write_refused form b out a r h e = written_refused (stored_in form b) out r (rw (stored_in, no_rows b a r h e)) (refused r) refl
 
-module _ (form : RowForm) (b : Bytes) (a : CountAnswer) (m : ℕ) (h : count_answer a ≡ stored_count b) (e : a ≡ Counted m) where
+module _ (form : RowForm) (b : Bytes) (a : Outcome ℕ) (m : ℕ) (h : a ≡ stored_count b) (e : a ≡ accepted m) where
   -- If the outline is accepted, then its bytes are a whole number of rows.
   pub write_whole : length b % row_bytes ≡ 0
   write_whole = omega (arith, (has_rows b a m h e).size)
@@ -147,7 +145,7 @@ module _ (form : RowForm) (b : Bytes) (a : CountAnswer) (m : ℕ) (h : count_ans
 
     -- If there is no room for the rows, then the writer refuses with number 21 at place 0 and leaves the buffer
     -- unchanged.
-    pub write_long : length out / each < length b / row_bytes → (x : CountAnswer) → x ≡ Refused (refusal 21 0)
+    pub write_long : length out / each < length b / row_bytes → (x : Outcome ℕ) → x ≡ refused (refusal BufferTooShort 0)
         → Written (stored_in form b) out out x
     write_long p = written_short (stored_in form b) out rows_of are_rows (rw are_long ((div-lt_iff_lt-mul some).0 p))
 
@@ -161,11 +159,11 @@ module _ (form : RowForm) (b : Bytes) (a : CountAnswer) (m : ℕ) (h : count_ans
 
       -- If the rows are put at the start of the buffer, then they are written, and the answer is how many bytes they
       -- have.
-      pub write_done : (after : Bytes) → after ≡ placed out 0 rows_of → Written (stored_in form b) out after (Counted (length b / row_bytes * each))
+      pub write_done : (after : Bytes) → after ≡ placed out 0 rows_of → Written (stored_in form b) out after (accepted (length b / row_bytes * each))
       write_done after f = written_placed (stored_in form b) out rows_of are_rows write_room after f (length b / row_bytes * each) (sym are_long)
 
 -- If an outline is written in the form in which it is stored, then the result is the same outline.
-pub written_again : (b before after : Bytes) (a : CountAnswer) → ((i : ℕ) → Fits w8 (get_or b i 0)) → Written (stored_in AsStored b) before after a
+pub written_again : (b before after : Bytes) (a : Outcome ℕ) → ((i : ℕ) → Fits w8 (get_or b i 0)) → Written (stored_in AsStored b) before after a
     → WrittenAgain b before after a
 unfolding stored_in formed_rows rewritten outline_of
 written_again b before after a known w = record { written = w; same = λ n e. from (stored b) refl n (written_taken _ before after n (rw e at w)).is }

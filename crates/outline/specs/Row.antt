@@ -1,6 +1,6 @@
 -- The parts of a row, and the rows in bytes.
 use Rattle.std.specs.Prelude.{ℕ, zero, suc, ◌+◌, ◌*◌, ◌%◌, ◌^◌, ◌<◌, ◌≡◌, true, false, List, [], ◌∷◌, leb, length, take, drop}
-use Rattle.std.proofs.Math.Option.{Option, none, some}
+use Rattle.std.specs.Prelude.{Option, None, Some}
 use Rattle.format.specs.declared.row.Row.{Row}
 use Rattle.format.specs.Bytes.{Bytes, bit, number}
 use Rattle.format.specs.Outline.{row_bytes, decode_row}
@@ -20,7 +20,7 @@ pub record Field (s : Bytes) (n w r : ℕ) : Type 0 where
 
 -- The row in the sixteen bytes at offset `n`, if there are sixteen bytes.
 unfoldable pub row_at : Bytes → ℕ → Option Row
-row_at b n = elim (leb (n + row_bytes) (length b)) [ true ↦ some (decode_row (take row_bytes (drop n b))) | false ↦ none ]
+row_at b n = elim (leb (n + row_bytes) (length b)) [ true ↦ Some (decode_row (take row_bytes (drop n b))) | false ↦ None ]
 
 -- The `n` rows with which `b` begins.
 abbrev pub rows_in : ℕ → Bytes → List Row

@@ -21,6 +21,7 @@ use Rattle.md5_parts.specs.Kept.{state_bytes, encode_state, decode_state, part_b
 use Rattle.md5_parts.proofs.BlockLaws.{left_size}
 use Rattle.md5_parts.proofs.StateLaws.{fed_fits, fed_long, cuts_agree}
 use Rattle.running.proofs.StateBytes.{Sound, decode_encode, encode_size}
+use Rattle.format.specs.declared.refusal.Reason.TheVariants.{FileTooLong}
 
 -- Words of 32 bits.
 record Small (w : Words) : Type 0 where
@@ -108,7 +109,7 @@ module _ (b : Bytes) (st : Md5) (h : Keeps b st) where
         sound = sound_next st t h.sound e;
       })
   fed_kept t false e =
-      let out : part_bytes b t ≡ refused (refusal 1 0) = part_kept t ∙ rw (taken, e) in
+      let out : part_bytes b t ≡ refused (refusal FileTooLong 0) = part_kept t ∙ rw (taken, e) in
       rw (fed_long st t e, out) h
 
   -- If the state takes a part, so do the bytes.

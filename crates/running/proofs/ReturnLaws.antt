@@ -6,9 +6,8 @@ use native.Mathlib.Omega.{arith}
 use lib.ListN.{length, take, drop, length-drop}
 use lib.Seq.{length-take-le}
 use borrow.Author.Tests.{le-leb, lt-leb}
-use Rattle.format.specs.declared.answer.CountAnswer.{CountAnswer}
-use Rattle.format.specs.declared.answer.CountAnswer.TheVariants as CountAnswer·is
 use Rattle.format.specs.declared.refusal.Refusal.{Refusal}
+use Rattle.format.specs.declared.refusal.Reason.TheVariants.{BufferTooShort}
 use Rattle.format.specs.Bytes.{Bytes, big_endian}
 use Rattle.format.specs.Fields.{number_bytes}
 use Rattle.format.specs.Lent.{placed, leaves}
@@ -49,29 +48,29 @@ state_read s room a b c d n p ea eb ec ed en ep =
 module _ (b : Bytes) where
   -- Bytes that are too short for a state.
   module _ (short : length b < state_bytes) where
-    pub start_short : (x : CountAnswer) → x ≡ CountAnswer·is.Refused (refusal 21 0) → Written (accepted (encode_state starting)) b b x
+    pub start_short : (x : Outcome ℕ) → x ≡ refused (refusal BufferTooShort 0) → Written (accepted (encode_state starting)) b b x
     start_short = written_short (accepted (encode_state starting)) b (encode_state starting) refl (omega (arith, encode_size starting refl))
 
-    pub digest_short : (out : Bytes) (x : CountAnswer) → x ≡ CountAnswer·is.Refused (refusal 21 0) → Written (digest_bytes b) out out x
+    pub digest_short : (out : Bytes) (x : Outcome ℕ) → x ≡ refused (refusal BufferTooShort 0) → Written (digest_bytes b) out out x
     unfolding digest_bytes
-    digest_short out = written_refused (digest_bytes b) out (refusal 21 0) (rw (digest_bytes, lt-leb state_bytes (length b) short))
+    digest_short out = written_refused (digest_bytes b) out (refusal BufferTooShort 0) (rw (digest_bytes, lt-leb state_bytes (length b) short))
 
-    pub part_short : (t : Bytes) (r : Refusal) → r ≡ refusal 21 0 → PartKept b t b (Refused r)
+    pub part_short : (t : Bytes) (r : Refusal) → r ≡ refusal BufferTooShort 0 → PartKept b t b (Refused r)
     unfolding part_bytes part_answer leaves
     part_short t r e =
-        let out : part_bytes b t ≡ refused (refusal 21 0) = rw (part_bytes, lt-leb state_bytes (length b) short) in
+        let out : part_bytes b t ≡ refused (refusal BufferTooShort 0) = rw (part_bytes, lt-leb state_bytes (length b) short) in
         rw e (record { answer = rw out; bytes = rw out })
 
   module _ (room : state_bytes ≤ length b) where
     -- The starting state was put.
     pub start_put : (st : Md5) → st ≡ starting → (after : Bytes) → after ≡ placed b 0 (state_of st.words st.pending st.count)
-        → Written (accepted (encode_state starting)) b after (CountAnswer·is.Counted 104)
+        → Written (accepted (encode_state starting)) b after (accepted 104)
     start_put st e after h =
         let size : length (encode_state starting) ≡ state_bytes = encode_size starting refl in
         written_placed (accepted (encode_state starting)) b (encode_state starting) refl (omega (arith, size)) after (rw e at h) 104 (sym size)
 
     -- The digest of the state in the bytes was written.
-    pub digest_written : (st : Md5) → st ≡ decode_state b → (d : Bytes) → d ≡ digest st → (out after : Bytes) (x : CountAnswer)
+    pub digest_written : (st : Md5) → st ≡ decode_state b → (d : Bytes) → d ≡ digest st → (out after : Bytes) (x : Outcome ℕ)
         → Written (accepted d) out after x → Written (digest_bytes b) out after x
     unfolding digest_bytes
     digest_written st es d ed out after x h =

@@ -1,6 +1,6 @@
 -- Numbers in bytes and in digits.
 use Rattle.std.specs.Prelude.{ℕ, ◌%◌, ◌^◌, ◌≤◌, ◌<◌, min, ◌≡◌, Bool, true, false, ◌||◌, not, length, leb}
-use Rattle.std.proofs.Math.Option.{Option, none, some}
+use Rattle.std.specs.Prelude.{Option, None, Some}
 use Rattle.format.specs.Bytes.{Bytes, text, begins, big_endian, number}
 use Rattle.format.specs.Numeral.{numeral, all_digits, decimal_value}
 use Rattle.scan.specs.declared.number.Number.{Number}
@@ -19,8 +19,8 @@ pub record Four (s : Bytes) (n r : ℕ) : Type 0 where
 
 -- The number in an answer, if there is one.
 abbrev pub number_of : Number → Option ℕ
-number_of (Value x) = some x
-number_of Malformed = none
+number_of (Value x) = Some x
+number_of Malformed = None
 
 -- The answer, if it is a number, has at most `most` digits.
 abbrev pub Digits : ℕ → Number → Type 0
@@ -29,7 +29,7 @@ Digits most Malformed = Unit {0}
 
 -- The number that digits give, with or without a leading zero. If a byte is no digit, there is none.
 abbrev pub digits_number : Bytes → Option ℕ
-digits_number t = elim (all_digits t) [ true ↦ some (decimal_value t) | false ↦ none ]
+digits_number t = elim (all_digits t) [ true ↦ Some (decimal_value t) | false ↦ None ]
 
 -- `r` is the number that the digits `t` give. It has at most as many digits as `t`.
 pub record DigitsRead (t : Bytes) (r : Number) : Type 0 where

@@ -1,16 +1,13 @@
 -- Laws about what a block's content is: one for each return.
 use Rattle.std.proofs.Common.{◌≡◌, ℕ, zero, suc, ◌+◌, ◌-◌, ◌<◌, ◌≤◌, Bool, true, false, not, List, [], drop, sym, refl, ap, ◌∙◌, arith, drop_of_length-le, le-leb}
 use borrow.Author.Tests.{not-true, not-false, lt-leb}
-use Rattle.format.specs.declared.answer.LayoutAnswer.{LayoutAnswer}
-use Rattle.format.specs.declared.answer.LayoutAnswer.TheVariants as LayoutAnswer·is
 use Rattle.format.specs.declared.block.Inner.{Inner}
 use Rattle.format.specs.declared.block.Inner.TheVariants.{Plain, Opened, Refused, TooDeep}
 use Rattle.format.specs.declared.layout.Layout.{Layout}
 use Rattle.format.specs.declared.refusal.Refusal.{Refusal}
-use Rattle.format.specs.Answer.{layout_answer}
 use Rattle.format.specs.Bytes.{Bytes, begins}
 use Rattle.format.specs.Header.{token}
-use Rattle.format.specs.Outcome.{accepted, refused}
+use Rattle.format.specs.Outcome.{Outcome, accepted, refused}
 use Rattle.format.specs.File.{file, offset_table, layout}
 use Rattle.format.specs.Nest.{deepest, Inside, closed, opened, walk, walk_file, records_from}
 use Rattle.file.specs.Layout.{Kept}
@@ -86,14 +83,14 @@ module _ (depth : ℕ) (compressed : Bool) (t : Bytes) (before : List ℕ) where
           closed_is depth compressed t before before TooDeep (λ start. like_file start ∙ rw e)
           (rw (content_table, plain, starts-so, le-leb deepest depth h))
 
-      module _ (high : depth < deepest) (a : LayoutAnswer) (read : layout_answer a ≡ layout t) (after : List ℕ) (kept-so : after ≡ offset_table before (file t)) where
+      module _ (high : depth < deepest) (a : Outcome Layout) (read : a ≡ layout t) (after : List ℕ) (kept-so : after ≡ offset_table before (file t)) where
         -- Content that is read as a file changes the table as that file does.
         table_read : after ≡ content_table depth compressed t before
         unfolding content_table
         table_read = let e = sym is ∙ not-false x starts in kept-so ∙ rw (content_table, plain, e, lt-leb deepest depth high)
 
         -- If the inner file is refused, the inner state is that refusal.
-        pub content_refused : (r : Refusal) → a ≡ LayoutAnswer·is.Refused r
+        pub content_refused : (r : Refusal) → a ≡ refused r
             → ContentIs depth compressed t before after (record { inner = Refused r; blocks = 0 })
         unfolding opened
         content_refused r e =
@@ -103,7 +100,7 @@ module _ (depth : ℕ) (compressed : Bool) (t : Bytes) (before : List ℕ) where
             table_read
 
         -- If the inner file is accepted, the content is opened.
-        pub content_opened : (l : Layout) → a ≡ LayoutAnswer·is.Accepted l
+        pub content_opened : (l : Layout) → a ≡ accepted l
             → ContentIs depth compressed t before after (record { inner = Opened; blocks = l.blocks })
         unfolding opened records_left
         content_opened l e = record {
