@@ -1,5 +1,7 @@
 -- Laws about the edit of a file: one for each return, and everything that is promised about it.
 use Prim.Native.Nat.{ℕ, ◌+◌, ◌-◌, ◌≤◌}
+use Rattle.std.specs.Prelude.{None}
+use Rattle.std.specs.Prelude.{Option}
 use native.Mathlib.Omega.{arith}
 use mathlib.Core.Path.{◌≡◌, refl, sym, ap, ◌∙◌}
 use mathlib.Core.Bool.{Bool, true, false, not}
@@ -10,7 +12,6 @@ use lib.Dec.{leb}
 use borrow.Author.Tests.{not-true, not-false, leb-true}
 use Rattle.format.specs.declared.layout.Layout.{Layout}
 use Rattle.format.specs.declared.layout.Tree.{Tree}
-use Rattle.format.specs.declared.layout.Tree.TheVariants.{NoTree, Found}
 use Rattle.format.specs.declared.offset.Offset.{Offset}
 use Rattle.format.specs.declared.refusal.Refusal.{Refusal}
 use Rattle.format.specs.declared.refusal.Reason.TheVariants.{EditWithoutTree, TextNotOneTree, TextLongerThanRoom}
@@ -75,14 +76,14 @@ room_filled s t n m room e order inside =
     let end : n + (m - n) ≡ m = omega arith in
     rw (e, size, drop-drop, end) (simp append_assoc)
 
-module _ (s t : Bytes) (x : Tree) (h : HasTree s x) where
+module _ (s t : Bytes) (x : Option Tree) (h : HasTree s x) where
   -- The edit of an accepted file is the edit of its tree.
   edit_tree_lem : edit s t ≡ edit_tree s t x
   unfolding edit
   edit_tree_lem = rw (h.read, h.is)
 
   -- If the file has no tree, the edit is refused with 18.
-  pub tree_none : (r : Refusal) → x ≡ NoTree → r ≡ refusal EditWithoutTree 0 → Done s t s (refused r)
+  pub tree_none : (r : Refusal) → x ≡ None → r ≡ refusal EditWithoutTree 0 → Done s t s (refused r)
   unfolding edit_tree
   tree_none r q e = rw e (refused_done s t _ (rw (edit_tree_lem, q)))
 

@@ -1,5 +1,7 @@
 -- Laws about the lists of numbers in which a file, a block and a row are reported.
 use Prim.Native.Nat.{ℕ}
+use Rattle.std.specs.Prelude.{None}
+use Rattle.std.specs.Prelude.{Option}
 use mathlib.Core.Path.{◌≡◌, refl}
 use mathlib.Core.List.{List, [], ◌∷◌, ◌++◌}
 use lib.ListN.{get_or}
@@ -8,7 +10,6 @@ use Rattle.format.specs.declared.block.Inner.{Inner}
 use Rattle.format.specs.declared.block.Inner.TheVariants.{Plain, Opened, Refused, TooDeep}
 use Rattle.format.specs.declared.layout.Layout.{Layout}
 use Rattle.format.specs.declared.layout.Tree.{Tree}
-use Rattle.format.specs.declared.layout.Tree.TheVariants.{NoTree, Found}
 use Rattle.format.specs.declared.offset.Offset.{Offset}
 use Rattle.format.specs.declared.refusal.Refusal.{Refusal}
 use Rattle.format.specs.declared.row.Row.{Row}
@@ -43,13 +44,13 @@ pub row_numbers : (r : Row) (at streamed compressed checksum : ℕ) → at ≡ r
 row_numbers r at streamed compressed checksum a s c k = rw (a, s, c, k)
 
 -- If a tree is found, then its numbers are 1, its start, its end and the end of its room.
-pub tree_found : (t : Tree) (a e m : Offset) → t ≡ Found a e m → 1 ∷ a.0 ∷ e.0 ∷ m.0 ∷ [] ≡ tree_fields t
+pub tree_found : (t : Option Tree) (a e m : Offset) → t ≡ Found a e m → 1 ∷ a.0 ∷ e.0 ∷ m.0 ∷ [] ≡ tree_fields t
 tree_found t a e m h = rw h
 
 -- A list that begins with numbers 0 to 3 of `tree_fields t` begins with all of `tree_fields t`.
-four_fields : (t : Tree) (others : List ℕ)
+four_fields : (t : Option Tree) (others : List ℕ)
     → get_or (tree_fields t) 0 0 ∷ get_or (tree_fields t) 1 0 ∷ get_or (tree_fields t) 2 0 ∷ get_or (tree_fields t) 3 0 ∷ others ≡ tree_fields t ++ others
-four_fields NoTree others = refl
+four_fields None others = refl
 four_fields (Found a e m) others = refl
 
 -- The numbers of a layout contain the four numbers of its tree, between the end of the comments and the number of

@@ -1,5 +1,7 @@
 -- Laws about the layout of a file: one for each return of its steps.
 use Prim.Native.Nat.{ℕ, ◌-◌, ◌≤◌, ◌<◌}
+use Rattle.std.specs.Prelude.{None}
+use Rattle.std.specs.Prelude.{Option}
 use native.Mathlib.Omega.{arith}
 use mathlib.Core.Path.{◌≡◌, refl, sym, ap, ◌∙◌}
 use mathlib.Core.List.{List}
@@ -9,7 +11,6 @@ use lib.Seq.{drop-cons}
 use borrow.Author.Tests.{le-leb, lt-leb, not-true, not-false}
 use Rattle.format.specs.declared.layout.Header.{Header}
 use Rattle.format.specs.declared.layout.Tree.{Tree}
-use Rattle.format.specs.declared.layout.Tree.TheVariants.{NoTree, Found}
 use Rattle.format.specs.declared.layout.Layout.{Layout}
 use Rattle.format.specs.declared.layout.Verdict.{Verdict}
 use Rattle.format.specs.declared.layout.Verdict.TheVariants.{Absent}
@@ -113,7 +114,7 @@ module _ (s : Bytes) (h : Header) (n : ℕ) (x : TreeStep) (read : tree_outcome 
   unfolding tree_outcome after_comments
   tree_refused before out r e = step_refused (after_comments s h n) _ (after_tree s h n) refl before out r (sym read ∙ ap tree_outcome e)
 
-  module _ (t : Tree) (e : x ≡ TreeStep·is.Read t) where
+  module _ (t : Option Tree) (e : x ≡ TreeStep·is.Read t) where
     -- If the tree is read, a right answer for what comes after it is a right answer here.
     pub tree_read : (before out : List ℕ) (a : Outcome Layout) → Judged (after_tree s h n t) before out a → Judged (after_comments s h n) before out a
     unfolding tree_outcome after_comments
@@ -124,7 +125,7 @@ module _ (s : Bytes) (h : Header) (n : ℕ) (x : TreeStep) (read : tree_outcome 
     unfolding tree_outcome
     tree_inside q = omega (arith, first_block_bounds n s t q (sym read ∙ ap tree_outcome e))
 
-module _ (s : Bytes) (h : Header) (n : ℕ) (t : Tree) where
+module _ (s : Bytes) (h : Header) (n : ℕ) (t : Option Tree) where
   module _ (x y m : Offset) (e : t ≡ Found x y m) where
     -- If there is a tree, the blocks begin after its room.
     pub blocks_after : (before out : List ℕ) (a : Outcome Layout) → Judged (with_blocks s h n (Found x y m) m.0) before out a → Judged (after_tree s h n t) before out a
@@ -136,7 +137,7 @@ module _ (s : Bytes) (h : Header) (n : ℕ) (t : Tree) where
     unfolding first_block
     room_inside q = rw e at q
 
-  module _ (e : t ≡ NoTree) (b : Bool) (goes : b ≡ goes_on NoTree (drop n s)) (before out : List ℕ) where
+  module _ (e : t ≡ None) (b : Bool) (goes : b ≡ goes_on None (drop n s)) (before out : List ℕ) where
     -- If there is no tree, and neither a block nor the end of the file is where the comments end, the answer is refusal
     -- 7 there.
     pub blocks_none : not b ≡ true → (r : Refusal) → r ≡ refusal NeitherTreeNorBlock n → Judged (after_tree s h n t) before out (refused r)
@@ -149,21 +150,21 @@ module _ (s : Bytes) (h : Header) (n : ℕ) (t : Tree) where
     blocks_here q a j = rw (e, after_tree, sym goes ∙ not-false b q) (rw e at j)
 
   -- If there is no tree, the comments end inside the file.
-  pub here_inside : t ≡ NoTree → first_block n t ≤ length s → n ≤ length s
+  pub here_inside : t ≡ None → first_block n t ≤ length s → n ≤ length s
   unfolding first_block
   here_inside e q = rw e at q
 
 -- If there is no tree, the file may end at offset `at`.
-pub goes_end : (s : Bytes) (at : ℕ) → length s ≤ at → true ≡ goes_on NoTree (drop at s)
+pub goes_end : (s : Bytes) (at : ℕ) → length s ≤ at → true ≡ goes_on None (drop at s)
 unfolding goes_on
 goes_end s at h = rw (drop_of_length-le s h)
 
 -- If there is no tree and the file does not end at offset `at`, a block must begin there.
-pub goes_mark : (s : Bytes) (at : ℕ) → at < length s → (b : Bool) → b ≡ begins mark (drop at s) → b ≡ goes_on NoTree (drop at s)
+pub goes_mark : (s : Bytes) (at : ℕ) → at < length s → (b : Bool) → b ≡ begins mark (drop at s) → b ≡ goes_on None (drop at s)
 unfolding goes_on
 goes_mark s at h b e = rw (drop-cons s at 0 h) (rw (drop-cons s at 0 h) at e)
 
-module _ (s : Bytes) (h : Header) (n : ℕ) (t : Tree) (first : ℕ) (before out : List ℕ) where
+module _ (s : Bytes) (h : Header) (n : ℕ) (t : Option Tree) (first : ℕ) (before out : List ℕ) where
   -- If the chain `c` was walked and `v` is the verdict on its tail, the layout with these parts is the answer.
   chain_judged : (c : Chain) (k : ℕ) → Chained (chain most_blocks 0 first (drop first s)) before out k c → (v : Verdict) → v ≡ verdict (offsets c.blocks) c.tail
       → (l : Layout) → l ≡ layout_with h n t k v → Judged (with_blocks s h n t first) before out (accepted l)

@@ -1,5 +1,6 @@
 -- The steps of reading a file. Each step includes everything that comes after it.
 use Rattle.std.specs.Prelude.{ℕ, ◌≡◌, List, length, take, drop}
+use Rattle.std.specs.Prelude.{Option}
 use Rattle.format.specs.declared.layout.Header.{Header}
 use Rattle.format.specs.declared.layout.Tree.{Tree}
 use Rattle.format.specs.declared.layout.Verdict.{Verdict}
@@ -15,17 +16,17 @@ use Rattle.format.specs.Index.{verdict}
 use Rattle.format.specs.File.{File, file, first_block, goes_on, offsets, table_of, layout_of}
 
 -- The file with the header `h`, comments that end at `n`, the tree `t` and the chain `c`.
-abbrev pub file_with : Header → ℕ → Tree → Chain → File
+abbrev pub file_with : Header → ℕ → Option Tree → Chain → File
 file_with h n t c = record { header = h; comments_end = n; tree = t; blocks = c.blocks; verdict = verdict (offsets c.blocks) c.tail }
 
 -- The file from its first block on, which begins at offset `first` if there is one.
-unfoldable pub with_blocks : Bytes → Header → ℕ → Tree → ℕ → Outcome File
+unfoldable pub with_blocks : Bytes → Header → ℕ → Option Tree → ℕ → Outcome File
 with_blocks s h n t first = do
   c ← chain most_blocks 0 first (drop first s)
   accepted (file_with h n t c)
 
 -- The file from the end of its tree on. `n` is where its comments end.
-unfoldable pub after_tree : Bytes → Header → ℕ → Tree → Outcome File
+unfoldable pub after_tree : Bytes → Header → ℕ → Option Tree → Outcome File
 after_tree s h n t = do
   need (goes_on t (drop n s)) NeitherTreeNorBlock n
   with_blocks s h n t (first_block n t)
@@ -43,7 +44,7 @@ after_header s h = do
   after_comments s h n
 
 -- The layout with these parts; its comments end at `n`.
-abbrev pub layout_with : Header → ℕ → Tree → ℕ → Verdict → Layout
+abbrev pub layout_with : Header → ℕ → Option Tree → ℕ → Verdict → Layout
 layout_with h n t blocks v = record { header = h; comments_end = record { 0 = n }; tree = t; blocks = blocks; verdict = v }
 
 -- `r` is the right answer for the outcome `o`. If the file is accepted, the table was changed from `before` to `out`,

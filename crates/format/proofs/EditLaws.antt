@@ -1,10 +1,12 @@
 -- An edit is accepted exactly if the file can be edited to the text. Then the file is edited: of all that is reported,
 -- only the tree is new.
+use Rattle.std.specs.Prelude.{Some}
 use Rattle.std.proofs.Common.{◌≡◌, ℕ, ◌+◌, ◌-◌, ◌≤◌, leb, length, take, drop, refl, subst, append_assoc, arith, length-append, length-drop, take-append-drop, length-take-le, le-leb, leb-true}
+use Rattle.std.specs.Prelude.{None}
+use Rattle.std.specs.Prelude.{Option}
 use lib.ListN.{length-replicate}
 use Rattle.format.specs.declared.refusal.Reason.TheVariants.{TextNotOneTree, TextLongerThanRoom}
 use Rattle.format.specs.declared.layout.Tree.{Tree}
-use Rattle.format.specs.declared.layout.Tree.TheVariants.{NoTree, Found}
 use Rattle.format.specs.Bytes.{Bytes}
 use Rattle.format.specs.Outcome.{accepted}
 use Rattle.format.specs.File.{most_bytes, File, file}
@@ -23,17 +25,17 @@ module _ (s t : Bytes) where
   unfolding edit edit_tree
   edit_tests = accepts_bind _ (file s) _ (λ f e. on_tree f e f.tree refl)
     where
-      on_tree : (f : File) → file s ≡ accepted f → (x : Tree) → f.tree ≡ x → Accepts (λ u. Editable s t) (edit_tree s t x)
-      on_tree f e NoTree q = tt
-      on_tree f e (Found n k m) q =
+      on_tree : (f : File) → file s ≡ accepted f → (x : Option Tree) → f.tree ≡ x → Accepts (λ u. Editable s t) (edit_tree s t x)
+      on_tree f e None q = tt
+      on_tree f e (Some x) q =
           accepts_need _ (is_one_tree t) TextNotOneTree 0 _
-          λ one. accepts_need _ (leb (length t) (m.0 - n.0)) TextLongerThanRoom 0 _
+          λ one. accepts_need _ (leb (length t) (x.room_end.0 - x.start.0)) TextLongerThanRoom 0 _
           λ fits. record {
             before = f;
             read_before = e;
-            start = n.0;
-            end = k.0;
-            room_end = m.0;
+            start = x.start.0;
+            end = x.end.0;
+            room_end = x.room_end.0;
             tree_before = q;
             one_tree = one;
             fits = leb-true _ _ fits;

@@ -5,7 +5,6 @@ use lib.ListN.{length-replicate}
 use lib.Seq.{slice, drop-append_seam}
 use Rattle.format.specs.declared.block.Block.{Block}
 use Rattle.format.specs.declared.layout.Tree.{Tree}
-use Rattle.format.specs.declared.layout.Tree.TheVariants.{NoTree, Found}
 use Rattle.format.specs.declared.layout.Verdict.{Verdict}
 use Rattle.format.specs.Bytes.{Bytes}
 use Rattle.format.specs.Outcome.{Outcome, accepted, refused}
@@ -30,12 +29,12 @@ one_tree_end t = ends (tree_end 0 (lines t))
     ends (accepted (Some m)) h = ap (λ (n : ℕ). accepted (Some n)) (eqb-true m (length t) h)
 
 -- The tree, if there is one, begins at offset `n`.
-abbrev BeginsAt : ℕ → Tree → Type 0
-BeginsAt n NoTree = Unit {0}
-BeginsAt n (Found a e m) = n ≡ a.0
+abbrev BeginsAt : ℕ → Option Tree → Type 0
+BeginsAt n None = Unit {0}
+BeginsAt n (Some t) = n ≡ t.start.0
 
 -- A tree that is read at offset `n` begins there.
-tree_begins_at : (n : ℕ) (s : Bytes) (t : Tree) → tree n s ≡ accepted t → BeginsAt n t
+tree_begins_at : (n : ℕ) (s : Bytes) (t : Option Tree) → tree n s ≡ accepted t → BeginsAt n t
 unfolding tree with_room
 tree_begins_at n s t = accepted_holds (BeginsAt n) (tree n s) t (accepts_bind _ (tree_end n (lines (drop n s))) _ with_room_lem)
   where
@@ -68,7 +67,7 @@ abbrev pub treed : Bytes → Bytes → ℕ → Bytes → Bytes
 treed p t k y = p ++ (t ++ (replicate k 32 ++ y))
 
 -- A file with the header and the comments of `f`, and with another tree, other blocks and another verdict.
-abbrev pub with_tree : File → Tree → List Block → Verdict → File
+abbrev pub with_tree : File → Option Tree → List Block → Verdict → File
 with_tree f t bs v = record { header = f.header; comments_end = f.comments_end; tree = t; blocks = bs; verdict = v }
 
 module _ (n : ℕ) (p t : Bytes) (k : ℕ) (y : Bytes) (size : length p ≡ n) where

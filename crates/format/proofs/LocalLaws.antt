@@ -7,7 +7,6 @@ use lib.Seq.{take-append-le, drop-append-le}
 use borrow.Author.Tests.{eqb-false}
 use Rattle.format.specs.declared.layout.Header.{Header}
 use Rattle.format.specs.declared.layout.Tree.{Tree}
-use Rattle.format.specs.declared.layout.Tree.TheVariants.{NoTree}
 use Rattle.format.specs.Bytes.{Bytes, text, begins, same}
 use Rattle.format.specs.Outcome.{accepted}
 use Rattle.format.specs.Line.{line_end, Lines, unended, line, lines}
@@ -154,13 +153,13 @@ free_space_stops (b ∷ s) h = go (begins mark (b ∷ s)) refl (free_space_stops
         rw (e, free_space) (i (omega arith))
 
 -- There is no free space at the offset where the first block has to begin.
-pub start_free : (n : ℕ) (s : Bytes) (t : Tree) → tree n s ≡ accepted t → goes_on t (drop n s) ≡ true → free_space (drop (first_block n t) s) ≡ 0
+pub start_free : (n : ℕ) (s : Bytes) (t : Option Tree) → tree n s ≡ accepted t → goes_on t (drop n s) ≡ true → free_space (drop (first_block n t) s) ≡ 0
 unfolding tree with_room goes_on first_block free_space
 start_free n s t =
     accepted_holds (λ u. goes_on u (drop n s) ≡ true → free_space (drop (first_block n u) s) ≡ 0) (tree n s) t
     (accepts_bind _ (tree_end n (lines (drop n s))) _ with_room_lem)
   where
-    marked : (u : Bytes) → goes_on NoTree u ≡ true → free_space u ≡ 0
+    marked : (u : Bytes) → goes_on None u ≡ true → free_space u ≡ 0
     marked [] h = refl
     marked (b ∷ u) h = free_space_mark (b ∷ u) h
 
@@ -178,13 +177,13 @@ tree_begins n s m h = go (begins yaml_line s) refl
     go false e = let z : accepted None ≡ accepted (Some m) = sym (no_tree n s e) ∙ h in cc
 
 -- If a tree or a block begins at the end of the comments, or the file ends there, no comment begins there.
-pub goes_on_no_comment : (n : ℕ) (s : Bytes) (t : Tree) → tree n s ≡ accepted t → goes_on t (drop n s) ≡ true → begins (text "#") (drop n s) ≡ false
+pub goes_on_no_comment : (n : ℕ) (s : Bytes) (t : Option Tree) → tree n s ≡ accepted t → goes_on t (drop n s) ≡ true → begins (text "#") (drop n s) ≡ false
 unfolding tree with_room goes_on
 goes_on_no_comment n s t =
     accepted_holds (λ u. goes_on u (drop n s) ≡ true → begins (text "#") (drop n s) ≡ false) (tree n s) t
     (accepts_bind _ (tree_end n (lines (drop n s))) _ with_room_lem)
   where
-    marked : (u : Bytes) → goes_on NoTree u ≡ true → begins (text "#") u ≡ false
+    marked : (u : Bytes) → goes_on None u ≡ true → begins (text "#") u ≡ false
     marked [] h = refl
     marked (b ∷ u) h = ap (begins (text "#")) (begins_true mark (b ∷ u) h)
 
@@ -204,7 +203,7 @@ module _ (n : ℕ) (p z y : Bytes) (before : n ≤ length p) where
 
   -- If the first block begins within `p` or at its end, and a mark is there with `y` after `p`, then the tree and its
   -- room are the same with `y` after `p`.
-  pub tree_kept : (t : Tree) → tree n (p ++ z) ≡ accepted t → first_block n t ≤ length p → begins mark (drop (first_block n t) p ++ y) ≡ true
+  pub tree_kept : (t : Option Tree) → tree n (p ++ z) ≡ accepted t → first_block n t ≤ length p → begins mark (drop (first_block n t) p ++ y) ≡ true
       → tree n (p ++ y) ≡ accepted t
   unfolding tree with_room first_block
   tree_kept t =

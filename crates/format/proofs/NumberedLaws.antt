@@ -1,12 +1,11 @@
 -- The place of a refusal is within the bytes that are read or at their end. This is shown step by
 -- step: first for one file by itself, then for all that is asked about a file or a stored outline.
-use Rattle.std.proofs.Common.{◌≡◌, ℕ, zero, suc, ◌+◌, ◌*◌, ◌/◌, ◌≤◌, Bool, true, false, leb, List, length, take, drop, refl, ap, arith, length-append, length-drop, leb-true}
+use Rattle.std.proofs.Common.{◌≡◌, ℕ, zero, suc, ◌+◌, ◌*◌, ◌/◌, ◌≤◌, Bool, true, false, leb, List, length, take, drop, refl, ap, arith, length-append, length-drop}
 use Rattle.std.specs.Prelude.{Option, None, Some}
 use Rattle.format.specs.declared.refusal.Reason.TheVariants.{FileTooLong, NotAsdf, NeitherTreeNorBlock}
 use Rattle.format.specs.declared.block.Block.{Block}
 use Rattle.format.specs.declared.block.Record.{Record}
 use Rattle.format.specs.declared.layout.Tree.{Tree}
-use Rattle.format.specs.declared.layout.Tree.TheVariants.{NoTree, Found}
 use Rattle.format.specs.declared.layout.Version.{Version}
 use Rattle.format.specs.declared.line.LineEnd.{LineEnd}
 use Rattle.format.specs.declared.refusal.Reason.{Reason}
@@ -240,10 +239,10 @@ module _ (s : Bytes) where
   unfolding index_for
   numbered_index = search (numbered_bind, numbered_need, numbered_file, at_first)
 
-  numbered_edit_tree : (t : Bytes) (x : Tree) → Numbered (length s) (edit_tree s t x)
+  numbered_edit_tree : (t : Bytes) (x : Option Tree) → Numbered (length s) (edit_tree s t x)
   unfolding edit_tree
-  numbered_edit_tree t NoTree = omega arith
-  numbered_edit_tree t (Found n e m) = search (numbered_need, at_first)
+  numbered_edit_tree t None = omega arith
+  numbered_edit_tree t (Some x) = search (numbered_need, at_first)
 
   -- The same for an edit.
   pub numbered_edit : (t : Bytes) → Numbered (length s) (edit s t)

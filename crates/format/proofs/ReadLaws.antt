@@ -237,7 +237,7 @@ free_space_bounds [] = omega arith
 free_space_bounds (b ∷ s) = choice (λ n. n ≤ suc (length s)) (begins mark (b ∷ s)) _ _ (omega arith) (omega (arith, free_space_bounds s))
 
 -- The first block, or the tail, begins no earlier than where the comments end, and within the file.
-pub first_block_bounds : (n : ℕ) (s : Bytes) (t : Tree) → n ≤ length s → tree n s ≡ accepted t → Between n (length s) (first_block n t)
+pub first_block_bounds : (n : ℕ) (s : Bytes) (t : Option Tree) → n ≤ length s → tree n s ≡ accepted t → Between n (length s) (first_block n t)
 unfolding tree with_room first_block
 first_block_bounds n s t inside =
     accepted_holds (λ u. Between n (length s) (first_block n u)) (tree n s) t (accepts_bind _ (tree_end n (lines (drop n s))) _ with_room_lem)

@@ -1,11 +1,13 @@
 -- The index that is written for a file is good when it is put after the file's last block. An index is good exactly if
 -- it lists the blocks' offsets.
+use Rattle.std.specs.Prelude.{Some}
 use Rattle.std.proofs.Common.{◌≡◌, ℕ, zero, suc, ◌+◌, ◌^◌, ◌<◌, ◌≤◌, true, List, [], ◌∷◌, ◌++◌, length, get_or, take, drop, sym, refl, ap, ◌∙◌, true≢false, arith, length-drop, take-append-drop, length-take-le, le-leb, leb-true}
+use Rattle.std.specs.Prelude.{None}
+use Rattle.std.specs.Prelude.{Option}
 use lib.ListN.{length-map}
 use lib.Seq.{drop-append-le}
 use Rattle.format.specs.declared.refusal.Reason.TheVariants.{NoIndexPossible}
 use Rattle.format.specs.declared.layout.Tree.{Tree}
-use Rattle.format.specs.declared.layout.Tree.TheVariants.{NoTree, Found}
 use Rattle.format.specs.declared.layout.Verdict.{Verdict}
 use Rattle.format.specs.declared.layout.Verdict.TheVariants.{Good}
 use Rattle.format.specs.declared.line.LineEnd.{LineEnd}
@@ -25,12 +27,12 @@ use Rattle.format.proofs.ChainLaws.{blocks_begin, blocks_few, chain_again}
 use Rattle.format.proofs.FileLaws.{blocks_start, Parts, file_parts, parts_file, in_order, file_tail}
 
 -- If a block begins where the first block has to begin, the file may go on after its comments.
-goes_on_marked : (n : ℕ) (p y : Bytes) (t : Tree) → n ≤ length p → begins mark (drop (first_block n t) p ++ y) ≡ true → goes_on t (drop n (p ++ y)) ≡ true
+goes_on_marked : (n : ℕ) (p y : Bytes) (t : Option Tree) → n ≤ length p → begins mark (drop (first_block n t) p ++ y) ≡ true → goes_on t (drop n (p ++ y)) ≡ true
 unfolding goes_on first_block
-goes_on_marked n p y (Found a e m) inside h = refl
-goes_on_marked n p y NoTree inside h = rw drop-append-le (marked (drop n p ++ y) h)
+goes_on_marked n p y (Some x) inside h = refl
+goes_on_marked n p y None inside h = rw drop-append-le (marked (drop n p ++ y) h)
   where
-    marked : (u : Bytes) → begins mark u ≡ true → goes_on NoTree u ≡ true
+    marked : (u : Bytes) → begins mark u ≡ true → goes_on None u ≡ true
     marked [] q = refl
     marked (b ∷ u) q = q
 

@@ -2,7 +2,6 @@
 use Rattle.std.specs.Prelude.{ℕ, ◌-◌, Bool, false, ◌++◌, length, take, drop, replicate, ◌==◌, nat_le}
 use Rattle.std.specs.Prelude.{Option, None, Some}
 use Rattle.format.specs.declared.layout.Tree.{Tree}
-use Rattle.format.specs.declared.layout.Tree.TheVariants.{NoTree, Found}
 use Rattle.format.specs.declared.refusal.Reason.TheVariants.{EditWithoutTree, TextNotOneTree, TextLongerThanRoom}
 use Rattle.format.specs.Bytes.{Bytes}
 use Rattle.format.specs.Outcome.{Outcome, accepted, refused, refusal, need, ◌>>=◌, ◌>>◌}
@@ -25,12 +24,12 @@ unfoldable pub filled : Bytes → ℕ → ℕ → Bytes → Bytes
 filled s n m t = take n s ++ t ++ replicate (m - n - length t) 32 ++ drop m s
 
 -- The file `s` with the text `t` in place of this tree.
-unfoldable pub edit_tree : Bytes → Bytes → Tree → Outcome Bytes
-edit_tree s t NoTree = refused (refusal EditWithoutTree 0)
-edit_tree s t (Found n e m) = do
+unfoldable pub edit_tree : Bytes → Bytes → Option Tree → Outcome Bytes
+edit_tree s t None = refused (refusal EditWithoutTree 0)
+edit_tree s t (Some x) = do
   need (is_one_tree t) TextNotOneTree 0
-  need (nat_le (length t) (m.0 - n.0)) TextLongerThanRoom 0
-  accepted (filled s n.0 m.0 t)
+  need (nat_le (length t) (x.room_end.0 - x.start.0)) TextLongerThanRoom 0
+  accepted (filled s x.start.0 x.room_end.0 t)
 
 -- The file `s` with the text `t` in place of its tree.
 unfoldable pub edit : Bytes → Bytes → Outcome Bytes

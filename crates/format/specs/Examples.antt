@@ -1,12 +1,13 @@
 -- The customer's worked examples as one table: P1 to P13, some of them also as numbers, and the listing of B. `AllHold`
 -- states that all of them hold, and proofs/Examples.antt proves it.
 use Rattle.std.specs.Prelude.{◌≡◌, ℕ, List, [], ◌∷◌, ◌++◌, map, take, replicate}
+use Rattle.std.specs.Prelude.{None}
+use Rattle.std.specs.Prelude.{Option}
 use mathlib.Core.List.{flat_map}
 use Rattle.format.specs.declared.block.Inner.{Inner}
 use Rattle.format.specs.declared.block.Record.{Record}
 use Rattle.format.specs.declared.layout.Layout.{Layout}
 use Rattle.format.specs.declared.layout.Tree.{Tree}
-use Rattle.format.specs.declared.layout.Tree.TheVariants.{NoTree}
 use Rattle.format.specs.declared.layout.Verdict.{Verdict}
 use Rattle.format.specs.declared.layout.Verdict.TheVariants.{Absent, Good, IgnoredForm, IgnoredList}
 use Rattle.format.specs.declared.line.LineEnd.TheVariants.{Lf}
@@ -82,7 +83,7 @@ abbrev pub index_with : Bytes → Bytes
 index_with ns = text "#ASDF BLOCK INDEX\n%YAML 1.1\n--- [" ++ ns ++ text "]\n...\n"
 
 -- What is reported about a file that has the header of A and no comments.
-abbrev pub layout_of_a : Tree → ℕ → Verdict → Outcome Layout
+abbrev pub layout_of_a : Option Tree → ℕ → Verdict → Outcome Layout
 layout_of_a t blocks v =
     accepted
     (record {
@@ -102,16 +103,16 @@ abbrev pub examples : List Example
 examples =
     -- P1 to P3: no bytes, A, and A without its line end.
     Reads [] (refused (refusal NotAsdf 0))
-    ∷ Reads file_a (layout_of_a NoTree 0 Absent)
+    ∷ Reads file_a (layout_of_a None 0 Absent)
     ∷ Reads (take 11 file_a) (refused (refusal VersionMalformed 6))
     -- P4: the layout and the outline of B.
-    ∷ Reads file_b (layout_of_a NoTree 1 Absent)
+    ∷ Reads file_b (layout_of_a None 1 Absent)
     ∷ Outlines file_b (accepted (0x00 ∷ 0x00 ∷ 0x00 ∷ 0x30 ∷ 0x00 ∷ 0x00 ∷ 0x00 ∷ 0x0C ∷ replicate 8 0x00))
     -- P5 to P7: the index of B, and B with three indexes.
     ∷ Indexes file_b (accepted (index_with (text "12")))
-    ∷ Reads (file_b ++ index_with (text "12")) (layout_of_a NoTree 1 Good)
-    ∷ Reads (file_b ++ index_with (text "012")) (layout_of_a NoTree 1 IgnoredForm)
-    ∷ Reads (file_b ++ index_with (text "13")) (layout_of_a NoTree 1 IgnoredList)
+    ∷ Reads (file_b ++ index_with (text "12")) (layout_of_a None 1 Good)
+    ∷ Reads (file_b ++ index_with (text "012")) (layout_of_a None 1 IgnoredForm)
+    ∷ Reads (file_b ++ index_with (text "13")) (layout_of_a None 1 IgnoredList)
     -- The same three as numbers: version, ends of header and comments, tree, number of blocks, verdict, line end.
     ∷ Numbers (file_b ++ index_with (text "12")) (1 ∷ 0 ∷ 0 ∷ 12 ∷ 12 ∷ 0 ∷ 0 ∷ 0 ∷ 0 ∷ 1 ∷ 1 ∷ 0 ∷ [])
     ∷ Numbers (file_b ++ index_with (text "012")) (1 ∷ 0 ∷ 0 ∷ 12 ∷ 12 ∷ 0 ∷ 0 ∷ 0 ∷ 0 ∷ 1 ∷ 2 ∷ 0 ∷ [])

@@ -10,7 +10,6 @@ use Rattle.format.specs.declared.block.Inner.{Inner}
 use Rattle.format.specs.declared.block.Inner.TheVariants.{Plain, Opened, Refused, TooDeep}
 use Rattle.format.specs.declared.layout.Layout.{Layout}
 use Rattle.format.specs.declared.layout.Tree.{Tree}
-use Rattle.format.specs.declared.layout.Tree.TheVariants.{NoTree, Found}
 use Rattle.format.specs.declared.layout.Verdict.{Verdict}
 use Rattle.format.specs.declared.layout.Verdict.TheVariants.{Absent, Good, IgnoredForm, IgnoredList}
 use Rattle.format.specs.declared.line.LineEnd.{LineEnd}
@@ -46,9 +45,9 @@ check_number Agrees = 1
 check_number Differs = 2
 
 -- The numbers of a tree: whether there is one, its start, its end and the end of its room.
-abbrev pub tree_fields : Tree → List ℕ
-tree_fields NoTree = 0 ∷ 0 ∷ 0 ∷ 0 ∷ []
-tree_fields (Found n e m) = 1 ∷ n.0 ∷ e.0 ∷ m.0 ∷ []
+abbrev pub tree_fields : Option Tree → List ℕ
+tree_fields None = 0 ∷ 0 ∷ 0 ∷ 0 ∷ []
+tree_fields (Some t) = 1 ∷ t.start.0 ∷ t.end.0 ∷ t.room_end.0 ∷ []
 
 -- The numbers of a layout: three version numbers, the header's end, the comments' end, the tree, the number of blocks,
 -- the verdict, the header's line end.

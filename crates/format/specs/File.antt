@@ -1,10 +1,11 @@
 -- One file without the files inside its blocks, read from front to back.
+use Rattle.std.specs.Prelude.{Some}
 use Rattle.std.specs.Prelude.{ℕ, Bool, true, List, [], ◌∷◌, ◌++◌, map, length, drop, replicate, nat_le}
+use Rattle.std.specs.Prelude.{None}
 use Rattle.std.specs.Prelude.{Option}
 use Rattle.std.specs.Prelude.{slice_get}
 use Rattle.format.specs.declared.layout.Header.{Header}
 use Rattle.format.specs.declared.layout.Tree.{Tree}
-use Rattle.format.specs.declared.layout.Tree.TheVariants.{NoTree, Found}
 use Rattle.format.specs.declared.layout.Verdict.{Verdict}
 use Rattle.format.specs.declared.layout.Layout.{Layout}
 use Rattle.format.specs.declared.block.Block.{Block}
@@ -26,22 +27,22 @@ most_bytes = 4294967295
 pub record File : Type 0 where
   pub header : Header
   pub comments_end : ℕ
-  pub tree : Tree
+  pub tree : Option Tree
   pub blocks : List Block
   pub verdict : Verdict
 
 -- Where the first block begins, if there is one: where the tree's room ends or, without a tree, where the comments end,
 -- at `n`.
-unfoldable pub first_block : ℕ → Tree → ℕ
-first_block n NoTree = n
-first_block n (Found a e m) = m.0
+unfoldable pub first_block : ℕ → Option Tree → ℕ
+first_block n None = n
+first_block n (Some t) = t.room_end.0
 
 -- Whether the file may go on with `t` after the comments. If no tree begins there, `t` must be empty or begin with a
 -- mark.
-unfoldable pub goes_on : Tree → Bytes → Bool
-goes_on (Found a e m) t = true
-goes_on NoTree [] = true
-goes_on NoTree (b ∷ t) = begins mark (b ∷ t)
+unfoldable pub goes_on : Option Tree → Bytes → Bool
+goes_on (Some x) t = true
+goes_on None [] = true
+goes_on None (b ∷ t) = begins mark (b ∷ t)
 
 -- The offsets at which these blocks begin.
 abbrev pub offsets : List Block → List ℕ

@@ -1,8 +1,10 @@
 -- What the program prints, and the outline that is written along with it.
+use Rattle.std.specs.Prelude.{Some}
 use Rattle.std.specs.Prelude.{ℕ, true, false, List, [], ◌∷◌, ◌++◌, map, length, nat_le}
+use Rattle.std.specs.Prelude.{None}
+use Rattle.std.specs.Prelude.{Option}
 use mathlib.Core.List.{flat_map}
 use Rattle.format.specs.declared.layout.Tree.{Tree}
-use Rattle.format.specs.declared.layout.Tree.TheVariants.{NoTree, Found}
 use Rattle.format.specs.declared.layout.Verdict.{Verdict}
 use Rattle.format.specs.declared.layout.Verdict.TheVariants.{Absent, Good, IgnoredForm, IgnoredList}
 use Rattle.format.specs.declared.row.Row.{Row}
@@ -25,9 +27,9 @@ sentence (w ∷ []) = w ++ text "\n"
 sentence (w ∷ v ∷ ws) = w ++ text " " ++ sentence (v ∷ ws)
 
 -- The line for the tree: where it begins and ends, or that there is none.
-unfoldable pub tree_text : Tree → Bytes
-tree_text NoTree = sentence (text "tree" ∷ text "none" ∷ [])
-tree_text (Found n e m) = sentence (text "tree" ∷ decimal n.0 ∷ decimal e.0 ∷ [])
+unfoldable pub tree_text : Option Tree → Bytes
+tree_text None = sentence (text "tree" ∷ text "none" ∷ [])
+tree_text (Some t) = sentence (text "tree" ∷ decimal t.start.0 ∷ decimal t.end.0 ∷ [])
 
 -- The line for a row: its fields as decimal numbers.
 unfoldable pub row_text : Row → Bytes

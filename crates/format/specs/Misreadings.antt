@@ -1,8 +1,8 @@
 -- Cases that a hasty reader would get wrong, with their right answers, as a second table of the same form.
 -- proofs/Examples.antt proves that all these answers hold.
 use Rattle.std.specs.Prelude.{ℕ, zero, suc, List, [], ◌∷◌, ◌++◌, length, replicate}
+use Rattle.std.specs.Prelude.{None}
 use Rattle.format.specs.declared.block.Inner.TheVariants.{Plain, Opened, Refused, TooDeep}
-use Rattle.format.specs.declared.layout.Tree.TheVariants.{NoTree}
 use Rattle.format.specs.declared.layout.Verdict.TheVariants.{Absent, Good, IgnoredForm, IgnoredList}
 use Rattle.format.specs.declared.refusal.Reason.TheVariants.{VersionMalformed, IndexAmongComments, HeaderPassesEnd, HeaderTooSmall, UsedAboveAllocated, AllocatedPassesEnd, TooManyBlocks, StrayTail, TextNotOneTree}
 use Rattle.format.specs.Bytes.{Bytes, text}
@@ -47,7 +47,7 @@ misreadings =
     -- A size of all FF does not wrap around.
     ∷ Reads (file_a ++ block_header 48 0xFFFF_FFFF_FFFF_FFFF 0 0) (refused (refusal AllocatedPassesEnd 12))
     -- The used size may equal the allocated size, but may not be one above it.
-    ∷ Reads (file_a ++ block_holding (text "x")) (layout_of_a NoTree 1 Absent)
+    ∷ Reads (file_a ++ block_holding (text "x")) (layout_of_a None 1 Absent)
     ∷ Reads (file_a ++ block_header 48 1 2 2 ++ text "xy") (refused (refusal UsedAboveAllocated 12))
     -- A refused inner file does not refuse the outer file. The place of its refusal counts from its own first byte.
     ∷ States (file_a ++ block_holding (text "#ASDF ") ++ empty_block) (accepted (Refused (refusal VersionMalformed 6) ∷ Plain ∷ []))
@@ -72,30 +72,30 @@ misreadings =
     ∷ Reads (file_a ++ text "#ASDF BLOCK INDEX\n%YAML 1.1\n--- [12]\n...\n") (refused (refusal IndexAmongComments 12))
     -- An index without a number does not have the form. An index with a number above 2^32 has the form, but its list is
     -- not the list of the blocks' offsets.
-    ∷ Reads (file_b ++ index_with []) (layout_of_a NoTree 1 IgnoredForm)
-    ∷ Reads (file_b ++ index_with (text "4294967308")) (layout_of_a NoTree 1 IgnoredList)
+    ∷ Reads (file_b ++ index_with []) (layout_of_a None 1 IgnoredForm)
+    ∷ Reads (file_b ++ index_with (text "4294967308")) (layout_of_a None 1 IgnoredList)
     -- In an index with dashes, extra spaces may come only after a number, also before a line end of two bytes. Zero
     -- bytes may follow the index.
-    ∷ Reads (file_b ++ index_of_lines (text "---\n- 12\n")) (layout_of_a NoTree 1 Good)
-    ∷ Reads (file_b ++ index_of_lines (text "---\r\n- 12  \r\n") ++ (0 ∷ [])) (layout_of_a NoTree 1 Good)
-    ∷ Reads (file_b ++ index_of_lines (text "---\n-  12\n")) (layout_of_a NoTree 1 IgnoredForm)
-    ∷ Reads (file_b ++ index_of_lines (text "---\n - 12\n")) (layout_of_a NoTree 1 IgnoredForm)
-    ∷ Reads (file_b ++ index_of_lines (text "---\n- 12\n") ++ text "x") (layout_of_a NoTree 1 IgnoredForm)
+    ∷ Reads (file_b ++ index_of_lines (text "---\n- 12\n")) (layout_of_a None 1 Good)
+    ∷ Reads (file_b ++ index_of_lines (text "---\r\n- 12  \r\n") ++ (0 ∷ [])) (layout_of_a None 1 Good)
+    ∷ Reads (file_b ++ index_of_lines (text "---\n-  12\n")) (layout_of_a None 1 IgnoredForm)
+    ∷ Reads (file_b ++ index_of_lines (text "---\n - 12\n")) (layout_of_a None 1 IgnoredForm)
+    ∷ Reads (file_b ++ index_of_lines (text "---\n- 12\n") ++ text "x") (layout_of_a None 1 IgnoredForm)
     -- The numbers of an index are the offsets in their order. Its form is judged first.
-    ∷ Reads (file_b ++ empty_block ++ index_of_lines (text "---\n- 12\n- 66\n")) (layout_of_a NoTree 2 Good)
-    ∷ Reads (file_b ++ empty_block ++ index_of_lines (text "---\n- 66\n- 12\n")) (layout_of_a NoTree 2 IgnoredList)
-    ∷ Reads (file_b ++ index_of_lines (text "---\n- 12\n- 66\n")) (layout_of_a NoTree 1 IgnoredList)
-    ∷ Reads (file_b ++ index_of_lines (text "---\n- 4294967308\n")) (layout_of_a NoTree 1 IgnoredList)
-    ∷ Reads (file_b ++ index_of_lines (text "---\n- 13\n- 012\n")) (layout_of_a NoTree 1 IgnoredForm)
+    ∷ Reads (file_b ++ empty_block ++ index_of_lines (text "---\n- 12\n- 66\n")) (layout_of_a None 2 Good)
+    ∷ Reads (file_b ++ empty_block ++ index_of_lines (text "---\n- 66\n- 12\n")) (layout_of_a None 2 IgnoredList)
+    ∷ Reads (file_b ++ index_of_lines (text "---\n- 12\n- 66\n")) (layout_of_a None 1 IgnoredList)
+    ∷ Reads (file_b ++ index_of_lines (text "---\n- 4294967308\n")) (layout_of_a None 1 IgnoredList)
+    ∷ Reads (file_b ++ index_of_lines (text "---\n- 13\n- 012\n")) (layout_of_a None 1 IgnoredForm)
     -- An index with dashes has at least one number and no empty line. `--- ` is not its start line, and the two styles
     -- are not mixed.
-    ∷ Reads (file_b ++ index_of_lines (text "---\n")) (layout_of_a NoTree 1 IgnoredForm)
-    ∷ Reads (file_b ++ index_of_lines (text "---\n- 12\n\n")) (layout_of_a NoTree 1 IgnoredForm)
-    ∷ Reads (file_b ++ index_of_lines (text "--- \n- 12\n")) (layout_of_a NoTree 1 IgnoredForm)
-    ∷ Reads (file_b ++ index_of_lines (text "--- [12]\n- 12\n")) (layout_of_a NoTree 1 IgnoredForm)
-    ∷ Reads (file_b ++ index_of_lines (text "---\n[12]\n")) (layout_of_a NoTree 1 IgnoredForm)
+    ∷ Reads (file_b ++ index_of_lines (text "---\n")) (layout_of_a None 1 IgnoredForm)
+    ∷ Reads (file_b ++ index_of_lines (text "---\n- 12\n\n")) (layout_of_a None 1 IgnoredForm)
+    ∷ Reads (file_b ++ index_of_lines (text "--- \n- 12\n")) (layout_of_a None 1 IgnoredForm)
+    ∷ Reads (file_b ++ index_of_lines (text "--- [12]\n- 12\n")) (layout_of_a None 1 IgnoredForm)
+    ∷ Reads (file_b ++ index_of_lines (text "---\n[12]\n")) (layout_of_a None 1 IgnoredForm)
     -- A file may have 64 blocks. At the mark of one more it is refused.
-    ∷ Reads (file_a ++ copies 64 empty_block) (layout_of_a NoTree 64 Absent)
+    ∷ Reads (file_a ++ copies 64 empty_block) (layout_of_a None 64 Absent)
     ∷ Reads (file_a ++ copies 64 empty_block ++ mark) (refused (refusal TooManyBlocks 3468))
     -- The next block is at the first mark after the preceding block. Zeros and a part of a mark are passed over, and
     -- bytes at the end of the preceding block do not count as part of a mark.
@@ -113,14 +113,14 @@ misreadings =
     ∷ Reads (file_a ++ copies 64 empty_block ++ text "x" ++ mark) (refused (refusal TooManyBlocks 3469))
     ∷ Reads (file_b ++ (0 ∷ []) ++ text "x") (refused (refusal StrayTail 66))
     -- An index is tried first, directly after the block. It ends the chain, whatever follows.
-    ∷ Reads (file_b ++ index_line ++ empty_block) (layout_of_a NoTree 1 IgnoredForm)
-    ∷ Reads (file_a ++ copies 64 empty_block ++ index_line ++ mark) (layout_of_a NoTree 64 IgnoredForm)
-    ∷ Reads (file_b ++ text "#ASDF BLOCK INDE" ++ empty_block) (layout_of_a NoTree 2 Absent)
+    ∷ Reads (file_b ++ index_line ++ empty_block) (layout_of_a None 1 IgnoredForm)
+    ∷ Reads (file_a ++ copies 64 empty_block ++ index_line ++ mark) (layout_of_a None 64 IgnoredForm)
+    ∷ Reads (file_b ++ text "#ASDF BLOCK INDE" ++ empty_block) (layout_of_a None 2 Absent)
     ∷ Reads (file_b ++ (0 ∷ []) ++ index_with (text "12")) (refused (refusal StrayTail 66))
-    ∷ Reads (file_b ++ (0 ∷ []) ++ index_with (text "12") ++ empty_block) (layout_of_a NoTree 2 Absent)
+    ∷ Reads (file_b ++ (0 ∷ []) ++ index_with (text "12") ++ empty_block) (layout_of_a None 2 Absent)
     -- An index lists where the marks are, and not where the blocks before them end.
-    ∷ Reads (file_b ++ text "x" ++ empty_block ++ index_with (text "12, 67")) (layout_of_a NoTree 2 Good)
-    ∷ Reads (file_b ++ text "x" ++ empty_block ++ index_with (text "12, 66")) (layout_of_a NoTree 2 IgnoredList)
+    ∷ Reads (file_b ++ text "x" ++ empty_block ++ index_with (text "12, 67")) (layout_of_a None 2 Good)
+    ∷ Reads (file_b ++ text "x" ++ empty_block ++ index_with (text "12, 66")) (layout_of_a None 2 IgnoredList)
     -- The lines of a written index end as the header does, and the index is good after the last block.
     ∷ Numbers (dos_a ++ empty_block) (1 ∷ 0 ∷ 0 ∷ 13 ∷ 13 ∷ 0 ∷ 0 ∷ 0 ∷ 0 ∷ 1 ∷ 0 ∷ 1 ∷ [])
     ∷ Indexes (dos_a ++ empty_block) (accepted (dos_index (text "13")))

@@ -2,7 +2,6 @@
 use Rattle.std.specs.Prelude.{ℕ, suc, ◌+◌, Bool, true, false, ◌||◌, [], ◌∷◌, drop}
 use Rattle.std.specs.Prelude.{Option, None, Some}
 use Rattle.format.specs.declared.layout.Tree.{Tree}
-use Rattle.format.specs.declared.layout.Tree.TheVariants.{NoTree, Found}
 use Rattle.format.specs.declared.refusal.Reason.TheVariants.{WrongLineBeforeStart, SecondStartLine, TreeNotEnded}
 use Rattle.format.specs.Bytes.{Bytes, text, begins, same}
 use Rattle.format.specs.Outcome.{Outcome, accepted, refused, refusal, ◌>>=◌}
@@ -58,17 +57,17 @@ free_space [] = 0
 free_space (b ∷ s) = elim (begins mark (b ∷ s)) [ true ↦ 0 | false ↦ suc (free_space s) ]
 
 -- A tree from offset `n` to offset `e`, whose room ends at offset `m`.
-abbrev pub tree_at : ℕ → ℕ → ℕ → Tree
-tree_at n e m = Found (record { 0 = n }) (record { 0 = e }) (record { 0 = m })
+abbrev pub tree_at : ℕ → ℕ → ℕ → Option Tree
+tree_at n e m = Some (record { start = record { 0 = n }; end = record { 0 = e }; room_end = record { 0 = m } })
 
 -- The tree of the file `s` from offset `n` to the offset that is given, with its room. `None` means that no tree begins
 -- at `n`.
-unfoldable pub with_room : ℕ → Bytes → Option ℕ → Tree
-with_room n s None = NoTree
-with_room n s (Some m) = Found (record { 0 = n }) (record { 0 = m }) (record { 0 = m + free_space (drop m s) })
+unfoldable pub with_room : ℕ → Bytes → Option ℕ → Option Tree
+with_room n s None = None
+with_room n s (Some m) = tree_at n m (m + free_space (drop m s))
 
 -- What begins at offset `n` of the file `s`: no tree, or a tree that ends.
-unfoldable pub tree : ℕ → Bytes → Outcome Tree
+unfoldable pub tree : ℕ → Bytes → Outcome (Option Tree)
 tree n s = do
   m ← tree_end n (lines (drop n s))
   accepted (with_room n s m)

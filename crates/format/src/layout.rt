@@ -18,17 +18,13 @@ pub struct Header {
     pub end: Offset,
 }
 
-// Whether a file has a tree, and where.
+// Where a tree is: from `start` to `end`. The room, which an edit may fill, runs from `start` to `room_end`: the first
+// block, or the end of the file.
 #[derive(Clone, Copy)]
-pub enum Tree {
-    NoTree,
-    // The tree runs from `start` to `end`. The room, which an edit may fill, runs from `start` to `room_end`: the first
-    // block, or the end of the file.
-    Found {
-        start: Offset,
-        end: Offset,
-        room_end: Offset,
-    },
+pub struct Tree {
+    pub start: Offset,
+    pub end: Offset,
+    pub room_end: Offset,
 }
 
 // The verdict on the block index.
@@ -48,7 +44,7 @@ pub struct Layout {
     pub header: Header,
     // The comments run from the header's end to here.
     pub comments_end: Offset,
-    pub tree: Tree,
+    pub tree: Option<Tree>,
     pub blocks: u8,
     pub verdict: Verdict,
 }

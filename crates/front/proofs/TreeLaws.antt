@@ -8,7 +8,6 @@ use lib.ListN.{length, take, drop}
 use lib.Dec.{eqb}
 use borrow.Author.Tests.{not-true, not-false}
 use Rattle.format.specs.declared.refusal.Refusal.{Refusal}
-use Rattle.format.specs.declared.layout.Tree.TheVariants.{NoTree, Found}
 use Rattle.format.specs.declared.line.LineEnd.{LineEnd}
 use Rattle.format.specs.declared.refusal.Reason.TheVariants.{WrongLineBeforeStart, SecondStartLine, TreeNotEnded}
 use Rattle.format.specs.Bytes.{Bytes, same}
@@ -99,7 +98,7 @@ module _ (s : Bytes) (at : ℕ) (r : Exact) (read : ExactRead s yaml_line at r) 
       go (line t e l) h = rw (other_text s yaml_line at r read t e l p h, tree_end)
 
   -- If the first line is not that of a tree, then no tree begins here.
-  pub tree_none : r ≡ Other → tree_outcome (Read NoTree) ≡ tree at s
+  pub tree_none : r ≡ Other → tree_outcome (Read None) ≡ tree at s
   unfolding tree_outcome tree with_room
   tree_none p = rw (no_end p)
 

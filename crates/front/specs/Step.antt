@@ -30,6 +30,6 @@ end_outcome (EndStep·is.At n) = accepted n
 end_outcome (EndStep·is.Refused r) = refused r
 
 -- The tree that was read, which may be none, or its refusal.
-unfoldable pub tree_outcome : TreeStep → Outcome Tree
+unfoldable pub tree_outcome : TreeStep → Outcome (Option Tree)
 tree_outcome (TreeStep·is.Read t) = accepted t
 tree_outcome (TreeStep·is.Refused r) = refused r

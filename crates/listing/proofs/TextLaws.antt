@@ -9,7 +9,6 @@ use lib.ListN.{length, take, drop}
 use lib.Seq.{drop-drop}
 use borrow.Author.Tests.{le-leb}
 use Rattle.format.specs.declared.layout.Tree.{Tree}
-use Rattle.format.specs.declared.layout.Tree.TheVariants.{NoTree, Found}
 use Rattle.format.specs.declared.layout.Verdict.{Verdict}
 use Rattle.format.specs.declared.offset.Offset.{Offset}
 use Rattle.format.specs.declared.refusal.Refusal.{Refusal}
@@ -49,11 +48,11 @@ module _ (out after : Bytes) (x : ℕ) where
   refused_put r = put_same refl (omega arith)
 
   -- The line of a tree is put. Case: there is no tree. Case: there is one.
-  pub no_tree_put : (t : Tree) → t ≡ NoTree → PutWhole out after 0 (text "tree none\n") 10 x → PutAt out after 0 (tree_text t) most_short x
+  pub no_tree_put : (t : Option Tree) → t ≡ None → PutWhole out after 0 (text "tree none\n") 10 x → PutAt out after 0 (tree_text t) most_short x
   unfolding tree_text sentence
   no_tree_put t e put = rw e (put_same refl (omega arith) (whole_put put))
 
-  pub tree_put : (t : Tree) (n e m : Offset) → t ≡ Found n e m → PutAt out after 0 (line_text (text "tree ") (n.0 ∷ e.0 ∷ [])) (most_line 5 2) x
+  pub tree_put : (t : Option Tree) (n e m : Offset) → t ≡ Found n e m → PutAt out after 0 (line_text (text "tree ") (n.0 ∷ e.0 ∷ [])) (most_line 5 2) x
       → PutAt out after 0 (tree_text t) most_short x
   unfolding tree_text sentence
   tree_put t n e m is put = rw is (put_same refl (omega arith) put)
@@ -149,7 +148,7 @@ module _ (before : Bytes) (at : ℕ) (b : Bytes) where
         h.left (rw None (nothing_put h.fits))
 
 -- If the tree, the rows and the verdict are put one after another, all lines of the file are put.
-pub file_put : (out a c after : Bytes) (p q r : ℕ) (t : Tree) (b : Bytes) (v : Verdict) → PutAt out a 0 (tree_text t) most_short p
+pub file_put : (out a c after : Bytes) (p q r : ℕ) (t : Option Tree) (b : Bytes) (v : Verdict) → PutAt out a 0 (tree_text t) most_short p
     → PutRows a c p (length b / row_bytes) b q
     → PutAt c after q (verdict_text v) most_short r
     → PutAt out after 0 (file_text t b v) (most_file (length b / row_bytes)) r

@@ -1,5 +1,6 @@
 -- Parts of a listing's text, and the maximum number of bytes in each.
 use Rattle.std.specs.Prelude.{ℕ, ◌+◌, ◌*◌, ◌/◌, length}
+use Rattle.std.specs.Prelude.{Option}
 use mathlib.Core.List.{List, [], ◌∷◌, ◌++◌, map, flat_map}
 use Rattle.format.specs.declared.layout.Tree.{Tree}
 use Rattle.format.specs.declared.layout.Verdict.{Verdict}
@@ -35,7 +36,7 @@ abbrev pub verdict_text : Verdict → Bytes
 verdict_text v = sentence (text "index" ∷ verdict_word v ∷ [])
 
 -- The lines of a file with the tree `t`, the outline `b` and the verdict `v`.
-abbrev pub file_text : Tree → Bytes → Verdict → Bytes
+abbrev pub file_text : Option Tree → Bytes → Verdict → Bytes
 file_text t b v = tree_text t ++ row_texts (length b / row_bytes) b ++ verdict_text v
 
 -- The maximum number of bytes in these lines, if there are `count` rows.
