@@ -11,7 +11,7 @@ use Rattle.format.specs.Block.{least_header}
 use Rattle.format.specs.Chain.{most_blocks}
 use Rattle.format.specs.File.{most_bytes, file}
 use Rattle.format.specs.Nest.{content_at, content_of, is_file, Inside, opened, inside, walked, walk, walk_file, records_from, deepest}
-use Rattle.format.specs.Outline.{inner_number, row_of, is_row}
+use Rattle.format.specs.Outline.{row_of, is_row}
 use Rattle.format.proofs.OutcomeLaws.{Accepts, accepts_bind, choice}
 use Rattle.format.proofs.PackLaws.{is_bytes_take, is_bytes_drop}
 use Rattle.format.proofs.RowLaws.{RowFits}
@@ -34,14 +34,6 @@ abbrev pub Leads : ℕ → List Record → Type 0
 Leads depth rs =
     (zs : List Record) → ((m : ℕ) → depth ≤ m → Kept m (map row_of zs)) → (m : ℕ) → depth ≤ m → Kept m (map row_of (rs ++ zs))
 
--- The number of an inner state is one of four.
-inner_lt : (i : Inner) → inner_number i < 4
-unfolding inner_number
-inner_lt Plain = omega arith
-inner_lt Opened = omega arith
-inner_lt (Refused r) = omega arith
-inner_lt TooDeep = omega arith
-
 -- The empty list of records leads.
 none_lead : (depth : ℕ) → Leads depth []
 none_lead depth zs h = h
@@ -58,7 +50,7 @@ module _ (reads : ℕ → Bytes → Inside) (depth start : ℕ) (s : Bytes) (byt
   row_kept : (b : Block) (i : Inner) (m : ℕ) → FileBlock (length s) b → depth ≤ m
       → RowKept m (row_of (record { depth = depth; at = record { 0 = start + b.at.0 }; block = b; inner = i }))
   unfolding row_of
-  row_kept b i m h le = record { fits = omega (arith, inner_lt i); rule = is_row_lem m _ h.ordinal h.header_least h.used le }
+  row_kept b i m h le = record { fits = omega arith; rule = is_row_lem m _ h.ordinal h.header_least h.used le }
 
   -- The records inside a block of the file lead.
   inside_leads : (b : Block) → FileBlock (length s) b → Leads (depth + 1) (inside reads start s b).records

@@ -20,7 +20,7 @@ use Rattle.format.specs.Reason.{reason_number}
 use Rattle.format.specs.Outcome.{Outcome, accepted, ◌>>=◌}
 use Rattle.format.specs.File.{layout}
 use Rattle.format.specs.Nest.{records}
-use Rattle.format.specs.Outline.{inner_number, stored}
+use Rattle.format.specs.Outline.{inner_number, kind_number, stored}
 
 -- The bytes of these numbers: eight bytes each, the most significant byte first.
 unfoldable pub number_bytes : List ℕ → Bytes
@@ -86,7 +86,7 @@ record_fields r = r.depth ∷ r.at.0 ∷ inner_number r.inner ∷ (refusal_field
 abbrev pub row_fields : Row → List ℕ
 row_fields r =
     r.depth ∷ r.ordinal ∷ r.at.0 ∷ r.header_size ∷ r.allocated ∷ r.used ∷ bit r.streamed ∷ bit r.compressed ∷ bit r.checksum
-    ∷ r.inner
+    ∷ kind_number r.inner
     ∷ []
 
 -- How many bytes a record takes.

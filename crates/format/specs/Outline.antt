@@ -6,6 +6,8 @@ use Rattle.std.specs.Prelude.{slice_get}
 use Rattle.format.specs.declared.block.Record.{Record}
 use Rattle.format.specs.declared.block.Inner.{Inner}
 use Rattle.format.specs.declared.block.Inner.TheVariants.{Plain, Opened, Refused, TooDeep}
+use Rattle.format.specs.declared.block.InnerKind.{InnerKind}
+use Rattle.format.specs.declared.block.InnerKind.TheVariants as Kind·is
 use Rattle.format.specs.declared.row.Row.{Row}
 use Rattle.format.specs.declared.refusal.Reason.TheVariants.{OutlineLength, OutlineRow}
 use Rattle.format.specs.Bytes.{Bytes, big_endian, to_bytes, bit}
@@ -14,12 +16,30 @@ use Rattle.format.specs.Block.{is_streamed, is_compressed, has_checksum, least_h
 use Rattle.format.specs.Chain.{most_blocks}
 use Rattle.format.specs.Nest.{records}
 
--- The number of an inner state, in a row and in a record.
-unfoldable pub inner_number : Inner → ℕ
-inner_number Plain = 0
-inner_number Opened = 1
-inner_number (Refused r) = 2
-inner_number TooDeep = 3
+-- An inner state without its refusal.
+unfoldable pub inner_kind : Inner → InnerKind
+inner_kind Plain = Kind·is.Plain
+inner_kind Opened = Kind·is.Opened
+inner_kind (Refused r) = Kind·is.Refused
+inner_kind TooDeep = Kind·is.TooDeep
+
+-- The number of such a kind, in a row and in a record.
+unfoldable pub kind_number : InnerKind → ℕ
+kind_number Kind·is.Plain = 0
+kind_number Kind·is.Opened = 1
+kind_number Kind·is.Refused = 2
+kind_number Kind·is.TooDeep = 3
+
+-- The number of an inner state.
+abbrev pub inner_number : Inner → ℕ
+inner_number i = kind_number (inner_kind i)
+
+-- The kind with a number that is below 4.
+unfoldable pub kind_with : ℕ → InnerKind
+kind_with zero = Kind·is.Plain
+kind_with (suc zero) = Kind·is.Opened
+kind_with (suc (suc zero)) = Kind·is.Refused
+kind_with (suc (suc (suc n))) = Kind·is.TooDeep
 
 -- The row of a block, made from its record.
 unfoldable pub row_of : Record → Row
@@ -30,7 +50,7 @@ row_of r =
       streamed = is_streamed b.flags;
       compressed = is_compressed b.compression;
       checksum = has_checksum b.checksum_high b.checksum_low;
-      inner = inner_number r.inner;
+      inner = inner_kind r.inner;
       ordinal = b.ordinal;
       header_size = b.header_size;
       at = r.at;
@@ -50,7 +70,7 @@ row_bytes = 16
 -- The fields of a row as numbers, in the order of `row_widths`.
 unfoldable pub fields_of : Row → List ℕ
 fields_of r =
-    r.depth ∷ bit r.streamed ∷ bit r.compressed ∷ bit r.checksum ∷ r.inner ∷ r.ordinal ∷ r.header_size ∷ r.at.0
+    r.depth ∷ bit r.streamed ∷ bit r.compressed ∷ bit r.checksum ∷ kind_number r.inner ∷ r.ordinal ∷ r.header_size ∷ r.at.0
     ∷ r.allocated
     ∷ r.used
     ∷ []
@@ -63,7 +83,7 @@ row_from fs =
       streamed = (slice_index fs 1 == 1);
       compressed = (slice_index fs 2 == 1);
       checksum = (slice_index fs 3 == 1);
-      inner = slice_index fs 4;
+      inner = kind_with (slice_index fs 4);
       ordinal = slice_index fs 5;
       header_size = slice_index fs 6;
       at = record { 0 = slice_index fs 7 };

@@ -1,6 +1,7 @@
 // What is reported about a block.
-ghost use Rattle.std.specs.Prelude.{◌≡◌};
+ghost use Rattle.std.specs.Prelude.{◌≡◌, ◌%◌};
 ghost use Rattle.format.specs.Block.{is_compressed, has_checksum};
+ghost use Rattle.format.specs.Outline.{inner_kind, kind_number, kind_with};
 
 use crate::offset::{Offset, OutermostOffset};
 use crate::refusal::Refusal;
@@ -37,6 +38,50 @@ pub enum Inner {
     Refused(Refusal),
     // The content begins like a file but is deeper than files are read.
     TooDeep,
+}
+
+impl Inner {
+    // Returns the inner state without its refusal, as a row has it.
+    pub fn kind(self) -> InnerKind
+        ensures { result ≡ inner_kind self }
+    {
+        match self {
+            Inner::Plain => InnerKind::Plain,
+            Inner::Opened => InnerKind::Opened,
+            Inner::Refused(_) => InnerKind::Refused,
+            Inner::TooDeep => InnerKind::TooDeep,
+        }
+    }
+}
+
+// An inner state without its refusal.
+#[derive(Clone, Copy, Debug, PartialEq, Eq)]
+pub enum InnerKind {
+    Plain,
+    Opened,
+    Refused,
+    TooDeep,
+}
+
+impl InnerKind {
+    // Returns the number that stands for it in a row and in a record: 0 to 3.
+    pub fn number(self) -> u8
+        ensures { result ≡ kind_number self }
+    {
+        self as u8
+    }
+
+    // Returns the kind that two bits of a row stand for. Of a larger number, only the lowest two bits count.
+    pub fn of_bits(bits: u64) -> InnerKind
+        ensures { result ≡ kind_with (bits % 4) }
+    {
+        match bits % 4 {
+            0 => InnerKind::Plain,
+            1 => InnerKind::Opened,
+            2 => InnerKind::Refused,
+            _ => InnerKind::TooDeep,
+        }
+    }
 }
 
 // A block among all blocks of an outermost file, in walking order.

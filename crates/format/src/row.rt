@@ -1,4 +1,5 @@
 // A row of an outline: what sixteen bytes say about a block.
+use crate::block::InnerKind;
 use crate::offset::OutermostOffset;
 
 // The fields of a row. `at` counts from the first byte of the outermost file.
@@ -9,8 +10,7 @@ pub struct Row {
     pub compressed: bool,
     // The checksum is not all zeros.
     pub checksum: bool,
-    // 0 is plain, 1 opened, 2 refused, 3 too deep.
-    pub inner: u8,
+    pub inner: InnerKind,
     pub ordinal: u8,
     pub header_size: u16,
     pub at: OutermostOffset,
