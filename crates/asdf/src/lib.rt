@@ -6,7 +6,6 @@
 
 ghost use Rattle.std.specs.Prelude.{◌≡◌, length};
 ghost use Rattle.format.specs.Outcome.{accepted, ◌>>◌ as Outcome·then};
-ghost use Rattle.format.specs.Answer.{edit_answer};
 ghost use Rattle.format.specs.Fields.{layout_bytes, block_fields, record_fields, row_fields, found_bytes, record_table, stored_rows};
 ghost use Rattle.format.specs.File.{block_at};
 ghost use Rattle.format.specs.Nest.{record_count, record_at};
@@ -14,7 +13,8 @@ ghost use Rattle.format.specs.Outline.{stored_count, stored_at};
 ghost use Rattle.format.specs.Export.{word as Export·word};
 ghost use Rattle.format.specs.Promise.{Returned, Exported, OutlineExported, RewriteExported, IndexExported, EditExported};
 
-use format::answer::{BlockAnswer, EditAnswer, LayoutAnswer, RowAnswer};
+use format::refusal::Refusal;
+
 
 // Puts the layout of a file into the buffer: 96 bytes.
 #[unsafe(no_mangle)]
@@ -22,8 +22,8 @@ pub extern "C" fn asdf_read(file: &[u8], out: &mut [u8]) -> u64
     ensures { Exported file.now (layout_bytes file.now) out.old out.new result }
 {
     match file::layout::read(file) {
-        LayoutAnswer::Refused(r) => word::refused(r),
-        LayoutAnswer::Accepted(l) => {
+        Err(r) => word::refused(r),
+        Ok(l) => {
             let numbers = fields::layout_fields(l);
             word::counted(word::put_numbers(out, &numbers))
         }
@@ -36,9 +36,9 @@ pub extern "C" fn asdf_block(file: &[u8], ordinal: u64, out: &mut [u8]) -> u64
     ensures { Exported file.now (found_bytes block_fields (block_at file.now ordinal)) out.old out.new result }
 {
     match file::layout::block(file, ordinal) {
-        BlockAnswer::Refused(r) => word::refused(r),
-        BlockAnswer::NoSuchBlock => 0,
-        BlockAnswer::Found(b) => {
+        Err(r) => word::refused(r),
+        Ok(None) => 0,
+        Ok(Some(b)) => {
             let numbers = fields::block_fields(b);
             word::counted(word::put_numbers(out, &numbers))
         }
@@ -99,9 +99,9 @@ pub extern "C" fn asdf_stored_row(stored: &[u8], k: u64, out: &mut [u8]) -> u64
     ensures { Exported stored.now (found_bytes row_fields (stored_at stored.now k)) out.old out.new result }
 {
     match outline::stored::row(stored, k) {
-        RowAnswer::Refused(r) => word::refused(r),
-        RowAnswer::NoSuchRow => 0,
-        RowAnswer::Found(r) => {
+        Err(r) => word::refused(r),
+        Ok(None) => 0,
+        Ok(Some(r)) => {
             let numbers = fields::row_fields(r);
             word::counted(word::put_numbers(out, &numbers))
         }
@@ -133,11 +133,11 @@ pub extern "C" fn asdf_edit(file: &mut [u8], text: &[u8]) -> u64
 }
 
 // Returns 0 for an edit that was done, or the refusal as one number.
-fn edited(a: EditAnswer) -> u64
+fn edited(a: Result<(), Refusal>) -> u64
     ensures { result ≡ Export·word (Outcome·then (edit_answer a) (accepted 0)) }
 {
     match a {
-        EditAnswer::Edited => 0,
-        EditAnswer::Refused(r) => word::refused(r),
+        Ok(()) => 0,
+        Err(r) => word::refused(r),
     }
 }

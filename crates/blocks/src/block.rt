@@ -6,10 +6,6 @@ ghost use Rattle.blocks.specs.Block.{IsField, FieldRead, HeaderRead, Fault, soun
 use crate::step::LinkStep;
 use format::block::is_compressed;
 use format::limits::LEAST_HEADER;
-use format::refusal::{
-    ALLOCATED_PASSES_END, DATA_SIZE_DIFFERS, HEADER_PASSES_END, HEADER_TOO_SMALL,
-    USED_ABOVE_ALLOCATED,
-};
 use scan::number;
 
 // Returns the number with which the block that `t` begins with is refused, or 0. The walk has already found the mark,

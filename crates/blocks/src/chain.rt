@@ -8,7 +8,7 @@ ghost use Rattle.blocks.specs.Chain.{Follows, NextMark, LinkIs, Walked, WalkedIn
 use crate::block;
 use crate::step::{ChainStep, LinkStep};
 use format::limits::MOST_BLOCKS;
-use format::refusal::{Refusal, STRAY_TAIL, TOO_MANY_BLOCKS};
+use format::refusal::{Reason, Refusal};
 use scan::text;
 
 // Walks the blocks from offset `first` on. The front of the table is filled with the offsets at which they begin, and
@@ -113,7 +113,7 @@ fn link(s: &[u8], at: usize, next: usize, i: usize) -> LinkStep
     if text::only_zeros(&s[at..]) {
         return LinkStep::Zeros;
     }
-    LinkStep::Refused(Refusal::new(STRAY_TAIL, at))
+    LinkStep::Refused(Refusal::new(Reason::StrayTail, at))
 }
 
 // Returns the same if a block follows at the mark `next`.
@@ -122,7 +122,7 @@ fn link_at_mark(s: &[u8], at: usize, next: usize, i: usize) -> LinkStep
     ensures { LinkIs s.now i at next result }
 {
     if MOST_BLOCKS <= i {
-        return LinkStep::Refused(Refusal::new(TOO_MANY_BLOCKS, next));
+        return LinkStep::Refused(Refusal::new(Reason::TooManyBlocks, next));
     }
     let number = block::fault(&s[next..]);
     if number != 0 {

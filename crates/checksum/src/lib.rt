@@ -2,27 +2,26 @@
 #![tactic(auto)]
 
 ghost use Rattle.std.specs.Prelude.{◌+◌, ◌≤◌, ◌≡◌, length};
-ghost use Rattle.format.specs.Answer.{check_answer};
 ghost use Rattle.format.specs.Check.{states_md5, is_checksum, check_block, checked};
 ghost use Rattle.format.specs.File.{most_bytes};
 ghost use Rattle.format.specs.Nest.{content_at};
 ghost use Rattle.md5_parts.specs.Md5.{md5 as Md5·md5};
 
 use file::layout;
-use format::answer::{BlockAnswer, Check, CheckAnswer};
+use format::answer::Check;
 use format::block::{Block, has_checksum};
-use format::refusal::{NO_SUCH_BLOCK, Refusal};
+use format::refusal::{Reason, Refusal};
 use md5_parts::state::Md5;
 use scan::number::big_endian;
 
 // Checks the data of the block with this ordinal. If there is no such block, refuses with number 25.
-pub fn check(file: &[u8], ordinal: u64) -> CheckAnswer
-    ensures { check_answer result ≡ checked Md5·md5 file.now ordinal }
+pub fn check(file: &[u8], ordinal: u64) -> Result<Check, Refusal>
+    ensures { result ≡ checked Md5·md5 file.now ordinal }
 {
     match layout::block(file, ordinal) {
-        BlockAnswer::Refused(r) => CheckAnswer::Refused(r),
-        BlockAnswer::NoSuchBlock => CheckAnswer::Refused(Refusal::new(NO_SUCH_BLOCK, 0)),
-        BlockAnswer::Found(b) => CheckAnswer::Checked(check_block(file, b)),
+        Err(r) => Err(r),
+        Ok(None) => Err(Refusal::new(Reason::NoSuchBlock, 0)),
+        Ok(Some(b)) => Ok(check_block(file, b)),
     }
 }
 

@@ -7,18 +7,17 @@ ghost use Rattle.format.specs.Promise.{Done};
 ghost use Rattle.edit.specs.Tree.{HasTree};
 
 use file::layout;
-use format::answer::{EditAnswer, LayoutAnswer};
 use format::layout::Tree;
-use format::refusal::{EDIT_WITHOUT_TREE, Refusal, TEXT_LONGER_THAN_ROOM, TEXT_NOT_ONE_TREE};
+use format::refusal::{Reason, Refusal};
 use front::tree::is_one_tree;
 
 // Replaces a file's tree by a text that is exactly one tree, and fills the rest of the tree's room with spaces.
-pub fn edit(file: &mut [u8], text: &[u8]) -> EditAnswer
+pub fn edit(file: &mut [u8], text: &[u8]) -> Result<(), Refusal>
     ensures { Done file.old text.now file.new result }
 {
     match layout::read(file) {
-        LayoutAnswer::Refused(r) => EditAnswer::Refused(r),
-        LayoutAnswer::Accepted(l) => {
+        Err(r) => Err(r),
+        Ok(l) => {
             let tree = l.tree;
             edit_tree(file, text, tree)
         }
@@ -27,27 +26,27 @@ pub fn edit(file: &mut [u8], text: &[u8]) -> EditAnswer
 
 // Does the same for an accepted file whose tree is known. A refusal here concerns no place in the file, so it has the
 // place 0.
-fn edit_tree(file: &mut [u8], text: &[u8], tree: Tree) -> EditAnswer
+fn edit_tree(file: &mut [u8], text: &[u8], tree: Tree) -> Result<(), Refusal>
     requires { HasTree file.old tree }
     ensures { Done file.old text.now file.new result }
 {
     match tree {
-        Tree::NoTree => EditAnswer::Refused(Refusal::new(EDIT_WITHOUT_TREE, 0)),
+        Tree::NoTree => Err(Refusal::new(Reason::EditWithoutTree, 0)),
         Tree::Found {
             start,
             end: _,
             room_end,
         } => {
             if !is_one_tree(text) {
-                return EditAnswer::Refused(Refusal::new(TEXT_NOT_ONE_TREE, 0));
+                return Err(Refusal::new(Reason::TextNotOneTree, 0));
             }
             let from = start.0 as usize;
             let to = room_end.0 as usize;
             if !fits(text, from, to) {
-                return EditAnswer::Refused(Refusal::new(TEXT_LONGER_THAN_ROOM, 0));
+                return Err(Refusal::new(Reason::TextLongerThanRoom, 0));
             }
             fill(&mut file[from..to], text);
-            EditAnswer::Edited
+            Ok(())
         }
     }
 }

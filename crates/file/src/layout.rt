@@ -1,6 +1,5 @@
 // Reads the layout of a file, from front to back.
 ghost use Rattle.std.specs.Prelude.{◌≡◌, ◌≤◌, length, take, drop, replicate};
-ghost use Rattle.format.specs.Answer.{layout_answer, block_answer};
 ghost use Rattle.format.specs.File.{file, offset_table, layout, block_at, first_block, goes_on};
 ghost use Rattle.format.specs.Line.{lines};
 ghost use Rattle.format.specs.Chain.{most_blocks};
@@ -10,17 +9,16 @@ ghost use Rattle.file.specs.Layout.{after_header, after_comments, after_tree, wi
 
 use blocks::step::ChainStep;
 use blocks::{again, chain};
-use format::answer::{BlockAnswer, LayoutAnswer};
 use format::layout::{Header, Layout, Tree, Verdict};
 use format::limits::{MOST_BLOCKS, MOST_BYTES};
 use format::offset::Offset;
-use format::refusal::{FILE_TOO_LONG, NEITHER_TREE_NOR_BLOCK, Refusal};
+use format::refusal::{Reason, Refusal};
 use front::step::{EndStep, HeaderStep, TreeStep};
 use front::{comments, header, tree};
 
 // Returns the layout of a file, or its refusal.
-pub fn read(s: &[u8]) -> LayoutAnswer
-    ensures { layout_answer result ≡ layout s.now }
+pub fn read(s: &[u8]) -> Result<Layout, Refusal>
+    ensures { result ≡ layout s.now }
 {
     let mut offsets = [0u64; MOST_BLOCKS];
     judge(s, &mut offsets)
@@ -29,71 +27,71 @@ pub fn read(s: &[u8]) -> LayoutAnswer
 // Does the same, and keeps where the blocks begin. The offsets of an accepted file come first in the table, and the
 // rest of the table stays as it was. A refused file leaves only zeros, so that nothing that was kept before the refusal
 // is passed on.
-pub fn read_into(s: &[u8], offsets: &mut [u64; MOST_BLOCKS]) -> LayoutAnswer
-    ensures result_value { layout_answer result ≡ layout s.now }
+pub fn read_into(s: &[u8], offsets: &mut [u64; MOST_BLOCKS]) -> Result<Layout, Refusal>
+    ensures result_value { result ≡ layout s.now }
     ensures offsets_after { offsets.new ≡ offset_table offsets.old (file s.now) }
 {
     match judge(s, offsets) {
-        LayoutAnswer::Accepted(l) => LayoutAnswer::Accepted(l),
-        LayoutAnswer::Refused(r) => {
+        Ok(l) => Ok(l),
+        Err(r) => {
             *offsets = [0u64; MOST_BLOCKS];
-            LayoutAnswer::Refused(r)
+            Err(r)
         }
     }
 }
 
 // Returns block `ordinal` of the file, `NoSuchBlock` if there is none, or the file's refusal.
-pub fn block(s: &[u8], ordinal: u64) -> BlockAnswer
-    ensures { block_answer result ≡ block_at s.now ordinal }
+pub fn block(s: &[u8], ordinal: u64) -> Result<Option<Block>, Refusal>
+    ensures { result ≡ block_at s.now ordinal }
 {
     let mut offsets = [0u64; MOST_BLOCKS];
     match read_into(s, &mut offsets) {
-        LayoutAnswer::Refused(r) => BlockAnswer::Refused(r),
-        LayoutAnswer::Accepted(l) => kept_block(s, &offsets, l.blocks, ordinal),
+        Err(r) => Err(r),
+        Ok(l) => kept_block(s, &offsets, l.blocks, ordinal),
     }
 }
 
 // Returns the block with this ordinal of an accepted file. The file has `blocks` blocks, which begin at `offsets`.
-fn kept_block(s: &[u8], offsets: &[u64], blocks: u8, ordinal: u64) -> BlockAnswer
+fn kept_block(s: &[u8], offsets: &[u64], blocks: u8, ordinal: u64) -> Result<Option<Block>, Refusal>
     requires { Kept s.now offsets.now blocks }
-    ensures { block_answer result ≡ block_at s.now ordinal }
+    ensures { result ≡ block_at s.now ordinal }
 {
     if blocks as u64 <= ordinal {
-        return BlockAnswer::NoSuchBlock;
+        return Ok(None);
     }
     let at = offsets[ordinal as usize] as usize;
     BlockAnswer::Found(again::block_of(&s[at..], ordinal as u8, at))
 }
 
 // Judges a file. If it is accepted, the offsets of its blocks come first in the table.
-fn judge(s: &[u8], offsets: &mut [u64; MOST_BLOCKS]) -> LayoutAnswer
+fn judge(s: &[u8], offsets: &mut [u64; MOST_BLOCKS]) -> Result<Layout, Refusal>
     ensures { Judged (file s.now) offsets.old offsets.new result }
 {
     if MOST_BYTES < s.len() {
-        return LayoutAnswer::Refused(Refusal::new(FILE_TOO_LONG, 0));
+        return Err(Refusal::new(Reason::FileTooLong, 0));
     }
     match header::read_header(s) {
-        HeaderStep::Refused(r) => LayoutAnswer::Refused(r),
+        HeaderStep::Refused(r) => Err(r),
         HeaderStep::Read(h) => after_header(s, h, offsets),
     }
 }
 
-fn after_header(s: &[u8], h: Header, offsets: &mut [u64; MOST_BLOCKS]) -> LayoutAnswer
+fn after_header(s: &[u8], h: Header, offsets: &mut [u64; MOST_BLOCKS]) -> Result<Layout, Refusal>
     requires { h.end.0 ≤ length s.now }
     ensures { Judged (after_header s.now h) offsets.old offsets.new result }
 {
     match comments::comments_end(s, h.end.0 as usize) {
-        EndStep::Refused(r) => LayoutAnswer::Refused(r),
+        EndStep::Refused(r) => Err(r),
         EndStep::At(n) => after_comments(s, h, n, offsets),
     }
 }
 
-fn after_comments(s: &[u8], h: Header, n: usize, offsets: &mut [u64; MOST_BLOCKS]) -> LayoutAnswer
+fn after_comments(s: &[u8], h: Header, n: usize, offsets: &mut [u64; MOST_BLOCKS]) -> Result<Layout, Refusal>
     requires { n ≤ length s.now }
     ensures { Judged (after_comments s.now h n) offsets.old offsets.new result }
 {
     match tree::read_tree(s, n) {
-        TreeStep::Refused(r) => LayoutAnswer::Refused(r),
+        TreeStep::Refused(r) => Err(r),
         TreeStep::Read(t) => after_tree(s, h, n, t, offsets),
     }
 }
@@ -104,7 +102,7 @@ fn after_tree(
     n: usize,
     t: Tree,
     offsets: &mut [u64; MOST_BLOCKS],
-) -> LayoutAnswer
+) -> Result<Layout, Refusal>
     requires { first_block n t ≤ length s.now }
     ensures { Judged (after_tree s.now h n t) offsets.old offsets.new result }
 {
@@ -116,7 +114,7 @@ fn after_tree(
         } => with_blocks(s, h, n, t, room_end.0 as usize, offsets),
         Tree::NoTree => {
             if !goes_on(s, n) {
-                return LayoutAnswer::Refused(Refusal::new(NEITHER_TREE_NOR_BLOCK, n));
+                return Err(Refusal::new(Reason::NeitherTreeNorBlock, n));
             }
             with_blocks(s, h, n, t, n, offsets)
         }
@@ -140,13 +138,13 @@ fn with_blocks(
     t: Tree,
     first: usize,
     offsets: &mut [u64; MOST_BLOCKS],
-) -> LayoutAnswer
+) -> Result<Layout, Refusal>
     requires { first ≤ length s.now }
     ensures { Judged (with_blocks s.now h n t first) offsets.old offsets.new result }
 {
     match chain::walk(s, first, offsets) {
-        ChainStep::Refused(r) => LayoutAnswer::Refused(r),
-        ChainStep::Walked(blocks) => LayoutAnswer::Accepted(layout_with(
+        ChainStep::Refused(r) => Err(r),
+        ChainStep::Walked(blocks) => Ok(layout_with(
             h,
             n,
             t,
@@ -155,7 +153,7 @@ fn with_blocks(
         )),
         ChainStep::Indexed { blocks, tail } => {
             let v = judge_tail(&s[tail..], offsets, blocks);
-            LayoutAnswer::Accepted(layout_with(h, n, t, blocks, v))
+            Ok(layout_with(h, n, t, blocks, v))
         }
     }
 }

@@ -5,7 +5,7 @@ ghost use Rattle.format.specs.Comments.{comments};
 ghost use Rattle.front.specs.Step.{end_outcome};
 
 use crate::step::EndStep;
-use format::refusal::{COMMENT_NOT_ENDED, INDEX_AMONG_COMMENTS, Refusal};
+use format::refusal::{Reason, Refusal};
 use scan::line::Line;
 use scan::{line, text};
 
@@ -16,10 +16,10 @@ pub fn comments_end(s: &[u8], from: usize) -> EndStep
     let mut at = from;
     while text::begins_at(s, at, b"#") {
         let Line::Ended { text_end, next, .. } = line::line_at(s, at) else {
-            return EndStep::Refused(Refusal::new(COMMENT_NOT_ENDED, at));
+            return EndStep::Refused(Refusal::new(Reason::CommentNotEnded, at));
         };
         if text::is(&s[at..text_end], b"#ASDF BLOCK INDEX") {
-            return EndStep::Refused(Refusal::new(INDEX_AMONG_COMMENTS, at));
+            return EndStep::Refused(Refusal::new(Reason::IndexAmongComments, at));
         }
         at = next;
     }

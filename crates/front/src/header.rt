@@ -6,7 +6,7 @@ ghost use Rattle.front.specs.Step.{header_outcome, version_found};
 use crate::step::{HeaderStep, VersionStep};
 use format::layout::{Header, Version};
 use format::offset::Offset;
-use format::refusal::{NOT_ASDF, Refusal, VERSION_MALFORMED, VERSION_NOT_ONE};
+use format::refusal::{Reason, Refusal};
 use scan::line::Line;
 use scan::number::Number;
 use scan::{line, number, text};
@@ -16,7 +16,7 @@ pub fn read_header(s: &[u8]) -> HeaderStep
     ensures { header_outcome result ≡ header s.now }
 {
     if !text::begins_at(s, 0, b"#ASDF ") {
-        return HeaderStep::Refused(Refusal::new(NOT_ASDF, 0));
+        return HeaderStep::Refused(Refusal::new(Reason::NotAsdf, 0));
     }
     let Line::Ended {
         text_end,
@@ -24,13 +24,13 @@ pub fn read_header(s: &[u8]) -> HeaderStep
         ending,
     } = line::line_at(s, 6)
     else {
-        return HeaderStep::Refused(Refusal::new(VERSION_MALFORMED, 6));
+        return HeaderStep::Refused(Refusal::new(Reason::VersionMalformed, 6));
     };
     let VersionStep::Read(version) = read_version(&s[6..text_end]) else {
-        return HeaderStep::Refused(Refusal::new(VERSION_MALFORMED, 6));
+        return HeaderStep::Refused(Refusal::new(Reason::VersionMalformed, 6));
     };
     if version.major != 1 {
-        return HeaderStep::Refused(Refusal::new(VERSION_NOT_ONE, 6));
+        return HeaderStep::Refused(Refusal::new(Reason::VersionNotOne, 6));
     }
     HeaderStep::Read(Header {
         version,

@@ -8,7 +8,7 @@ ghost use Rattle.front.specs.Step.{end_outcome, tree_outcome};
 use crate::step::{EndStep, TreeStep};
 use format::layout::Tree;
 use format::offset::Offset;
-use format::refusal::{Refusal, SECOND_START_LINE, TREE_NOT_ENDED, WRONG_LINE_BEFORE_START};
+use format::refusal::{Reason, Refusal};
 use scan::line::{Exact, Line};
 use scan::{line, text};
 
@@ -49,13 +49,13 @@ fn directives_end(s: &[u8], from: usize) -> EndStep
     let mut at = from;
     loop {
         let Line::Ended { text_end, next, .. } = line::line_at(s, at) else {
-            return EndStep::Refused(Refusal::new(TREE_NOT_ENDED, at));
+            return EndStep::Refused(Refusal::new(Reason::TreeNotEnded, at));
         };
         if is_start(&s[at..text_end]) {
             return content_end(s, next);
         }
         if !is_directive(&s[at..text_end]) {
-            return EndStep::Refused(Refusal::new(WRONG_LINE_BEFORE_START, at));
+            return EndStep::Refused(Refusal::new(Reason::WrongLineBeforeStart, at));
         }
         at = next;
     }
@@ -68,13 +68,13 @@ fn content_end(s: &[u8], from: usize) -> EndStep
     let mut at = from;
     loop {
         let Line::Ended { text_end, next, .. } = line::line_at(s, at) else {
-            return EndStep::Refused(Refusal::new(TREE_NOT_ENDED, at));
+            return EndStep::Refused(Refusal::new(Reason::TreeNotEnded, at));
         };
         if text::is(&s[at..text_end], b"...") {
             return EndStep::At(next);
         }
         if is_start(&s[at..text_end]) {
-            return EndStep::Refused(Refusal::new(SECOND_START_LINE, at));
+            return EndStep::Refused(Refusal::new(Reason::SecondStartLine, at));
         }
         at = next;
     }

@@ -6,10 +6,9 @@ ghost use Rattle.format.specs.Promise.{Written};
 ghost use Rattle.index.specs.Text.{offsets_index, front_text, back_text, most_front, most_back, most_text};
 ghost use Rattle.put.specs.Put.{PutAt};
 
-use format::answer::CountAnswer;
 use format::limits::MOST_BLOCKS;
 use format::line::LineEnd;
-use format::refusal::NO_INDEX_POSSIBLE;
+use format::refusal::{Reason, Refusal};
 use put::decimal::put_decimals;
 use put::text::{put_text, write_text};
 
@@ -19,11 +18,11 @@ const MOST_TEXT: usize = 43 + 22 * MOST_BLOCKS;
 
 // Writes the index of these offsets at the start of the buffer, with this line end, and returns how many bytes it has.
 // The refusal is 21 if the buffer is too short, and 22 if a file cannot have that many blocks.
-pub fn write(ending: LineEnd, offsets: &[u64], out: &mut [u8]) -> CountAnswer
+pub fn write(ending: LineEnd, offsets: &[u64], out: &mut [u8]) -> Result<u64, Refusal>
     ensures { Written (offsets_index ending offsets.now) out.old out.new result }
 {
     if MOST_BLOCKS < offsets.len() {
-        return CountAnswer::refuse(NO_INDEX_POSSIBLE, 0);
+        return Err(Refusal::new(Reason::NoIndexPossible, 0));
     }
     // The text is made here and then copied, because a buffer that is too short must not change.
     let mut own = [0u8; MOST_TEXT];

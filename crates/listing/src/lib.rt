@@ -10,10 +10,9 @@ ghost use Rattle.format.specs.Promise.{Listed, ListedLent};
 ghost use Rattle.listing.specs.Listing.{most_outline, BothShort, Outlined, Short};
 ghost use Rattle.listing.specs.Text.{file_text};
 
-use format::answer::{CountAnswer, LayoutAnswer};
 use format::layout::Layout;
 use format::limits::{LEAST_BLOCK, ROW_BYTES};
-use format::refusal::{BUFFER_TOO_SHORT, Refusal};
+use format::refusal::{Reason, Refusal};
 use put::text::{put_text, write_text};
 
 // The longest file that is listed, in bytes.
@@ -31,7 +30,7 @@ const MOST_SHORT: usize = 64;
 // Writes the listing of a file at the start of `out` and the file's outline at the start of `rows`, and returns how
 // many bytes the listing has. If one of the buffers is too short, the answer is refusal 21 and neither buffer changes.
 // A file that is refused or too long has one line as its listing, and no outline.
-pub fn list(s: &[u8], rows: &mut [u8], out: &mut [u8]) -> CountAnswer
+pub fn list(s: &[u8], rows: &mut [u8], out: &mut [u8]) -> Result<u64, Refusal>
     ensures { Listed s.now rows.old out.old rows.new out.new result }
 {
     if MOST_INPUT < s.len() {
@@ -50,13 +49,13 @@ pub fn list_lent(s: &[u8], rows: &mut [u8; LENT_BYTES], out: &mut [u8; LENT_BYTE
     ensures { ListedLent s.now rows.old out.old rows.new out.new result }
 {
     match list(s, rows, out) {
-        CountAnswer::Refused(_) => 0,
-        CountAnswer::Counted(n) => n as usize,
+        Err(_) => 0,
+        Ok(n) => n as usize,
     }
 }
 
 // Writes the line of a refusal.
-fn write_refused(r: Refusal, out: &mut [u8]) -> CountAnswer
+fn write_refused(r: Refusal, out: &mut [u8]) -> Result<u64, Refusal>
     ensures { Short (printed (Outcome·refused r)) out.old out.new result }
 {
     let mut own = [0u8; MOST_SHORT];
@@ -68,21 +67,21 @@ fn write_refused(r: Refusal, out: &mut [u8]) -> CountAnswer
 // a buffer that is long enough.
 fn list_outlined(
     s: &[u8],
-    answer: LayoutAnswer,
-    written: CountAnswer,
+    answer: Result<Layout, Refusal>,
+    written: Result<u64, Refusal>,
     own: &[u8],
     rows: &mut [u8],
     out: &mut [u8],
-) -> CountAnswer
+) -> Result<u64, Refusal>
     requires s_len_bound { length s.now ≤ most_input }
     requires outlined { Outlined s.now answer written own.now }
     ensures { Listed s.now rows.old out.old rows.new out.new result }
 {
     match answer {
-        LayoutAnswer::Refused(r) => write_refused(r, out),
-        LayoutAnswer::Accepted(l) => match written {
-            CountAnswer::Refused(r) => CountAnswer::Refused(r),
-            CountAnswer::Counted(n) => {
+        Err(r) => write_refused(r, out),
+        Ok(l) => match written {
+            Err(r) => Err(r),
+            Ok(n) => {
                 let end = n as usize;
                 write_both(&own[..end], l, rows, out)
             }
@@ -92,7 +91,7 @@ fn list_outlined(
 
 // Writes the outline `b` and the text of an accepted file that has this outline. The text is measured first, so that a
 // refusal changes nothing.
-fn write_both(b: &[u8], l: Layout, rows: &mut [u8], out: &mut [u8]) -> CountAnswer
+fn write_both(b: &[u8], l: Layout, rows: &mut [u8], out: &mut [u8]) -> Result<u64, Refusal>
     requires { length b.now ≤ most_outline }
     ensures { BothShort b.now (file_text l.tree b.now l.verdict) rows.old out.old rows.new out.new result }
 {
@@ -101,12 +100,12 @@ fn write_both(b: &[u8], l: Layout, rows: &mut [u8], out: &mut [u8]) -> CountAnsw
     let mut nothing = [0u8; 1];
     let n = text::put_file(&mut nothing, tree, b, verdict);
     if rows.len() < b.len() {
-        return CountAnswer::refuse(BUFFER_TOO_SHORT, 0);
+        return Err(Refusal::new(Reason::BufferTooShort, 0));
     }
     if out.len() < n {
-        return CountAnswer::refuse(BUFFER_TOO_SHORT, 0);
+        return Err(Refusal::new(Reason::BufferTooShort, 0));
     }
     put_text(rows, 0, b);
     text::put_file(out, tree, b, verdict);
-    CountAnswer::Counted(n as u64)
+    Ok(n as u64)
 }

@@ -8,7 +8,6 @@ ghost use Rattle.format.specs.Outline.{decode_row, row_bytes};
 ghost use Rattle.listing.specs.Text.{file_text, line_text, most_file, most_line, most_row, most_short, row_texts, verdict_text};
 ghost use Rattle.put.specs.Put.{PutAt};
 
-use format::answer::RowAnswer;
 use format::layout::{Tree, Verdict};
 use format::limits::ROW_BYTES;
 use format::refusal::Refusal;
@@ -66,9 +65,9 @@ fn put_row_at(out: &mut [u8], at: usize, b: &[u8], k: usize) -> usize
     ensures { PutAt out.old out.new at (row_text (decode_row (take row_bytes (drop (k * row_bytes) b.now)))) most_row result }
 {
     match row::read_row(b, k * ROW_BYTES) {
-        RowAnswer::Found(r) => put_row(out, at, r),
-        RowAnswer::NoSuchRow => at,
-        RowAnswer::Refused(_) => at,
+        Ok(Some(r)) => put_row(out, at, r),
+        Ok(None) => at,
+        Err(_) => at,
     }
 }
 

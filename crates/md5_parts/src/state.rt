@@ -8,7 +8,7 @@ use crate::padding::{digest_of, finish, joined};
 use crate::rounds::compress;
 use crate::words::Words;
 use format::limits::MOST_BYTES;
-use format::refusal::{FILE_TOO_LONG, Refusal};
+use format::refusal::{Reason, Refusal};
 
 // The words after all whole blocks so far, the bytes after these blocks, at the start of `pending`, and how many bytes
 // there were in all.
@@ -60,13 +60,13 @@ impl Md5 {
         if count > MOST_BYTES as u64 {
             return Fed {
                 state: self,
-                answer: PartAnswer::Refused(Refusal::new(FILE_TOO_LONG, 0)),
+                answer: PartAnswer::Refused(Refusal::new(Reason::FileTooLong, 0)),
             };
         }
         if MOST_BYTES as u64 - count < bytes.len() as u64 {
             return Fed {
                 state: self,
-                answer: PartAnswer::Refused(Refusal::new(FILE_TOO_LONG, 0)),
+                answer: PartAnswer::Refused(Refusal::new(Reason::FileTooLong, 0)),
             };
         }
         let held = (count % 64) as usize;

@@ -4,7 +4,6 @@
 mod walk;
 
 ghost use Rattle.std.specs.Prelude.{◌≤◌, ◌≡◌, length, take};
-ghost use Rattle.format.specs.Answer.{layout_answer, count_answer};
 ghost use Rattle.format.specs.Fields.{record_fields, found_bytes, record_table};
 ghost use Rattle.format.specs.File.{layout as File·layout};
 ghost use Rattle.format.specs.Nest.{record_count, record_at};
@@ -15,9 +14,9 @@ ghost use Rattle.visit.specs.Sink.{all_encoded, width};
 ghost use Rattle.nest.specs.Walk.{all_records};
 
 use file::layout::read_into;
-use format::answer::{CountAnswer, LayoutAnswer, OutlinedAnswer};
+use format::answer::OutlinedAnswer;
 use format::limits::{LEAST_BLOCK, MOST_BLOCKS, RECORD_BYTES};
-use format::refusal::BUFFER_TOO_SHORT;
+use format::refusal::{Reason, Refusal};
 use visit::sink;
 use visit::sink::Form;
 
@@ -25,18 +24,18 @@ use visit::sink::Form;
 const OWN_BYTES: usize = MOST_BLOCKS * RECORD_BYTES;
 
 // Returns how many blocks a file and its inner files have, or the file's refusal.
-pub fn count(s: &[u8]) -> CountAnswer
-    ensures { count_answer result ≡ record_count s.now }
+pub fn count(s: &[u8]) -> Result<u64, Refusal>
+    ensures { result ≡ record_count s.now }
 {
     let mut offsets = [0u64; MOST_BLOCKS];
     match read_into(s, &mut offsets) {
-        LayoutAnswer::Refused(r) => CountAnswer::Refused(r),
-        LayoutAnswer::Accepted(l) => CountAnswer::Counted(count_in(s, &offsets, l.blocks)),
+        Err(r) => Err(r),
+        Ok(l) => Ok(count_in(s, &offsets, l.blocks)),
     }
 }
 
 // Writes the outline of a file: a row of sixteen bytes for each block.
-pub fn outline(s: &[u8], out: &mut [u8]) -> CountAnswer
+pub fn outline(s: &[u8], out: &mut [u8]) -> Result<u64, Refusal>
     ensures { OutlineWritten s.now out.old out.new result }
 {
     outline_with_layout(s, out).written
@@ -44,19 +43,19 @@ pub fn outline(s: &[u8], out: &mut [u8]) -> CountAnswer
 
 // Does the same and also returns the layout, so that the file is judged only once.
 pub fn outline_with_layout(s: &[u8], out: &mut [u8]) -> OutlinedAnswer
-    ensures layout_value { layout_answer result.layout ≡ File·layout s.now }
+    ensures layout_value { result.layout ≡ File·layout s.now }
     ensures outline_written { OutlineWritten s.now out.old out.new result.written }
 {
     let mut offsets = [0u64; MOST_BLOCKS];
     match read_into(s, &mut offsets) {
-        LayoutAnswer::Refused(r) => OutlinedAnswer {
-            layout: LayoutAnswer::Refused(r),
-            written: CountAnswer::Refused(r),
+        Err(r) => OutlinedAnswer {
+            layout: Err(r),
+            written: Err(r),
         },
-        LayoutAnswer::Accepted(l) => {
+        Ok(l) => {
             let written = write(s, &offsets, l.blocks, Form::Rows, out);
             OutlinedAnswer {
-                layout: LayoutAnswer::Accepted(l),
+                layout: Ok(l),
                 written,
             }
         }
@@ -64,24 +63,24 @@ pub fn outline_with_layout(s: &[u8], out: &mut [u8]) -> OutlinedAnswer
 }
 
 // Writes the records of all blocks, each in 120 bytes.
-pub fn records(s: &[u8], out: &mut [u8]) -> CountAnswer
+pub fn records(s: &[u8], out: &mut [u8]) -> Result<u64, Refusal>
     ensures { Written (record_table s.now) out.old out.new result }
 {
     let mut offsets = [0u64; MOST_BLOCKS];
     match read_into(s, &mut offsets) {
-        LayoutAnswer::Refused(r) => CountAnswer::Refused(r),
-        LayoutAnswer::Accepted(l) => write(s, &offsets, l.blocks, Form::Table, out),
+        Err(r) => Err(r),
+        Ok(l) => write(s, &offsets, l.blocks, Form::Table, out),
     }
 }
 
 // Writes the record with this number, in 120 bytes, or nothing if there is no such record.
-pub fn record(s: &[u8], wanted: u64, out: &mut [u8]) -> CountAnswer
+pub fn record(s: &[u8], wanted: u64, out: &mut [u8]) -> Result<u64, Refusal>
     ensures { Written (found_bytes record_fields (record_at s.now wanted)) out.old out.new result }
 {
     let mut offsets = [0u64; MOST_BLOCKS];
     match read_into(s, &mut offsets) {
-        LayoutAnswer::Refused(r) => CountAnswer::Refused(r),
-        LayoutAnswer::Accepted(l) => write_one(s, &offsets, l.blocks, wanted, out),
+        Err(r) => Err(r),
+        Ok(l) => write_one(s, &offsets, l.blocks, wanted, out),
     }
 }
 
@@ -97,23 +96,23 @@ fn count_in(s: &[u8], offsets: &[u64], blocks: u8) -> u64
 
 // Writes the record with this number of an accepted file. One walk is enough: if the record does not fit, the walk
 // changes nothing.
-fn write_one(s: &[u8], offsets: &[u64], blocks: u8, wanted: u64, out: &mut [u8]) -> CountAnswer
+fn write_one(s: &[u8], offsets: &[u64], blocks: u8, wanted: u64, out: &mut [u8]) -> Result<u64, Refusal>
     requires { Kept s.now offsets.now blocks }
     ensures { Written (found_bytes record_fields (record_at s.now wanted)) out.old out.new result }
 {
     let n = walk::walk_all(s, offsets, blocks, Form::One(wanted), out);
     if n <= wanted {
-        return CountAnswer::Counted(0);
+        return Ok(0);
     }
     if out.len() < RECORD_BYTES {
-        return CountAnswer::refuse(BUFFER_TOO_SHORT, 0);
+        return Err(Refusal::new(Reason::BufferTooShort, 0));
     }
-    CountAnswer::Counted(RECORD_BYTES as u64)
+    Ok(RECORD_BYTES as u64)
 }
 
 // Writes what is wanted of each block of an accepted file. A block has a minimum size, so the length of the file limits
 // how many blocks there can be. If the buffer is long enough for that many, one walk is enough.
-fn write(s: &[u8], offsets: &[u64], blocks: u8, form: Form, out: &mut [u8]) -> CountAnswer
+fn write(s: &[u8], offsets: &[u64], blocks: u8, form: Form, out: &mut [u8]) -> Result<u64, Refusal>
     requires kept { Kept s.now offsets.now blocks }
     requires bound { 1 ≤ width form }
     ensures { Written (accepted (all_encoded form (all_records s.now))) out.old out.new result }
@@ -123,12 +122,12 @@ fn write(s: &[u8], offsets: &[u64], blocks: u8, form: Form, out: &mut [u8]) -> C
         return write_measured(s, offsets, blocks, form, out);
     }
     let n = walk::walk_all(s, offsets, blocks, form, out);
-    CountAnswer::Counted(each * n)
+    Ok(each * n)
 }
 
 // Does the same if the buffer might be too short. The first walk counts and writes into a buffer of its own, so that a
 // refusal changes nothing. If everything fitted into that buffer, no second walk is needed.
-fn write_measured(s: &[u8], offsets: &[u64], blocks: u8, form: Form, out: &mut [u8]) -> CountAnswer
+fn write_measured(s: &[u8], offsets: &[u64], blocks: u8, form: Form, out: &mut [u8]) -> Result<u64, Refusal>
     requires kept { Kept s.now offsets.now blocks }
     requires bound { 1 ≤ width form }
     ensures { Written (accepted (all_encoded form (all_records s.now))) out.old out.new result }
@@ -137,23 +136,23 @@ fn write_measured(s: &[u8], offsets: &[u64], blocks: u8, form: Form, out: &mut [
     let mut own = [0u8; OWN_BYTES];
     let n = walk::walk_all(s, offsets, blocks, form, &mut own);
     if out.len() as u64 / each < n {
-        return CountAnswer::refuse(BUFFER_TOO_SHORT, 0);
+        return Err(Refusal::new(Reason::BufferTooShort, 0));
     }
     let own_most = OWN_BYTES as u64 / each;
     if own_most < n {
         walk::walk_all(s, offsets, blocks, form, out);
-        return CountAnswer::Counted(each * n);
+        return Ok(each * n);
     }
     hand_over(&own, each * n, out)
 }
 
 // Puts the first `size` bytes of a buffer at the start of another, which has room for them.
-fn hand_over(own: &[u8], size: u64, out: &mut [u8]) -> CountAnswer
+fn hand_over(own: &[u8], size: u64, out: &mut [u8]) -> Result<u64, Refusal>
     requires size_in_bounds { size ≤ length own.now }
     requires size_in_bounds_2 { size ≤ length out.old }
     ensures { Written (accepted (take size own.now)) out.old out.new result }
 {
     let end = size as usize;
     put::text::put_text(out, 0, &own[..end]);
-    CountAnswer::Counted(size)
+    Ok(size)
 }

@@ -1,17 +1,17 @@
 // Writes a row as sixteen bytes and reads it back.
 ghost use Rattle.std.specs.Prelude.{◌+◌, ◌≤◌, ◌<◌, ◌≡◌, length, take, drop};
-ghost use Rattle.format.specs.Answer.{row_answer};
 ghost use Rattle.format.specs.Lent.{placed};
 ghost use Rattle.format.specs.Outcome.{accepted};
 ghost use Rattle.format.specs.Outline.{row_bytes, encode_row, decode_row};
 ghost use Rattle.outline.specs.Row.{state_of, front_of, Field, row_at};
 
 use fields::bit;
-use format::answer::RowAnswer;
 use format::limits::ROW_BYTES;
 use format::offset::{Offset, OutermostOffset};
 use format::row::Row;
 use scan::number;
+
+use format::refusal::Refusal;
 
 // Puts a row at an offset. If it does not fit, nothing changes.
 pub fn put_row(out: &mut [u8], at: usize, r: Row)
@@ -49,14 +49,14 @@ fn state(r: Row) -> u64
 
 // Reads the row in the sixteen bytes at an offset. If there are fewer bytes, there is no such row. The rows around it
 // are not looked at.
-pub fn read_row(s: &[u8], at: usize) -> RowAnswer
-    ensures { row_answer result ≡ accepted (row_at s.now at) }
+pub fn read_row(s: &[u8], at: usize) -> Result<Option<Row>, Refusal>
+    ensures { result ≡ accepted (row_at s.now at) }
 {
     if s.len() < at {
-        return RowAnswer::NoSuchRow;
+        return Ok(None);
     }
     if s.len() - at < ROW_BYTES {
-        return RowAnswer::NoSuchRow;
+        return Ok(None);
     }
     RowAnswer::Found(row_at(s, at))
 }

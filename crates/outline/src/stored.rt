@@ -1,6 +1,5 @@
 // Stored outlines: counts their rows, reads one of them, and writes them again.
 ghost use Rattle.std.specs.Prelude.{◌/◌, ◌%◌, ◌≤◌, ◌<◌, ◌≡◌, length};
-ghost use Rattle.format.specs.Answer.{count_answer, row_answer};
 ghost use Rattle.format.specs.Fields.{stored_rows};
 ghost use Rattle.format.specs.Lent.{placed};
 ghost use Rattle.format.specs.Outline.{row_bytes, is_row, stored_count, stored_at};
@@ -9,29 +8,28 @@ ghost use Rattle.outline.specs.Row.{rows_in};
 ghost use Rattle.outline.specs.Form.{formed, form_bytes, formed_rows, stored_in};
 
 use crate::row;
-use format::answer::{CountAnswer, RowAnswer};
 use format::limits::{LEAST_HEADER, MOST_BLOCKS, ROW_BYTES, STORED_ROW_BYTES};
-use format::refusal::{BUFFER_TOO_SHORT, OUTLINE_LENGTH, OUTLINE_ROW};
+use format::refusal::{Reason, Refusal};
 use format::row::Row;
 
 // Returns how many rows a stored outline has, or its refusal.
-pub fn count(b: &[u8]) -> CountAnswer
-    ensures { count_answer result ≡ stored_count b.now }
+pub fn count(b: &[u8]) -> Result<u64, Refusal>
+    ensures { result ≡ stored_count b.now }
 {
     if b.len() % ROW_BYTES != 0 {
-        return CountAnswer::refuse(OUTLINE_LENGTH, 0);
+        return Err(Refusal::new(Reason::OutlineLength, 0));
     }
     let mut at = 0;
     let mut most: u8 = 0;
     while at < b.len() {
         let r = row::row_at(b, at);
         if !is_row(r, most) {
-            return CountAnswer::refuse(OUTLINE_ROW, at);
+            return Err(Refusal::new(Reason::OutlineRow, at));
         }
         most = r.depth + 1;
         at += ROW_BYTES;
     }
-    CountAnswer::Counted((b.len() / ROW_BYTES) as u64)
+    Ok((b.len() / ROW_BYTES) as u64)
 }
 
 // Whether a row keeps the rules and is at most `most` deep.
@@ -51,14 +49,14 @@ fn is_row(r: Row, most: u8) -> bool
 }
 
 // Reads row `k` of a stored outline. The answer is the row, that there is no such row, or the outline's refusal.
-pub fn row(b: &[u8], k: u64) -> RowAnswer
-    ensures { row_answer result ≡ stored_at b.now k }
+pub fn row(b: &[u8], k: u64) -> Result<Option<Row>, Refusal>
+    ensures { result ≡ stored_at b.now k }
 {
     match count(b) {
-        CountAnswer::Refused(r) => RowAnswer::Refused(r),
-        CountAnswer::Counted(n) => {
+        Err(r) => Err(r),
+        Ok(n) => {
             if n <= k {
-                return RowAnswer::NoSuchRow;
+                return Ok(None);
             }
             RowAnswer::Found(row::row_at(b, k as usize * ROW_BYTES))
         }
@@ -66,14 +64,14 @@ pub fn row(b: &[u8], k: u64) -> RowAnswer
 }
 
 // Reads a stored outline and writes its rows again.
-pub fn rewrite(b: &[u8], out: &mut [u8]) -> CountAnswer
+pub fn rewrite(b: &[u8], out: &mut [u8]) -> Result<u64, Refusal>
     ensures { WrittenAgain b.now out.old out.new result }
 {
     write(b, RowForm::AsStored, out)
 }
 
 // Reads a stored outline and writes its rows as numbers, each number in eight bytes.
-pub fn rows(b: &[u8], out: &mut [u8]) -> CountAnswer
+pub fn rows(b: &[u8], out: &mut [u8]) -> Result<u64, Refusal>
     ensures { Written (stored_rows b.now) out.old out.new result }
 {
     write(b, RowForm::AsNumbers, out)
@@ -99,19 +97,19 @@ fn bytes_of(form: RowForm) -> usize
 
 // Writes the rows of a stored outline. All of them are judged before the first is put, so that a refusal changes
 // nothing.
-fn write(b: &[u8], form: RowForm, out: &mut [u8]) -> CountAnswer
+fn write(b: &[u8], form: RowForm, out: &mut [u8]) -> Result<u64, Refusal>
     ensures { Written (stored_in form b.now) out.old out.new result }
 {
     match count(b) {
-        CountAnswer::Refused(r) => CountAnswer::Refused(r),
-        CountAnswer::Counted(_) => {
+        Err(r) => Err(r),
+        Ok(_) => {
             let each = bytes_of(form);
             let n = b.len() / ROW_BYTES;
             if out.len() / each < n {
-                return CountAnswer::refuse(BUFFER_TOO_SHORT, 0);
+                return Err(Refusal::new(Reason::BufferTooShort, 0));
             }
             put_rows(b, form, out);
-            CountAnswer::Counted((n * each) as u64)
+            Ok((n * each) as u64)
         }
     }
 }

@@ -4,8 +4,7 @@ ghost use Rattle.format.specs.Promise.{Written};
 ghost use Rattle.put.specs.Put.{PutWhole};
 ghost use Rattle.std.specs.Prelude.{length};
 
-use format::answer::CountAnswer;
-use format::refusal::BUFFER_TOO_SHORT;
+use format::refusal::{Reason, Refusal};
 use std::num::wrapping_add_usize;
 
 // Puts a text at an offset, and returns where it ends. If it does not fit, nothing changes.
@@ -25,12 +24,12 @@ pub fn put_text(out: &mut [u8], at: usize, text: &[u8]) -> usize
 
 // Writes a text at the start of the buffer, and returns how many bytes it has. If the buffer is too short, refuses with
 // number 21.
-pub fn write_text(text: &[u8], out: &mut [u8]) -> CountAnswer
+pub fn write_text(text: &[u8], out: &mut [u8]) -> Result<u64, Refusal>
     ensures { Written (accepted text.now) out.old out.new result }
 {
     if out.len() < text.len() {
-        return CountAnswer::refuse(BUFFER_TOO_SHORT, 0);
+        return Err(Refusal::new(Reason::BufferTooShort, 0));
     }
     put_text(out, 0, text);
-    CountAnswer::Counted(text.len() as u64)
+    Ok(text.len() as u64)
 }

@@ -10,8 +10,7 @@ ghost use Rattle.format.specs.Promise.{Written};
 ghost use Rattle.md5_parts.specs.Kept.{state_bytes, state_of, encode_state, decode_state, digest_bytes, PartKept};
 ghost use Rattle.md5_parts.specs.State.{starting};
 
-use format::answer::CountAnswer;
-use format::refusal::{BUFFER_TOO_SHORT, Refusal};
+use format::refusal::{Reason, Refusal};
 use md5_parts::state::{Md5, PartAnswer};
 use md5_parts::words::Words;
 use scan::number::big_endian;
@@ -20,17 +19,17 @@ use scan::number::big_endian;
 pub const STATE_BYTES: usize = 104;
 
 // Writes the state before any byte, and returns how many bytes it takes.
-pub fn start(state: &mut [u8]) -> CountAnswer
+pub fn start(state: &mut [u8]) -> Result<u64, Refusal>
     ensures { Written (accepted (encode_state starting)) state.old state.new result }
 {
     if state.len() < STATE_BYTES {
-        return CountAnswer::refuse(BUFFER_TOO_SHORT, 0);
+        return Err(Refusal::new(Reason::BufferTooShort, 0));
     }
     let first = Md5::new();
     let words = first.words;
     let pending = first.pending;
     put_state(state, words, pending, first.count);
-    CountAnswer::Counted(STATE_BYTES as u64)
+    Ok(STATE_BYTES as u64)
 }
 
 // Gives a part to the state. If the part is refused, no byte of the state changes.
@@ -38,7 +37,7 @@ pub fn part(state: &mut [u8], bytes: &[u8]) -> PartAnswer
     ensures { PartKept state.old bytes.now state.new result }
 {
     if state.len() < STATE_BYTES {
-        return PartAnswer::Refused(Refusal::new(BUFFER_TOO_SHORT, 0));
+        return PartAnswer::Refused(Refusal::new(Reason::BufferTooShort, 0));
     }
     let fed = state_of(state).part(bytes);
     let answer = fed.answer;
@@ -55,11 +54,11 @@ pub fn part(state: &mut [u8], bytes: &[u8]) -> PartAnswer
 }
 
 // Writes the digest that the state gives: sixteen bytes.
-pub fn digest(state: &[u8], out: &mut [u8]) -> CountAnswer
+pub fn digest(state: &[u8], out: &mut [u8]) -> Result<u64, Refusal>
     ensures { Written (digest_bytes state.now) out.old out.new result }
 {
     if state.len() < STATE_BYTES {
-        return CountAnswer::refuse(BUFFER_TOO_SHORT, 0);
+        return Err(Refusal::new(Reason::BufferTooShort, 0));
     }
     let digest = state_of(state).digest();
     put::text::write_text(&digest, out)

@@ -2,7 +2,6 @@
 ghost use Rattle.visit.specs.Content.{ContentIs};
 
 use file::layout;
-use format::answer::LayoutAnswer;
 use format::block::Inner;
 use format::limits::{DEEPEST, MOST_BLOCKS};
 use scan::text;
@@ -38,11 +37,11 @@ pub fn content_of(t: &[u8], compressed: bool, depth: u8, offsets: &mut [u64; MOS
         };
     }
     match layout::read_into(t, offsets) {
-        LayoutAnswer::Refused(r) => Found {
+        Err(r) => Found {
             inner: Inner::Refused(r),
             blocks: 0,
         },
-        LayoutAnswer::Accepted(l) => Found {
+        Ok(l) => Found {
             inner: Inner::Opened,
             blocks: l.blocks,
         },

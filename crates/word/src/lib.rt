@@ -3,13 +3,11 @@
 
 ghost use Rattle.std.specs.Prelude.{◌≡◌};
 ghost use Rattle.format.specs.Outcome.{accepted, refused as Outcome·refused};
-ghost use Rattle.format.specs.Answer.{count_answer};
 ghost use Rattle.format.specs.Fields.{number_bytes};
 ghost use Rattle.format.specs.Export.{word};
 ghost use Rattle.format.specs.Promise.{Written};
 
-use format::answer::CountAnswer;
-use format::refusal::{BUFFER_TOO_SHORT, Refusal};
+use format::refusal::{Reason, Refusal};
 
 // Returns a refusal as one number: its number in the top byte, and its place in the bytes below.
 pub fn refused(r: Refusal) -> u64
@@ -19,23 +17,23 @@ pub fn refused(r: Refusal) -> u64
 }
 
 // Returns a count, or a refusal as one number.
-pub fn counted(a: CountAnswer) -> u64
+pub fn counted(a: Result<u64, Refusal>) -> u64
     ensures { result ≡ word (count_answer a) }
 {
     match a {
-        CountAnswer::Counted(n) => n,
-        CountAnswer::Refused(r) => refused(r),
+        Ok(n) => n,
+        Err(r) => refused(r),
     }
 }
 
 // Puts numbers at the start of the buffer, each in eight bytes, and returns how many bytes that is. If the buffer is
 // too short, the answer is a refusal.
-pub fn put_numbers(out: &mut [u8], numbers: &[u64]) -> CountAnswer
+pub fn put_numbers(out: &mut [u8], numbers: &[u64]) -> Result<u64, Refusal>
     ensures { Written (accepted (number_bytes numbers.now)) out.old out.new result }
 {
     if out.len() / 8 < numbers.len() {
-        return CountAnswer::refuse(BUFFER_TOO_SHORT, 0);
+        return Err(Refusal::new(Reason::BufferTooShort, 0));
     }
     put::put_numbers(out, 0, numbers);
-    CountAnswer::Counted(8 * numbers.len() as u64)
+    Ok(8 * numbers.len() as u64)
 }
