@@ -11,7 +11,9 @@ use lib.Seq.{set_at, append_snoc, drop-drop, drop-cons}
 use mir.Syntax.{w64}
 use mir.Val.{Fits}
 use Rattle.format.specs.declared.block.Block.{Block}
+use Rattle.std.specs.Prelude.{Result, Ok, Err, is_err}
 use Rattle.format.specs.declared.refusal.Refusal.{Refusal}
+use Rattle.format.specs.declared.refusal.Reason.{Reason}
 use Rattle.format.specs.declared.refusal.Reason.TheVariants.{TooManyBlocks, StrayTail}
 use Rattle.format.specs.Bytes.{Bytes, begins, all_zero}
 use Rattle.format.specs.Outcome.{Outcome, accepted, refused, refusal, ◌>>=◌}
@@ -25,13 +27,13 @@ use Rattle.format.proofs.NextLaws.{next_index, next_none, next_mark, next_here}
 use Rattle.format.proofs.BlockLaws.{BlockIs, accepted_block, sound_accepted}
 use Rattle.format.proofs.ChainLaws.{chain_none, chain_many, chain_next, no_blocks}
 use Rattle.mark.specs.Mark.{MarkFound}
-use Rattle.blocks.specs.declared.step.LinkStep.{LinkStep}
-use Rattle.blocks.specs.declared.step.LinkStep.TheVariants as LinkStep·is
-use Rattle.blocks.specs.declared.step.ChainStep.{ChainStep}
-use Rattle.blocks.specs.declared.step.ChainStep.TheVariants as ChainStep·is
+use Rattle.blocks.specs.declared.step.Link.{Link}
+use Rattle.blocks.specs.declared.step.Link.TheVariants as Link·is
+use Rattle.blocks.specs.declared.step.ChainFound.{ChainFound}
 use Rattle.format.proofs.PartLaws.{part_all}
-use Rattle.blocks.specs.Block.{Fault, sound_link}
-use Rattle.blocks.specs.Chain.{onward, TailBegins, Follows, NextMark, BlockBegins, LinkIs, Chained, WalkedAlone, WalkedTo, WalkRefused, WalkedInside}
+use Rattle.blocks.specs.Block.{Checked, sound_link}
+use Rattle.blocks.proofs.BlockLaws.{block_sound}
+use Rattle.blocks.specs.Chain.{onward, TailBegins, Follows, NextMark, BlockBegins, LinkIs, Chained, WalkedAlone, WalkedTo, WalkRefused, WalkedInside, Walked}
 
 module _ (s : Bytes) (n : ℕ) where
   -- If a mark is at offset `n`, the next block begins there.
@@ -114,27 +116,29 @@ module _ (s : Bytes) (i n m : ℕ) (here : Follows s n m) where
         ∙ ap (λ (t : Bytes). linked_at i (n + here.gap) t (chain (most_blocks - (i + 1)) (i + 1))) (drop-drop here.gap n s)
         ∙ ap (λ (j : ℕ). linked_at i j (drop j s) (chain (most_blocks - (i + 1)) (i + 1))) (sym here.at)
 
-    -- If the block has a fault, the chain is refused with that number at the mark `m`.
-    pub mark_refused : (x : ℕ) (r : Refusal) → Fault (take (length s - m) (drop m s)) x → r ≡ refusal x m → (x ≡ 0 → ⊥) → onward s i n ≡ refused r
+    -- If the check of the block fails, the chain is refused for that reason at the mark `m`.
+    pub mark_refused : (a : Result (Unit {0}) Reason) (x : Reason) (r : Refusal) → Checked (take (length s - m) (drop m s)) a → a ≡ Err x → r ≡ refusal x m
+        → onward s i n ≡ refused r
     unfolding linked_at
-    mark_refused x r fault e h =
-        let block_is : block i m (drop m s) ≡ refused r = ap (block i m) (sym (part_all s m)) ∙ fault.fails h i m ∙ ap refused (sym e) in
+    mark_refused a x r checked h e =
+        let fails : (i n : ℕ) → block i n (take (length s - m) (drop m s)) ≡ refused (refusal x n) = rw h at checked in
+        let block_is : block i m (drop m s) ≡ refused r = ap (block i m) (sym (part_all s m)) ∙ fails i m ∙ ap refused (sym e) in
         onward_linked ∙ rw (block_is, linked_at)
 
-    -- If the block has no fault, the chain goes on where the block leads.
-    pub mark_block : (x : ℕ) (r : LinkStep) → Fault (take (length s - m) (drop m s)) x → r ≡ sound_link (take (length s - m) (drop m s)) → x ≡ 0
-        → LinkIs s i n m r
+    -- If the check passes, the chain goes on where the block leads.
+    pub mark_block : (a : Result (Unit {0}) Reason) (u : Unit {0}) (r : Link) → Checked (take (length s - m) (drop m s)) a → a ≡ Ok u
+        → r ≡ sound_link (take (length s - m) (drop m s)) → LinkIs s i n m (accepted r)
     unfolding linked_at sound_link
-    mark_block x r fault h z = subst (LinkIs s i n m) (sym (h ∙ ap sound_link (part_all s m))) (go (is_streamed (flags (drop m s))) refl)
+    mark_block a u r checked z h = subst (λ (x : Link). LinkIs s i n m (accepted x)) (sym (h ∙ ap sound_link (part_all s m))) (go (is_streamed (flags (drop m s))) refl)
       where
         read : block i m (drop m s) ≡ accepted (sound_block i m (drop m s))
-        read = sound_accepted i m (drop m s) (rw (part_all s m) at (fault.passes z))
+        read = sound_accepted i m (drop m s) (rw (part_all s m) at (block_sound _ a u checked z))
 
         known : BlockIs i m (drop m s) (sound_block i m (drop m s))
         known = accepted_block read
 
         go : (y : Bool) → is_streamed (flags (drop m s)) ≡ y
-            → LinkIs s i n m (elim y [ true ↦ LinkStep·is.Streamed | false ↦ LinkStep·is.Block (content_start (drop m s) + allocated_size (drop m s)) ])
+            → LinkIs s i n m (accepted (elim y [ true ↦ Link·is.Streamed | false ↦ Link·is.Block (content_start (drop m s) + allocated_size (drop m s)) ]))
         go true k =
             record { first = sound_block i m (drop m s); is = onward_linked ∙ rw (read, linked_at, known.same_flags, k); at = known.at; few = few }
         go false k =
@@ -197,18 +201,18 @@ walk_ends s before out first i o w t e = record {
   kept = w.kept;
 }
 
-module _ (s : Bytes) (i n m : ℕ) (r : LinkStep) (link : LinkIs s i n m r) where
+module _ (s : Bytes) (i n m : ℕ) (r : Outcome Link) (link : LinkIs s i n m r) where
   -- If the link is a streamed block, it begins at the mark `m`.
-  streamed_here : r ≡ LinkStep·is.Streamed → BlockBegins s i n m (accepted (ended []))
+  streamed_here : r ≡ accepted Link·is.Streamed → BlockBegins s i n m (accepted (ended []))
   streamed_here h = rw h at link
 
   -- If the link is a streamed block, it is within the limit on blocks.
-  pub streamed_few : r ≡ LinkStep·is.Streamed → i < most_blocks
+  pub streamed_few : r ≡ accepted Link·is.Streamed → i < most_blocks
   streamed_few h = (streamed_here h).few
 
-  module _ (e : ℕ) (h : r ≡ LinkStep·is.Block e) where
+  module _ (e : ℕ) (h : r ≡ accepted (Link·is.Block e)) where
     -- A block that is not streamed begins at the mark `m`; its allocated space ends `e` bytes after that.
-    block_here : LinkIs s i n m (LinkStep·is.Block e)
+    block_here : LinkIs s i n m (accepted (Link·is.Block e))
     block_here = rw h at link
 
     -- It is within the limit on blocks.
@@ -227,19 +231,19 @@ module _ (s : Bytes) (i n m : ℕ) (r : LinkStep) (link : LinkIs s i n m r) wher
     pub block_fits : length s < 2 ^ 64 → Fits w64 (m + e)
     block_fits q = omega (arith, block_inside)
 
-module _ (s : Bytes) (before out : List ℕ) (first i n m : ℕ) (w : Walking s before out first i (onward s i n)) (r : LinkStep) (link : LinkIs s i n m r) where
+module _ (s : Bytes) (before out : List ℕ) (first i n m : ℕ) (w : Walking s before out first i (onward s i n)) (r : Outcome Link) (link : LinkIs s i n m r) where
   -- If the chain is refused here, the whole chain has the same refusal.
-  pub walk_refused : (x : Refusal) → r ≡ LinkStep·is.Refused x → onward s 0 first ≡ refused x
+  pub walk_refused : (x : Refusal) → r ≡ refused x → onward s 0 first ≡ refused x
   walk_refused x h = w.is ∙ ap (in_front w.blocks) (rw h at link)
 
   -- If only zeros follow the walked blocks, the chain ends without an index.
-  pub walk_zeros : r ≡ LinkStep·is.Zeros → WalkedAlone (onward s 0 first) before out i
+  pub walk_zeros : r ≡ accepted Link·is.Zeros → WalkedAlone (onward s 0 first) before out i
   walk_zeros h =
       let t : TailBegins s i n true = rw h at link in
       record { c = _; chained = walk_ends s before out first i _ w (drop n s) t.is; zeros = t.tail }
 
   -- If the bytes after the walked blocks begin like an index, the chain ends there, at offset `n`.
-  pub walk_index : r ≡ LinkStep·is.Index → n ≤ length s → WalkedTo s (onward s 0 first) before out i n
+  pub walk_index : r ≡ accepted Link·is.Index → n ≤ length s → WalkedTo s (onward s 0 first) before out i n
   walk_index h inside =
       let t : TailBegins s i n false = rw h at link in
       record { c = _; chained = walk_ends s before out first i _ w (drop n s) t.is; zeros = t.tail; tail = refl; inside = inside }
@@ -258,13 +262,13 @@ module _ (s : Bytes) (before out : List ℕ) (first i n m : ℕ) (w : Walking s 
     }
 
     -- A streamed block is the last of the chain.
-    pub walk_streamed : r ≡ LinkStep·is.Streamed → WalkedAlone (onward s 0 first) before out' (i + 1)
+    pub walk_streamed : r ≡ accepted Link·is.Streamed → WalkedAlone (onward s 0 first) before out' (i + 1)
     walk_streamed h =
         let next = walk_next (accepted (ended [])) (streamed_here s i n m r link h) in
         record { c = _; chained = walk_ends s before out' first (i + 1) _ next [] refl; zeros = refl }
 
     -- After any other block the chain goes on.
-    pub walk_block : (e : ℕ) → r ≡ LinkStep·is.Block e → Walking s before out' first (i + 1) (onward s (i + 1) (m + e))
+    pub walk_block : (e : ℕ) → r ≡ accepted (Link·is.Block e) → Walking s before out' first (i + 1) (onward s (i + 1) (m + e))
     walk_block e h = walk_next (onward s (i + 1) (m + e)) (block_here s i n m r link e h).0
 
 -- If the walk begins after the end of the file, there are no blocks.
@@ -275,14 +279,19 @@ walk_outside s before first h = record {
   zeros = refl;
 }
 
-module _ (s : Bytes) (o : Outcome Chain) (before out : List ℕ) (x : ChainStep) (is : WalkedInside s o before out x) where
-  -- The answer of `walk_inside` is passed on, without an index (this law) or with one (the next law).
-  pub told_alone : (k : ℕ) → x ≡ ChainStep·is.Walked k → WalkedAlone o before out k
-  told_alone k h = rw h at is
-
-  pub told_to : (k n : ℕ) → x ≡ ChainStep·is.Indexed k n → WalkedTo s o before out k n
-  told_to k n h = rw h at is
+module _ (s : Bytes) (o : Outcome Chain) (before out : List ℕ) (x : Outcome ChainFound) (is : WalkedInside s o before out x) where
+  -- If the chain is accepted, the answer of `walk_inside` is passed on.
+  pub told_walked : is_err x ≡ false → Walked s o before out x
+  told_walked h = go x is h
+    where
+      go : (y : Outcome ChainFound) → WalkedInside s o before out y → is_err y ≡ false → Walked s o before out y
+      go (accepted w) k e = k
+      go (refused r) k e = cc
 
   -- If the chain is refused, the table keeps only zeros.
-  pub told_refused : (r : Refusal) → x ≡ ChainStep·is.Refused r → WalkRefused o (replicate most_blocks 0) r
-  told_refused r h = record { is = rw h at is; none_kept = refl }
+  pub told_refused : is_err x ≡ true → Walked s o before (replicate most_blocks 0) x
+  told_refused h = go x is h
+    where
+      go : (y : Outcome ChainFound) → WalkedInside s o before out y → is_err y ≡ true → Walked s o before (replicate most_blocks 0) y
+      go (accepted w) k e = cc
+      go (refused r) k e = record { is = k; none_kept = refl }

@@ -1,10 +1,11 @@
 -- The numbers in a block's header, and what is known of the header when its sizes are read.
-use Rattle.std.specs.Prelude.{ℕ, ◌+◌, ◌-◌, ◌≤◌, ◌<◌, ◌^◌, ◌≡◌, true, false, length}
+use Rattle.std.specs.Prelude.{Result, Ok, Err, ℕ, ◌+◌, ◌-◌, ◌≤◌, ◌<◌, ◌^◌, ◌≡◌, true, false, length}
+use Rattle.format.specs.declared.refusal.Reason.{Reason}
 use Rattle.format.specs.Bytes.{Bytes, number}
 use Rattle.format.specs.Outcome.{refused, refusal}
 use Rattle.format.specs.Block.{header_size, flags, allocated_size, least_header, is_streamed, content_start, bytes_left, block, Sound}
-use Rattle.blocks.specs.declared.step.LinkStep.{LinkStep}
-use Rattle.blocks.specs.declared.step.LinkStep.TheVariants as LinkStep·is
+use Rattle.blocks.specs.declared.step.Link.{Link}
+use Rattle.blocks.specs.declared.step.Link.TheVariants as Link·is
 
 -- The bytes from offset `from` to offset `to` are a field of `t`: they are inside `t`, and there are at most eight of
 -- them.
@@ -26,10 +27,10 @@ pub record HeaderRead (t : Bytes) (left : ℕ) : Type 0 where
   pub after : left ≡ bytes_left t
 
 -- How the chain goes on after a block with which nothing is wrong.
-unfoldable pub sound_link : Bytes → LinkStep
-sound_link t = elim (is_streamed (flags t)) [ true ↦ LinkStep·is.Streamed | false ↦ LinkStep·is.Block (content_start t + allocated_size t) ]
+unfoldable pub sound_link : Bytes → Link
+sound_link t = elim (is_streamed (flags t)) [ true ↦ Link·is.Streamed | false ↦ Link·is.Block (content_start t + allocated_size t) ]
 
--- `r` is the number with which the block that `t` begins with is refused, or 0 if nothing is wrong with it.
-pub record Fault (t : Bytes) (r : ℕ) : Type 0 where
-  pub fails : (r ≡ 0 → ⊥) → (i n : ℕ) → block i n t ≡ refused (refusal r n)
-  pub passes : r ≡ 0 → Sound t
+-- What the check of the block that `t` begins with states: nothing is wrong with it, or it is refused for this reason.
+abbrev pub Checked : Bytes → Result (Unit {0}) Reason → Type 0
+Checked t (Ok u) = Sound t
+Checked t (Err x) = (i n : ℕ) → block i n t ≡ refused (refusal x n)

@@ -7,10 +7,9 @@ use Rattle.format.specs.Bytes.{Bytes, all_zero}
 use Rattle.format.specs.Outcome.{Outcome, accepted, refused, ◌>>=◌}
 use Rattle.format.specs.Chain.{Chain, most_blocks, ended, linked, next_block, chain}
 use Rattle.format.specs.File.{table_of}
-use Rattle.blocks.specs.declared.step.LinkStep.{LinkStep}
-use Rattle.blocks.specs.declared.step.LinkStep.TheVariants as LinkStep·is
-use Rattle.blocks.specs.declared.step.ChainStep.{ChainStep}
-use Rattle.blocks.specs.declared.step.ChainStep.TheVariants as ChainStep·is
+use Rattle.blocks.specs.declared.step.Link.{Link}
+use Rattle.blocks.specs.declared.step.Link.TheVariants as Link·is
+use Rattle.blocks.specs.declared.step.ChainFound.{ChainFound}
 
 -- The chain of the file `s` from offset `n` on, where block `i` may begin.
 abbrev pub onward : Bytes → ℕ → ℕ → Outcome Chain
@@ -42,12 +41,12 @@ pub record BlockBegins (s : Bytes) (i n m : ℕ) (o : Outcome Chain) : Type 0 wh
 
 -- What an answer states about the chain from offset `n` on, where block `i` may begin. `m` is where the next block has
 -- its mark, or the end of the file if no block follows.
-abbrev pub LinkIs : Bytes → ℕ → ℕ → ℕ → LinkStep → Type 0
-LinkIs s i n m (LinkStep·is.Block e) = BlockBegins s i n m (onward s (i + 1) (m + e)) × (m + e ≤ length s)
-LinkIs s i n m LinkStep·is.Streamed = BlockBegins s i n m (accepted (ended []))
-LinkIs s i n m LinkStep·is.Zeros = TailBegins s i n true
-LinkIs s i n m LinkStep·is.Index = TailBegins s i n false
-LinkIs s i n m (LinkStep·is.Refused r) = onward s i n ≡ refused r
+abbrev pub LinkIs : Bytes → ℕ → ℕ → ℕ → Outcome Link → Type 0
+LinkIs s i n m (accepted (Link·is.Block e)) = BlockBegins s i n m (onward s (i + 1) (m + e)) × (m + e ≤ length s)
+LinkIs s i n m (accepted Link·is.Streamed) = BlockBegins s i n m (accepted (ended []))
+LinkIs s i n m (accepted Link·is.Zeros) = TailBegins s i n true
+LinkIs s i n m (accepted Link·is.Index) = TailBegins s i n false
+LinkIs s i n m (refused r) = onward s i n ≡ refused r
 
 -- The chain `c` of `k` blocks was walked. The walk changed the table from `before` to `out`, and the front of `out`
 -- holds where the blocks begin.
@@ -71,13 +70,16 @@ pub record WalkedTo (s : Bytes) (o : Outcome Chain) (before out : List ℕ) (k n
   pub tail : c.tail ≡ drop n s
   pub inside : n ≤ length s
 
+-- The chain was walked, and what follows it was found.
+abbrev pub WalkedAs : Bytes → Outcome Chain → List ℕ → List ℕ → ChainFound → Type 0
+WalkedAs s o before out w = elim w.tail [ None ↦ WalkedAlone o before out w.blocks | Some n ↦ WalkedTo s o before out w.blocks n ]
+
 -- What the answer of a walk through the file `s` states. `o` is the outcome of the chain, and the walk changed the
 -- table from `before` to `out`. If the chain is refused, what was kept stays in the table, and nothing is stated about
 -- it.
-abbrev pub WalkedInside : Bytes → Outcome Chain → List ℕ → List ℕ → ChainStep → Type 0
-WalkedInside s o before out (ChainStep·is.Refused r) = o ≡ refused r
-WalkedInside s o before out (ChainStep·is.Walked k) = WalkedAlone o before out k
-WalkedInside s o before out (ChainStep·is.Indexed k n) = WalkedTo s o before out k n
+abbrev pub WalkedInside : Bytes → Outcome Chain → List ℕ → List ℕ → Outcome ChainFound → Type 0
+WalkedInside s o before out (refused r) = o ≡ refused r
+WalkedInside s o before out (accepted w) = WalkedAs s o before out w
 
 -- The chain is refused with `r`, and no offset is kept: the table is only zeros.
 pub record WalkRefused (o : Outcome Chain) (out : List ℕ) (r : Refusal) : Type 0 where
@@ -85,7 +87,6 @@ pub record WalkRefused (o : Outcome Chain) (out : List ℕ) (r : Refusal) : Type
   pub none_kept : out ≡ replicate most_blocks 0
 
 -- The same as `WalkedInside`, except that a refused chain leaves only zeros in the table.
-abbrev pub Walked : Bytes → Outcome Chain → List ℕ → List ℕ → ChainStep → Type 0
-Walked s o before out (ChainStep·is.Refused r) = WalkRefused o out r
-Walked s o before out (ChainStep·is.Walked k) = WalkedAlone o before out k
-Walked s o before out (ChainStep·is.Indexed k n) = WalkedTo s o before out k n
+abbrev pub Walked : Bytes → Outcome Chain → List ℕ → List ℕ → Outcome ChainFound → Type 0
+Walked s o before out (refused r) = WalkRefused o out r
+Walked s o before out (accepted w) = WalkedAs s o before out w

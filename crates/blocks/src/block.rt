@@ -1,53 +1,54 @@
 // Judges a block's header.
 ghost use Rattle.std.specs.Prelude.{◌≤◌, ◌≡◌, ◌||◌, length, eqb};
 ghost use Rattle.format.specs.Block.{is_compressed, Sound};
-ghost use Rattle.blocks.specs.Block.{IsField, FieldRead, HeaderRead, Fault, sound_link};
+ghost use Rattle.blocks.specs.Block.{IsField, FieldRead, HeaderRead, Checked, sound_link};
 
-use crate::step::LinkStep;
+use crate::step::Link;
 use format::block::is_compressed;
 use format::limits::LEAST_HEADER;
+use format::refusal::Reason;
 use scan::number;
 
-// Returns the number with which the block that `t` begins with is refused, or 0. The walk has already found the mark,
-// so its four bytes are not checked again.
-pub(crate) fn fault(t: &[u8]) -> u8
-    ensures { Fault t.now result }
+// Checks the block that `t` begins with, and returns why it is refused if it is. The walk has already found the mark, so
+// its four bytes are not checked again.
+pub(crate) fn check(t: &[u8]) -> Result<(), Reason>
+    ensures { Checked t.now result }
 {
     if t.len() < 6 {
-        return HEADER_PASSES_END;
+        return Err(Reason::HeaderPassesEnd);
     }
     let header_size = field(t, 4, 6);
     if header_size < LEAST_HEADER {
-        return HEADER_TOO_SMALL;
+        return Err(Reason::HeaderTooSmall);
     }
     let content = 6 + header_size as usize;
     if t.len() < content {
-        return HEADER_PASSES_END;
+        return Err(Reason::HeaderPassesEnd);
     }
     let left = (t.len() - content) as u64;
     if field(t, 6, 10) % 2 == 1 {
-        return 0;
+        return Ok(());
     }
-    sizes_fault(t, left)
+    check_sizes(t, left)
 }
 
-// Returns the same for a whole header of a block that is not streamed. `left` bytes follow the header.
-fn sizes_fault(t: &[u8], left: u64) -> u8
+// Does the same for a whole header of a block that is not streamed. `left` bytes follow the header.
+fn check_sizes(t: &[u8], left: u64) -> Result<(), Reason>
     requires { HeaderRead t.now left }
-    ensures { Fault t.now result }
+    ensures { Checked t.now result }
 {
     let allocated = field(t, 14, 22);
     let used = field(t, 22, 30);
     if allocated < used {
-        return USED_ABOVE_ALLOCATED;
+        return Err(Reason::UsedAboveAllocated);
     }
     if !is_data_size(field(t, 30, 38), field(t, 10, 14), used) {
-        return DATA_SIZE_DIFFERS;
+        return Err(Reason::DataSizeDiffers);
     }
     if left < allocated {
-        return ALLOCATED_PASSES_END;
+        return Err(Reason::AllocatedPassesEnd);
     }
-    0
+    Ok(())
 }
 
 // Whether the data may have this size. Without compression only the used size is allowed.
@@ -69,13 +70,13 @@ pub(crate) fn field(t: &[u8], from: usize, to: usize) -> u64
 }
 
 // Returns how the chain goes on after a block with which nothing is wrong.
-pub(crate) fn sound_link(t: &[u8]) -> LinkStep
+pub(crate) fn sound_link(t: &[u8]) -> Link
     requires { Sound t.now }
     ensures { result ≡ sound_link t.now }
 {
     if field(t, 6, 10) % 2 == 1 {
-        return LinkStep::Streamed;
+        return Link::Streamed;
     }
     let content = 6 + field(t, 4, 6) as usize;
-    LinkStep::Block(content + field(t, 14, 22) as usize)
+    Link::Block(content + field(t, 14, 22) as usize)
 }

@@ -6,7 +6,7 @@ ghost use Rattle.format.specs.Chain.{chain, most_blocks};
 ghost use Rattle.blocks.specs.Chain.{Follows, NextMark, LinkIs, Walked, WalkedInside};
 
 use crate::block;
-use crate::step::{ChainStep, LinkStep};
+use crate::step::{ChainFound, Link};
 use format::limits::MOST_BLOCKS;
 use format::refusal::{Reason, Refusal};
 use scan::text;
@@ -14,25 +14,25 @@ use scan::text;
 // Walks the blocks from offset `first` on. The front of the table is filled with the offsets at which they begin, and
 // the rest of the table stays as it was. A refused chain leaves only zeros in the table: what the walk kept before the
 // refusal is not passed on.
-pub fn walk(s: &[u8], first: usize, offsets: &mut [u64; MOST_BLOCKS]) -> ChainStep
+pub fn walk(s: &[u8], first: usize, offsets: &mut [u64; MOST_BLOCKS]) -> Result<ChainFound, Refusal>
     ensures { Walked s.now (chain most_blocks 0 first (drop first s.now)) offsets.old offsets.new result }
 {
     if s.len() < first {
-        return ChainStep::Walked(0);
+        return Ok(ChainFound {
+            blocks: 0,
+            tail: None,
+        });
     }
-    match walk_inside(s, first, offsets) {
-        ChainStep::Walked(blocks) => ChainStep::Walked(blocks),
-        ChainStep::Indexed { blocks, tail } => ChainStep::Indexed { blocks, tail },
-        ChainStep::Refused(r) => {
-            *offsets = [0u64; MOST_BLOCKS];
-            ChainStep::Refused(r)
-        }
+    let walked = walk_inside(s, first, offsets);
+    if walked.is_err() {
+        *offsets = [0u64; MOST_BLOCKS];
     }
+    walked
 }
 
 // Does the same from an offset inside the file. A refused chain leaves what was kept before the refusal. The table is
 // lent as a slice, because in a proof a reference to an array does not tell the array's length.
-fn walk_inside(s: &[u8], first: usize, offsets: &mut [u64]) -> ChainStep
+fn walk_inside(s: &[u8], first: usize, offsets: &mut [u64]) -> Result<ChainFound, Refusal>
     requires first_in_bounds { first ≤ length s.now }
     requires offsets_len { length offsets.old ≡ most_blocks }
     ensures { WalkedInside s.now (chain most_blocks 0 first (drop first s.now)) offsets.old offsets.new result }
@@ -41,24 +41,27 @@ fn walk_inside(s: &[u8], first: usize, offsets: &mut [u64]) -> ChainStep
     let mut i: usize = 0;
     loop {
         let next = next_mark(s, at);
-        match link(s, at, next, i) {
-            LinkStep::Refused(r) => {
-                return ChainStep::Refused(r);
-            }
-            LinkStep::Zeros => {
-                return ChainStep::Walked(i);
-            }
-            LinkStep::Index => {
-                return ChainStep::Indexed {
+        match link(s, at, next, i)? {
+            Link::Zeros => {
+                return Ok(ChainFound {
                     blocks: i,
-                    tail: at,
-                };
+                    tail: None,
+                });
             }
-            LinkStep::Streamed => {
+            Link::Index => {
+                return Ok(ChainFound {
+                    blocks: i,
+                    tail: Some(at),
+                });
+            }
+            Link::Streamed => {
                 keep(offsets, i, next);
-                return ChainStep::Walked(i + 1);
+                return Ok(ChainFound {
+                    blocks: i + 1,
+                    tail: None,
+                });
             }
-            LinkStep::Block(extent) => {
+            Link::Block(extent) => {
                 keep(offsets, i, next);
                 i += 1;
                 at = next + extent;
@@ -100,7 +103,7 @@ fn is_index(s: &[u8], at: usize) -> bool
 
 // Returns what follows from offset `at` on. If `next` is before the end of the file, it is a mark, and block `i`
 // follows there, if a further block is allowed. Otherwise the tail follows.
-fn link(s: &[u8], at: usize, next: usize, i: usize) -> LinkStep
+fn link(s: &[u8], at: usize, next: usize, i: usize) -> Result<Link, Refusal>
     requires { (at ≤ length s.now) × NextMark s.now at next }
     ensures { LinkIs s.now i at next result }
 {
@@ -108,25 +111,25 @@ fn link(s: &[u8], at: usize, next: usize, i: usize) -> LinkStep
         return link_at_mark(s, at, next, i);
     }
     if is_index(s, at) {
-        return LinkStep::Index;
+        return Ok(Link::Index);
     }
     if text::only_zeros(&s[at..]) {
-        return LinkStep::Zeros;
+        return Ok(Link::Zeros);
     }
-    LinkStep::Refused(Refusal::new(Reason::StrayTail, at))
+    Err(Refusal::new(Reason::StrayTail, at))
 }
 
 // Returns the same if a block follows at the mark `next`.
-fn link_at_mark(s: &[u8], at: usize, next: usize, i: usize) -> LinkStep
+fn link_at_mark(s: &[u8], at: usize, next: usize, i: usize) -> Result<Link, Refusal>
     requires { Follows s.now at next }
     ensures { LinkIs s.now i at next result }
 {
     if MOST_BLOCKS <= i {
-        return LinkStep::Refused(Refusal::new(Reason::TooManyBlocks, next));
+        return Err(Refusal::new(Reason::TooManyBlocks, next));
     }
-    let number = block::fault(&s[next..]);
-    if number != 0 {
-        return LinkStep::Refused(Refusal::new(number, next));
+    let t = &s[next..];
+    if let Err(reason) = block::check(t) {
+        return Err(Refusal::new(reason, next));
     }
-    block::sound_link(&s[next..])
+    Ok(block::sound_link(t))
 }

@@ -1,7 +1,7 @@
--- `blocks::block::sizes_fault` meets its contract. There is one law for each return, in the order of the tests.
+-- `blocks::block::check_sizes` meets its contract. There is one law for each return, in the order of the tests.
 use Rattle.std.proofs.Common.{rules}
 use Rattle.blocks.proofs.BlockLaws.{sizes_used, sizes_data, sizes_beyond, sizes_good}
-use Rattle.blocks.proofs.block.sizes_fault.Goals as goal
+use Rattle.blocks.proofs.block.check_sizes.Goals as goal
 
 pub returns-then-allocated-used : goal.returns-then-allocated-used
 returns-then-allocated-used c = search (sizes_used, rules)

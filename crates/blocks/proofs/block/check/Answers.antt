@@ -1,8 +1,8 @@
--- `blocks::block::fault` meets its contract. There is one law for each return; if the header is whole, the sizes
+-- `blocks::block::check` meets its contract. There is one law for each return; if the header is whole, the sizes
 -- decide.
 use Rattle.std.proofs.Common.{rules}
 use Rattle.blocks.proofs.BlockLaws.{block_short, block_small, block_cut, block_streamed, header_read}
-use Rattle.blocks.proofs.block.fault.Goals as goal
+use Rattle.blocks.proofs.block.check.Goals as goal
 
 pub returns-then-t-lt6 : goal.returns-then-t-lt6
 returns-then-t-lt6 c = search (block_short, rules)
@@ -16,5 +16,5 @@ returns-then-t-content c = search (block_cut, rules)
 pub returns-then-field-eq1 : goal.returns-then-field-eq1
 returns-then-field-eq1 c = search (block_streamed, rules)
 
-pub sizes_fault-requires : goal.sizes_fault-requires
-sizes_fault-requires c = search (header_read, rules)
+pub check_sizes-requires : goal.check_sizes-requires
+check_sizes-requires c = search (header_read, rules)
