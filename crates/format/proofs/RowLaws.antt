@@ -43,7 +43,6 @@ bit_of_flag x = small (x % 2) (omega arith)
 
 -- The number of an inner state fits into two bits.
 pub kind_lt : (k : InnerKind) → kind_number k < 4
-unfolding kind_number
 kind_lt Kind·is.Plain = omega arith
 kind_lt Kind·is.Opened = omega arith
 kind_lt Kind·is.Refused = omega arith
@@ -51,7 +50,6 @@ kind_lt Kind·is.TooDeep = omega arith
 
 -- A kind is read back from its number.
 kind_of_number : (k : InnerKind) → kind_with (kind_number k) ≡ k
-unfolding kind_number kind_with
 kind_of_number Kind·is.Plain = refl
 kind_of_number Kind·is.Opened = refl
 kind_of_number Kind·is.Refused = refl
@@ -59,7 +57,6 @@ kind_of_number Kind·is.TooDeep = refl
 
 -- Two bits are written back from their kind.
 pub number_of_kind : (x : ℕ) → kind_number (kind_with (x % 4)) ≡ x % 4
-unfolding kind_number kind_with
 number_of_kind x = small (x % 4) (omega arith)
   where
     small : (y : ℕ) → y < 4 → kind_number (kind_with y) ≡ y

@@ -17,14 +17,14 @@ use Rattle.format.specs.Chain.{most_blocks}
 use Rattle.format.specs.Nest.{records}
 
 -- An inner state without its refusal.
-unfoldable pub inner_kind : Inner → InnerKind
+abbrev pub inner_kind : Inner → InnerKind
 inner_kind Plain = Kind·is.Plain
 inner_kind Opened = Kind·is.Opened
 inner_kind (Refused r) = Kind·is.Refused
 inner_kind TooDeep = Kind·is.TooDeep
 
 -- The number of such a kind, in a row and in a record.
-unfoldable pub kind_number : InnerKind → ℕ
+abbrev pub kind_number : InnerKind → ℕ
 kind_number Kind·is.Plain = 0
 kind_number Kind·is.Opened = 1
 kind_number Kind·is.Refused = 2
@@ -35,7 +35,7 @@ abbrev pub inner_number : Inner → ℕ
 inner_number i = kind_number (inner_kind i)
 
 -- The kind with a number that is below 4.
-unfoldable pub kind_with : ℕ → InnerKind
+abbrev pub kind_with : ℕ → InnerKind
 kind_with zero = Kind·is.Plain
 kind_with (suc zero) = Kind·is.Opened
 kind_with (suc (suc zero)) = Kind·is.Refused
