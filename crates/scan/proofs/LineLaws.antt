@@ -20,7 +20,7 @@ use Rattle.format.proofs.ByteLaws.{and_left, and_right, begins_true, lacks, lack
 use Rattle.format.proofs.LineLaws.{join_lines, ends_in, ends_snoc, IsLine, plain_line, join_lines_lem, lines_unended, lines_line, line_split, lines_after}
 use Rattle.scan.proofs.TextLaws.{begins_inside}
 use Rattle.scan.specs.declared.line.Line.{Line}
-use Rattle.scan.specs.declared.line.Line.TheVariants.{Ended, Unended}
+use Rattle.std.specs.Prelude.{Option, Some, None}
 use Rattle.scan.specs.Line.{line_at, EndsInside, LineRead}
 
 -- No byte before the first `b` is `b`.
@@ -73,7 +73,7 @@ ends_at b s at end h = go (ltb at end) refl
 -- If the text of a line is from `at` to `m`, and its line end follows and ends at `next`, then this line is read at
 -- `at`.
 text_read : (s : Bytes) (at m next : ℕ) (e : LineEnd) → IsLine (take (m - at) (drop at s)) e → drop m s ≡ line_end e ++ drop next s
-    → next ≡ m + length (line_end e) → EndsInside (length s) at m next → LineRead s at (Ended m next e)
+    → next ≡ m + length (line_end e) → EndsInside (length s) at m next → LineRead s at (Some (record { text_end = m; next = next; ending = e }))
 unfolding line_at
 text_read s at m next e l d n i =
     let t = take (m - at) (drop at s) in
@@ -83,12 +83,12 @@ text_read s at m next e l d n i =
     record { is = rw (ap lines split ∙ lines_line t e (drop next s) l, size, n); inside = i }
 
 -- No line begins at the end of the bytes or after it.
-pub line_none : (s : Bytes) (at : ℕ) → length s ≤ at → LineRead s at Unended
+pub line_none : (s : Bytes) (at : ℕ) → length s ≤ at → LineRead s at None
 unfolding line_at lines
 line_none s at h = record { is = rw (drop_of_length-le s h); inside = tt }
 
 -- A 0A at the offset ends an empty line.
-pub line_empty : (s : Bytes) (at : ℕ) (x : Bool) → x ≡ begins (10 ∷ []) (drop at s) → x ≡ true → LineRead s at (Ended at (at + 1) Lf)
+pub line_empty : (s : Bytes) (at : ℕ) (x : Bool) → x ≡ begins (10 ∷ []) (drop at s) → x ≡ true → LineRead s at (Some (record { text_end = at; next = at + 1; ending = Lf }))
 line_empty s at x h e =
     let b = sym h ∙ e in
     let none : at - at ≡ 0 = omega arith in
@@ -113,7 +113,7 @@ module _ (s : Bytes) (at end : ℕ) (f : end ≡ at + index_of 10 (slice at (len
       rw (add-one end) (rw there at (drop-cons s end 0 h))
 
   -- If there is no 0A, the line is unended.
-  pub line_unended : end ≡ length s → LineRead s at Unended
+  pub line_unended : end ≡ length s → LineRead s at None
   unfolding line_at
   line_unended h =
       let all = take_all (end - at) (drop at s) (simp length-drop (omega arith)) in
@@ -132,7 +132,7 @@ module _ (s : Bytes) (at end : ℕ) (f : end ≡ at + index_of 10 (slice at (len
 
     module _ (q : end ≤ length s) (n : end ≡ length s → ⊥) where
       -- If a 0D is directly before the 0A, it belongs to the line end.
-      pub line_crlf : x ≡ true → LineRead s at (Ended (end - 1) (end + 1) Crlf)
+      pub line_crlf : x ≡ true → LineRead s at (Some (record { text_end = end - 1; next = end + 1; ending = Crlf }))
       line_crlf e =
           let r = return e in
           let to : suc (end - 1) ≡ end = omega arith in
@@ -141,7 +141,7 @@ module _ (s : Bytes) (at end : ℕ) (f : end ≡ at + index_of 10 (slice at (len
           text_read s at (end - 1) (end + 1) Crlf text rest (omega arith) (omega arith)
 
       -- If no 0D is directly before the 0A, the line end is the 0A alone.
-      pub line_lf : x ≡ false → LineRead s at (Ended end (end + 1) Lf)
+      pub line_lf : x ≡ false → LineRead s at (Some (record { text_end = end; next = end + 1; ending = Lf }))
       line_lf e =
           let text = plain_line _ Lf (before end (omega arith)) (ends_at 13 s at end q ∙ sym h ∙ e) in
           text_read s at end (end + 1) Lf text (feed (omega arith)) refl (omega (arith, found))
@@ -169,9 +169,9 @@ first_byte c s at t next e f p q = sym (ap (begins (c ∷ [])) (line_split (drop
     go [] Crlf z = rw q
     go (a ∷ t) e z = refl
 
-module _ (s : Bytes) (at : ℕ) (r : Line) (read : LineRead s at r) where
+module _ (s : Bytes) (at : ℕ) (r : Option Line) (read : LineRead s at r) where
   -- If the line that was read is unended, no line ends in the bytes from `at` on.
-  pub unended_lines : r ≡ Unended → lines (drop at s) ≡ unended (drop at s)
+  pub unended_lines : r ≡ None → lines (drop at s) ≡ unended (drop at s)
   unfolding line_at join_lines
   unended_lines e = go (lines (drop at s)) refl
     where
@@ -179,41 +179,41 @@ module _ (s : Bytes) (at : ℕ) (r : Line) (read : LineRead s at r) where
       go (unended t) h = h ∙ ap unended (sym (ap join_lines h) ∙ join_lines_lem (drop at s))
       go (line t k l) h = cc (read.is, e, h)
 
-  module _ (m next : ℕ) (k : LineEnd) (e : r ≡ Ended m next k) where
-    -- If the line that was read ends, the bytes from `at` up to `m` are its text.
-    pub ended_first : FirstLine s at (take (m - at) (drop at s)) next k
+  module _ (found : Line) (e : r ≡ Some found) where
+    -- If the line that was read ends, the bytes from `at` up to `text_end` are its text.
+    pub ended_first : FirstLine s at (take (found.text_end - at) (drop at s)) found.next found.ending
     unfolding line_at
     ended_first = go (lines (drop at s)) refl
       where
-        go : (l : Lines) → lines (drop at s) ≡ l → FirstLine s at (take (m - at) (drop at s)) next k
+        go : (l : Lines) → lines (drop at s) ≡ l → FirstLine s at (take (found.text_end - at) (drop at s)) found.next found.ending
         go (unended t) h = let z : ◌≡◌ {A = ℕ} 0 1 = cc (read.is, e, h) in absurd (omega arith)
         go (line t d l) h =
-            let to : m ≡ at + length t = cc (read.is, e, h) in
-            let over : next ≡ after_line at t d = cc (read.is, e, h) in
-            let ending : k ≡ d = cc (read.is, e, h) in
-            let text = ap (take (m - at)) (line_split (drop at s) t d l h) ∙ take_at t _ (m - at) (omega arith) in
+            let to : found.text_end ≡ at + length t = cc (read.is, e, h) in
+            let over : found.next ≡ after_line at t d = cc (read.is, e, h) in
+            let ending : found.ending ≡ d = cc (read.is, e, h) in
+            let text = ap (take (found.text_end - at)) (line_split (drop at s) t d l h) ∙ take_at t _ (found.text_end - at) (omega arith) in
             rw (text, over, ending) (lines_first s at t d l h)
 
     -- The offsets of the line are in order and inside.
-    pub ended_inside : EndsInside (length s) at m next
+    pub ended_inside : EndsInside (length s) at found.text_end found.next
     ended_inside = rw e at read.inside
 
     -- The text of the line ends at or after the offset where it begins.
-    pub ended_begin : at ≤ m
+    pub ended_begin : at ≤ found.text_end
     ended_begin = ended_inside.begin
 
     -- The text of the line ends inside.
-    pub ended_end : m ≤ length s
+    pub ended_end : found.text_end ≤ length s
     ended_end = omega (arith, ended_inside)
 
     -- The next line begins inside, or at the end of the bytes.
-    pub ended_next : next ≤ length s
+    pub ended_next : found.next ≤ length s
     ended_next = ended_inside.inside
 
     -- A line takes at least one byte. So if `k` is at most `at`, then `k + 1` is at most `next`.
-    pub ended_count : (k : ℕ) → k ≤ at → k + 1 ≤ next
+    pub ended_count : (k : ℕ) → k ≤ at → k + 1 ≤ found.next
     ended_count k h = omega (arith, ended_inside)
 
     -- Fewer bytes are left after the line than from its start on.
-    pub ended_less : length s - next < length s - at
+    pub ended_less : length s - found.next < length s - at
     ended_less = omega (arith, ended_inside)

@@ -18,8 +18,7 @@ use Rattle.format.specs.Numeral.{is_digit, all_digits, decimal_value, is_numeral
 use Rattle.format.proofs.ByteLaws.{and_both}
 use Rattle.format.proofs.PackLaws.{big_endian_append}
 use Rattle.format.proofs.NumeralLaws.{digits_append, length_snoc, value_snoc, digit_range, value_below}
-use Rattle.scan.specs.declared.number.Number.{Number}
-use Rattle.scan.specs.declared.number.Number.TheVariants.{Value, Malformed}
+use Rattle.std.specs.Prelude.{Option, Some, None}
 use Rattle.scan.specs.Number.{BigEndian, Four, Digits, digits_number, leads_well, DigitsRead, NumeralRead}
 
 -- If `x` has at most `m` digits to the base `b`, and `m` is at most `n`, then `x` has at most `n` digits.
@@ -113,7 +112,7 @@ pub record DigitsSoFar (t : Bytes) (i x : ℕ) : Type 0 where
   pub value : decimal_value (take i t) ≡ x
 
 -- If one of the bytes is no digit, they are malformed.
-pub digits_other : (t : Bytes) (i : ℕ) (d : Bool) → d ≡ is_digit (get_or t i 0) → not d ≡ true → i < length t → DigitsRead t Malformed
+pub digits_other : (t : Bytes) (i : ℕ) (d : Bool) → d ≡ is_digit (get_or t i 0) → not d ≡ true → i < length t → DigitsRead t None
 digits_other t i d h e p =
     let split = ap all_digits (split_at t i 0 p) ∙ digits_append (take i t) (get_or t i 0 ∷ drop (suc i) t) in
     let other : all_digits t ≡ false = rw (sym h ∙ not-true d e, and-false) at split in
@@ -147,7 +146,7 @@ module _ (t : Bytes) (i x : ℕ) (read : DigitsSoFar t i x) where
         }
 
   -- When all bytes are read, `x` is the number of the digits.
-  pub digits_done : length t ≤ i → DigitsRead t (Value x)
+  pub digits_done : length t ≤ i → DigitsRead t (Some x)
   digits_done p =
       let all = take_all i t p in
       let digits = rw all at read.digits in
@@ -163,39 +162,39 @@ pub leads_first : (t : Bytes) (z : Bool) → z ≡ begins (text "0") t → 1 < l
 leads_first t z e h = rw (lt-leb (length t) 1 h, e)
 
 -- If an answer has at most `m` digits, and `m` is at most `n`, then it has at most `n` digits.
-digits_more : (r : Number) (m n : ℕ) → m ≤ n → Digits m r → Digits n r
-digits_more (Value x) m n h d = below_more 10 x m n (omega arith) h d
-digits_more Malformed m n h d = tt
+digits_more : (r : Option ℕ) (m n : ℕ) → m ≤ n → Digits m r → Digits n r
+digits_more (Some x) m n h d = below_more 10 x m n (omega arith) h d
+digits_more None m n h d = tt
 
 module _ (t : Bytes) (most : ℕ) where
   -- If `t` is no numeral, it is malformed.
-  no_numeral : is_numeral (min most 19) t ≡ false → NumeralRead t most Malformed
+  no_numeral : is_numeral (min most 19) t ≡ false → NumeralRead t most None
   unfolding numeral
   no_numeral e = record { is = rw (e, numeral); small = tt }
 
   -- If `t` is empty, it is malformed.
-  pub numeral_empty : length t < 1 → NumeralRead t most Malformed
+  pub numeral_empty : length t < 1 → NumeralRead t most None
   numeral_empty h = no_numeral (rw (lt-leb 1 (length t) h))
 
   -- If `t` has too many digits, it is malformed.
-  too_long : min most 19 < length t → NumeralRead t most Malformed
+  too_long : min most 19 < length t → NumeralRead t most None
   too_long h = no_numeral (rw (lt-leb (length t) (min most 19) h, and-false))
 
   -- More digits than were asked for are too many.
-  pub numeral_long : most < length t → NumeralRead t most Malformed
+  pub numeral_long : most < length t → NumeralRead t most None
   numeral_long h = too_long (omega arith)
 
   -- More than 19 digits are too many.
-  pub numeral_longer : 19 < length t → NumeralRead t most Malformed
+  pub numeral_longer : 19 < length t → NumeralRead t most None
   numeral_longer h = too_long (omega arith)
 
   module _ (z : Bool) (h : z ≡ leads_well t) where
     -- If `t` has a leading zero, it is malformed.
-    pub numeral_zero : not z ≡ true → NumeralRead t most Malformed
+    pub numeral_zero : not z ≡ true → NumeralRead t most None
     numeral_zero e = no_numeral (rw (sym h ∙ not-true z e, and-false))
 
     -- If `t` passes these tests, it reads as what its digits give.
-    pub numeral_read : (r : Number) → not z ≡ false → DigitsRead t r → 1 ≤ length t → length t ≤ most → length t ≤ 19
+    pub numeral_read : (r : Option ℕ) → not z ≡ false → DigitsRead t r → 1 ≤ length t → length t ≤ most → length t ≤ 19
         → NumeralRead t most r
     unfolding numeral
     numeral_read r e d a b c =

@@ -3,8 +3,6 @@ use Rattle.std.specs.Prelude.{ℕ, ◌%◌, ◌^◌, ◌≤◌, ◌<◌, min, �
 use Rattle.std.specs.Prelude.{Option, None, Some}
 use Rattle.format.specs.Bytes.{Bytes, text, begins, big_endian, number}
 use Rattle.format.specs.Numeral.{numeral, all_digits, decimal_value}
-use Rattle.scan.specs.declared.number.Number.{Number}
-use Rattle.scan.specs.declared.number.Number.TheVariants.{Value, Malformed}
 
 -- `r` is the number that the bytes `s` give, in 64 bits. With at most eight bytes nothing is lost.
 pub record BigEndian (s : Bytes) (r : ℕ) : Type 0 where
@@ -17,23 +15,18 @@ pub record Four (s : Bytes) (n r : ℕ) : Type 0 where
   pub is : r ≡ number n 4 s
   pub small : r < 4294967296
 
--- The number in an answer, if there is one.
-abbrev pub number_of : Number → Option ℕ
-number_of (Value x) = Some x
-number_of Malformed = None
-
--- The answer, if it is a number, has at most `most` digits.
-abbrev pub Digits : ℕ → Number → Type 0
-Digits most (Value x) = x < 10 ^ most
-Digits most Malformed = Unit {0}
+-- The number, if there is one, has at most `most` digits.
+abbrev pub Digits : ℕ → Option ℕ → Type 0
+Digits most (Some x) = x < 10 ^ most
+Digits most None = Unit {0}
 
 -- The number that digits give, with or without a leading zero. If a byte is no digit, there is none.
 abbrev pub digits_number : Bytes → Option ℕ
 digits_number t = elim (all_digits t) [ true ↦ Some (decimal_value t) | false ↦ None ]
 
 -- `r` is the number that the digits `t` give. It has at most as many digits as `t`.
-pub record DigitsRead (t : Bytes) (r : Number) : Type 0 where
-  pub is : number_of r ≡ digits_number t
+pub record DigitsRead (t : Bytes) (r : Option ℕ) : Type 0 where
+  pub is : r ≡ digits_number t
   pub small : Digits (length t) r
 
 -- Whether `t` has no leading zero, except in a lone 0.
@@ -41,6 +34,6 @@ abbrev pub leads_well : Bytes → Bool
 leads_well t = leb (length t) 1 || not (begins (text "0") t)
 
 -- `r` is the number that `t` reads as. It has at most `most` digits, and never more than 19.
-pub record NumeralRead (t : Bytes) (most : ℕ) (r : Number) : Type 0 where
-  pub is : number_of r ≡ numeral (min most 19) t
+pub record NumeralRead (t : Bytes) (most : ℕ) (r : Option ℕ) : Type 0 where
+  pub is : r ≡ numeral (min most 19) t
   pub small : Digits (min most 19) r

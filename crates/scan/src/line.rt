@@ -6,57 +6,53 @@ ghost use Rattle.scan.specs.Line.{LineRead, ExactRead};
 use crate::{find, text};
 use format::line::LineEnd;
 
-// The line at an offset.
+// A line. Its text ends at `text_end`, where its line end begins. The next line begins at `next`.
 #[derive(Clone, Copy)]
-pub enum Line {
-    // Its text ends at `text_end`, where its line end begins. The next line begins at `next`.
-    Ended {
-        text_end: usize,
-        next: usize,
-        ending: LineEnd,
-    },
-    // No 0A follows.
-    Unended,
+pub struct Line {
+    pub text_end: usize,
+    pub next: usize,
+    pub ending: LineEnd,
 }
 
-// Reads the line that begins at an offset. If its first byte is 0A, the line is empty and no search is needed.
-pub fn line_at(s: &[u8], at: usize) -> Line
+// Reads the line that begins at an offset, if a 0A follows. If its first byte is 0A, the line is empty and no search is
+// needed.
+pub fn line_at(s: &[u8], at: usize) -> Option<Line>
     ensures { LineRead s.now at result }
 {
     if text::begins_at(s, at, b"\n") {
-        return Line::Ended {
+        return Some(Line {
             text_end: at,
             next: at + 1,
             ending: LineEnd::Lf,
-        };
+        });
     }
     long_line(s, at)
 }
 
 // Reads the same line, without the shortcut for an empty one. Two functions call it, so the compiler keeps it a
 // separate function. This leaves `line_at` small enough to be inlined in its callers' loops.
-fn long_line(s: &[u8], at: usize) -> Line
+fn long_line(s: &[u8], at: usize) -> Option<Line>
     ensures { LineRead s.now at result }
 {
     if s.len() <= at {
-        return Line::Unended;
+        return None;
     }
     let end = find::find_byte(s, at, b'\n');
     if end == s.len() {
-        return Line::Unended;
+        return None;
     }
     if ends_in_0d(s, at, end) {
-        return Line::Ended {
+        return Some(Line {
             text_end: end - 1,
             next: end + 1,
             ending: LineEnd::Crlf,
-        };
+        });
     }
-    Line::Ended {
+    Some(Line {
         text_end: end,
         next: end + 1,
         ending: LineEnd::Lf,
-    }
+    })
 }
 
 // Whether the bytes of `s` from `at` to `end` end in 0D.
@@ -70,41 +66,26 @@ fn ends_in_0d(s: &[u8], at: usize, end: usize) -> bool
     s[end - 1] == b'\r'
 }
 
-// Whether a line is the expected one.
-#[derive(Clone, Copy)]
-pub enum Exact {
-    // It is. The values are where the next line begins, and how this line ends.
-    After(usize, LineEnd),
-    Other,
-}
-
-// Whether the line at an offset is `word`.
-pub fn exact_line(s: &[u8], at: usize, word: &[u8]) -> Exact
+// If the line at an offset is `word`, returns where the next line begins, and how this line ends.
+pub fn exact_line(s: &[u8], at: usize, word: &[u8]) -> Option<(usize, LineEnd)>
     ensures { ExactRead s.now word.now at result }
 {
-    let Line::Ended {
-        text_end,
-        next,
-        ending,
-    } = long_line(s, at)
-    else {
-        return Exact::Other;
-    };
-    if text::is(&s[at..text_end], word) {
-        return Exact::After(next, ending);
+    let line = long_line(s, at)?;
+    if text::is(&s[at..line.text_end], word) {
+        return Some((line.next, line.ending));
     }
-    Exact::Other
+    None
 }
 
-// Whether the line at an offset is the first line of a tree. Looks at no byte after that line.
-pub fn yaml_line(s: &[u8], at: usize) -> Exact
+// Does the same for the first line of a tree. Looks at no byte after that line.
+pub fn yaml_line(s: &[u8], at: usize) -> Option<(usize, LineEnd)>
     ensures { ExactRead s.now yaml_line at result }
 {
     if text::begins_at(s, at, b"%YAML 1.1\n") {
-        return Exact::After(at + 10, LineEnd::Lf);
+        return Some((at + 10, LineEnd::Lf));
     }
     if text::begins_at(s, at, b"%YAML 1.1\r\n") {
-        return Exact::After(at + 11, LineEnd::Crlf);
+        return Some((at + 11, LineEnd::Crlf));
     }
-    Exact::Other
+    None
 }

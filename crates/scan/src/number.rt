@@ -58,29 +58,22 @@ fn narrow(b: u8) -> u32
     b as u32
 }
 
-// The result of reading digits.
-#[derive(Clone, Copy)]
-pub enum Number {
-    Value(u64),
-    Malformed,
-}
-
 // Reads `t` as a decimal number. It must have 1 to `most` digits, never more than 19, and no leading zero except in a
 // lone 0.
-pub fn numeral(t: &[u8], most: usize) -> Number
+pub fn numeral(t: &[u8], most: usize) -> Option<u64>
     ensures { NumeralRead t.now most result }
 {
     if t.len() < 1 {
-        return Number::Malformed;
+        return None;
     }
     if most < t.len() {
-        return Number::Malformed;
+        return None;
     }
     if 19 < t.len() {
-        return Number::Malformed;
+        return None;
     }
     if !leads_well(t) {
-        return Number::Malformed;
+        return None;
     }
     digits(t)
 }
@@ -96,7 +89,7 @@ fn leads_well(t: &[u8]) -> bool
 }
 
 // Reads up to 19 digits as a number.
-fn digits(t: &[u8]) -> Number
+fn digits(t: &[u8]) -> Option<u64>
     requires { length t.now ≤ 19 }
     ensures { DigitsRead t.now result }
 {
@@ -105,12 +98,12 @@ fn digits(t: &[u8]) -> Number
     while i < t.len() {
         let b = t[i];
         if !is_digit(b) {
-            return Number::Malformed;
+            return None;
         }
         x = x * 10 + wide(b - 48);
         i += 1;
     }
-    Number::Value(x)
+    Some(x)
 }
 
 // Whether a byte is a decimal digit.

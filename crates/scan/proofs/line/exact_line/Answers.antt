@@ -4,8 +4,8 @@ use Rattle.scan.proofs.LineLaws.{ended_begin, ended_end}
 use Rattle.scan.proofs.ExactLaws.{exact_unended, exact_after, exact_other}
 use Rattle.scan.proofs.line.exact_line.Goals as goal
 
-pub returns-in_default : goal.returns-in_default
-returns-in_default c = search (exact_unended, rules)
+pub returns-in_err-line : goal.returns-in_err-line
+returns-in_err-line c = search (exact_unended, rules)
 
 pub slice_bounds-is-count : goal.slice_bounds-is-count
 slice_bounds-is-count c = search (ended_begin, rules)
