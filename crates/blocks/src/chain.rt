@@ -39,7 +39,7 @@ fn walk_inside(s: &[u8], first: usize, offsets: &mut [u64]) -> Result<ChainFound
 {
     let mut at = first;
     let mut i: usize = 0;
-    loop {
+    'chain: loop {
         let next = next_mark(s, at);
         match link(s, at, next, i)? {
             Link::Zeros => {
@@ -128,8 +128,8 @@ fn link_at_mark(s: &[u8], at: usize, next: usize, i: usize) -> Result<Link, Refu
         return Err(Refusal::new(Reason::TooManyBlocks, next));
     }
     let t = &s[next..];
-    if let Err(reason) = block::check(t) {
-        return Err(Refusal::new(reason, next));
+    match block::check(t) {
+        Err(reason) => Err(Refusal::new(reason, next)),
+        Ok(()) => Ok(block::sound_link(t)),
     }
-    Ok(block::sound_link(t))
 }

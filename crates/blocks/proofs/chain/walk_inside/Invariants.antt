@@ -7,8 +7,8 @@ use Rattle.blocks.specs.Chain.{onward}
 use Rattle.blocks.proofs.ChainLaws.{Walking}
 use Rattle.blocks.proofs.chain.walk_inside.Given as goal
 
-abbrev pub invariant-loop-r : goal.invariant-loop-r
-invariant-loop-r l = Walking l.s l.initial.offsets l.offsets l.first l.i (onward l.s l.i l.at) × (l.at ≤ length l.s)
+abbrev pub invariant-chain : goal.invariant-chain
+invariant-chain l = Walking l.s l.initial.offsets l.offsets l.first l.i (onward l.s l.i l.at) × (l.at ≤ length l.s)
 
-abbrev pub decreases-loop-r : goal.decreases-loop-r
-decreases-loop-r l = most_blocks - l.i
+abbrev pub decreases-chain : goal.decreases-chain
+decreases-chain l = most_blocks - l.i
