@@ -1,7 +1,6 @@
 -- Laws about the edit of a file: one for each return, and everything that is promised about it.
 use Prim.Native.Nat.{ℕ, ◌+◌, ◌-◌, ◌≤◌}
-use Rattle.std.specs.Prelude.{None}
-use Rattle.std.specs.Prelude.{Option}
+use Rattle.std.specs.Prelude.{Option, None, Some}
 use native.Mathlib.Omega.{arith}
 use mathlib.Core.Path.{◌≡◌, refl, sym, ap, ◌∙◌}
 use mathlib.Core.Bool.{Bool, true, false, not}
@@ -12,7 +11,6 @@ use lib.Dec.{leb}
 use borrow.Author.Tests.{not-true, not-false, leb-true}
 use Rattle.format.specs.declared.layout.Layout.{Layout}
 use Rattle.format.specs.declared.layout.Tree.{Tree}
-use Rattle.format.specs.declared.offset.Offset.{Offset}
 use Rattle.format.specs.declared.refusal.Refusal.{Refusal}
 use Rattle.format.specs.declared.refusal.Reason.TheVariants.{EditWithoutTree, TextNotOneTree, TextLongerThanRoom}
 use Rattle.format.specs.Bytes.{Bytes}
@@ -39,7 +37,7 @@ refused_done s t x e =
     }
 
 -- If the edit is accepted, leaving the edited file keeps the whole promise.
-accepted_done : (s t u : Bytes) → edit s t ≡ accepted u → Done s t u accepted tt
+accepted_done : (s t u : Bytes) → edit s t ≡ accepted u → Done s t u (accepted tt)
 unfolding edit_leaves
 accepted_done s t u e =
     record { answer = rw e; bytes = rw e; accepts = λ h. refl; only = λ h. accepted_editable s t u e; edited = λ h. accepted_edited s t u e }
@@ -87,16 +85,16 @@ module _ (s t : Bytes) (x : Option Tree) (h : HasTree s x) where
   unfolding edit_tree
   tree_none r q e = rw e (refused_done s t _ (rw (edit_tree_lem, q)))
 
-  module _ (n e m : Offset) (q : x ≡ Found n e m) where
-    room : FileRoom s h.found n.0 m.0
-    room = file_room s h.found h.read n.0 e.0 m.0 (h.is ∙ q)
+  module _ (k : Tree) (q : x ≡ Some k) where
+    room : FileRoom s h.found k.start.0 k.room_end.0
+    room = file_room s h.found h.read k.start.0 k.end.0 k.room_end.0 (h.is ∙ q)
 
     -- The room does not end before it begins.
-    pub room_order : n.0 ≤ m.0
+    pub room_order : k.start.0 ≤ k.room_end.0
     room_order = room.order
 
     -- The room ends inside the file.
-    pub room_inside : m.0 ≤ length s
+    pub room_inside : k.room_end.0 ≤ length s
     room_inside = room.inside
 
     module _ (b : Bool) (one : b ≡ is_one_tree t) where
@@ -105,7 +103,7 @@ module _ (s t : Bytes) (x : Option Tree) (h : HasTree s x) where
       unfolding edit_tree
       text_other r p f = rw f (refused_done s t _ (rw (edit_tree_lem, q, sym one ∙ not-true b p)))
 
-      module _ (p : not b ≡ false) (d : Bool) (fit : d ≡ leb (length t) (m.0 - n.0)) where
+      module _ (p : not b ≡ false) (d : Bool) (fit : d ≡ leb (length t) (k.room_end.0 - k.start.0)) where
         -- If the text is longer than the room, the edit is refused with 20.
         pub text_long : (r : Refusal) → not d ≡ true → r ≡ refusal TextLongerThanRoom 0 → Done s t s (refused r)
         unfolding edit_tree
@@ -113,9 +111,9 @@ module _ (s t : Bytes) (x : Option Tree) (h : HasTree s x) where
 
         -- If the text fits and the room is filled with it, the file is edited.
         pub text_put : (Room-after : Bytes) → not d ≡ false
-            → Room-after ≡ t ++ replicate (length (take (m.0 - n.0) (drop n.0 s)) - length t) 32
-            → Done s t (take n.0 s ++ (Room-after ++ drop (m.0 - n.0) (drop n.0 s))) accepted tt
+            → Room-after ≡ t ++ replicate (length (take (k.room_end.0 - k.start.0) (drop k.start.0 s)) - length t) 32
+            → Done s t (take k.start.0 s ++ (Room-after ++ drop (k.room_end.0 - k.start.0) (drop k.start.0 s))) (accepted tt)
         unfolding edit_tree
         text_put Room-after l f =
-            rw (room_filled s t n.0 m.0 Room-after f room_order room_inside)
+            rw (room_filled s t k.start.0 k.room_end.0 Room-after f room_order room_inside)
             (accepted_done s t _ (rw (edit_tree_lem, q, sym one ∙ not-false b p, sym fit ∙ not-false d l)))

@@ -2,7 +2,6 @@
 #![tactic(auto)]
 
 ghost use Rattle.std.specs.Prelude.{◌-◌, ◌≤◌, ◌++◌, ◌≡◌, length, replicate, leb};
-ghost use Rattle.std.proofs.lemmas.List.Edits.{sets};
 ghost use Rattle.format.specs.Promise.{Done};
 ghost use Rattle.edit.specs.Tree.{HasTree};
 
@@ -15,40 +14,29 @@ use front::tree::is_one_tree;
 pub fn edit(file: &mut [u8], text: &[u8]) -> Result<(), Refusal>
     ensures { Done file.old text.now file.new result }
 {
-    match layout::read(file) {
-        Err(r) => Err(r),
-        Ok(l) => {
-            let tree = l.tree;
-            edit_tree(file, text, tree)
-        }
-    }
+    let layout = layout::read(file)?;
+    edit_tree(file, text, layout.tree)
 }
 
 // Does the same for an accepted file whose tree is known. A refusal here concerns no place in the file, so it has the
 // place 0.
-fn edit_tree(file: &mut [u8], text: &[u8], tree: Tree) -> Result<(), Refusal>
+fn edit_tree(file: &mut [u8], text: &[u8], tree: Option<Tree>) -> Result<(), Refusal>
     requires { HasTree file.old tree }
     ensures { Done file.old text.now file.new result }
 {
-    match tree {
-        Tree::NoTree => Err(Refusal::new(Reason::EditWithoutTree, 0)),
-        Tree::Found {
-            start,
-            end: _,
-            room_end,
-        } => {
-            if !is_one_tree(text) {
-                return Err(Refusal::new(Reason::TextNotOneTree, 0));
-            }
-            let from = start.0 as usize;
-            let to = room_end.0 as usize;
-            if !fits(text, from, to) {
-                return Err(Refusal::new(Reason::TextLongerThanRoom, 0));
-            }
-            fill(&mut file[from..to], text);
-            Ok(())
-        }
+    let Some(tree) = tree else {
+        return Err(Refusal::new(Reason::EditWithoutTree, 0));
+    };
+    if !is_one_tree(text) {
+        return Err(Refusal::new(Reason::TextNotOneTree, 0));
     }
+    let from = tree.start.0 as usize;
+    let to = tree.room_end.0 as usize;
+    if !fits(text, from, to) {
+        return Err(Refusal::new(Reason::TextLongerThanRoom, 0));
+    }
+    fill(&mut file[from..to], text);
+    Ok(())
 }
 
 // Whether a text is no longer than the room from offset `from` to offset `to`.
@@ -65,16 +53,5 @@ fn fill(room: &mut [u8], text: &[u8])
     ensures { room.new ≡ text.now ++ replicate (length room.old - length text.now) 32 }
 {
     octets::copy(text, room);
-    put_spaces(room, text.len());
-}
-
-// Writes spaces from offset `from` to the end of the room.
-fn put_spaces(room: &mut [u8], from: usize)
-    ensures { room.new ≡ sets room.old from (replicate (length room.old - from) 32) }
-{
-    let mut at = from;
-    while at < room.len() {
-        room[at] = b' ';
-        at += 1;
-    }
+    room[text.len()..].fill(b' ');
 }

@@ -1,13 +1,12 @@
 -- Laws about the layout of a file: one for each return of its steps.
 use Prim.Native.Nat.{ℕ, ◌-◌, ◌≤◌, ◌<◌}
-use Rattle.std.specs.Prelude.{None}
-use Rattle.std.specs.Prelude.{Option}
+use Rattle.std.specs.Prelude.{Option, None, Some, is_some, is_err}
 use native.Mathlib.Omega.{arith}
 use mathlib.Core.Path.{◌≡◌, refl, sym, ap, ◌∙◌}
 use mathlib.Core.List.{List}
-use mathlib.Core.Bool.{Bool, true, false, not}
+use mathlib.Core.Bool.{Bool, true, false, not, true≢false}
 use lib.ListN.{length, take, drop, replicate, drop_of_length-le, length-drop, length-replicate, length-append, length-map}
-use lib.Seq.{drop-cons}
+use lib.Seq.{drop-cons, take-length}
 use borrow.Author.Tests.{le-leb, lt-leb, not-true, not-false}
 use Rattle.format.specs.declared.layout.Header.{Header}
 use Rattle.format.specs.declared.layout.Tree.{Tree}
@@ -29,196 +28,158 @@ use Rattle.format.specs.File.{File, most_bytes, first_block, goes_on, offsets, t
 use Rattle.format.proofs.ChainLaws.{blocks_few}
 use Rattle.format.proofs.FileLaws.{blocks_start, file_parts}
 use Rattle.format.proofs.ReadLaws.{header_bounds, comments_bounds, first_block_bounds}
-use Rattle.front.specs.declared.step.HeaderStep.{HeaderStep}
-use Rattle.front.specs.declared.step.HeaderStep.TheVariants as HeaderStep·is
-use Rattle.front.specs.declared.step.EndStep.{EndStep}
-use Rattle.front.specs.declared.step.EndStep.TheVariants as EndStep·is
-use Rattle.front.specs.declared.step.TreeStep.{TreeStep}
-use Rattle.front.specs.declared.step.TreeStep.TheVariants as TreeStep·is
-use Rattle.blocks.specs.declared.step.ChainStep.{ChainStep}
-use Rattle.blocks.specs.declared.step.ChainStep.TheVariants as ChainStep·is
-use Rattle.front.specs.Step.{header_outcome, end_outcome, tree_outcome}
-use Rattle.blocks.specs.Chain.{Chained, WalkedAlone, WalkedTo, Walked}
-use Rattle.file.specs.Layout.{file_with, with_blocks, after_tree, after_comments, after_header, layout_with, Judged, Kept}
+use Rattle.blocks.specs.declared.step.ChainFound.{ChainFound}
+use Rattle.blocks.specs.Chain.{Chained, WalkedAlone, WalkedTo, WalkRefused, WalkedAs, Walked}
+use Rattle.format.specs.declared.block.Block.{Block}
+use Rattle.file.specs.Open.{file_offsets}
+use Rattle.file.specs.Layout.{file_with, layout_with, chain_verdict, TailInside, ChainInside, FrontRead, Judged, Kept}
 use Rattle.format.proofs.PartLaws.{part_all}
 use Rattle.file.proofs.KeptLaws.{table_kept, enough_kept}
 
 -- If the outcome is a refusal, that refusal is the right answer.
 refused_judged : (o : Outcome File) (before out : List ℕ) (r : Refusal) → o ≡ refused r → Judged o before out (refused r)
-unfolding layout_answer
 refused_judged o before out r h = record { is = rw h; kept = λ f e. cc }
 
 -- If the outcome is an accepted file and `out` is the table of its blocks, the file's layout is the right answer.
 accepted_judged : (o : Outcome File) (before out : List ℕ) (l : Layout) (f : File) → o ≡ accepted f → l ≡ layout_of f → out ≡ table_of before f.blocks
     → Judged o before out (accepted l)
-unfolding layout_answer
 accepted_judged o before out l f h e k = record { is = rw (h, e); kept = λ g q. let same : f ≡ g = cc in rw same at k }
 
-module _ {A : Type 0} (o : Outcome File) (p : Outcome A) (then : A → Outcome File) (step : o ≡ ◌>>=◌ p then) (before out : List ℕ) where
-  -- If a step refuses, its refusal is the answer.
-  step_refused : (r : Refusal) → p ≡ refused r → Judged o before out (refused r)
-  step_refused r h = refused_judged o before out r (rw (step, h))
-
-  -- If a step accepts, a right answer for what comes after it is a right answer for the whole.
-  step_accepted : (a : A) → p ≡ accepted a → (x : Outcome Layout) → Judged (then a) before out x → Judged o before out x
-  step_accepted a h x j = rw (step, h) j
-
--- A file that is not too long is read from its header on.
-file_begins : (s : Bytes) → length s ≤ most_bytes → file s ≡ ◌>>=◌ (header s) (after_header s)
-unfolding file body after_header after_comments after_tree with_blocks
-file_begins s h = rw (le-leb (length s) most_bytes h, file)
+-- What a walk along the chain found: the chain `c` was walked, the verdict on its tail is that on what was found, and where
+-- the tail begins is inside the file.
+pub record Found (s : Bytes) (o : Outcome Chain) (before out : List ℕ) (w : ChainFound) : Type 0 where
+  pub c : Chain
+  pub chained : Chained o before out w.blocks c
+  pub verdict_is : chain_verdict s out w ≡ verdict (offsets c.blocks) c.tail
+  pub inside : TailInside s w.tail
 
 -- A file that is too long is refused with 1.
 pub file_long : (s : Bytes) → most_bytes < length s → (r : Refusal) → r ≡ refusal FileTooLong 0 → (before out : List ℕ) → Judged (file s) before out (refused r)
 unfolding file
 file_long s h r e before out = refused_judged (file s) before out r (rw (lt-leb (length s) most_bytes h, file, e))
 
-module _ (s : Bytes) (x : HeaderStep) (read : header_outcome x ≡ header s) where
-  module _ (few : length s ≤ most_bytes) (before out : List ℕ) where
-    -- If the header is refused, the file is refused in the same way.
-    pub header_refused : (r : Refusal) → x ≡ HeaderStep·is.Refused r → Judged (file s) before out (refused r)
-    unfolding header_outcome
-    header_refused r e = step_refused (file s) (header s) (after_header s) (file_begins s few) before out r (sym read ∙ ap header_outcome e)
+module _ (s : Bytes) (few : length s ≤ most_bytes) (before out : List ℕ) where
+  -- If the header is refused, the file is refused in the same way.
+  pub header_refused : (x : Outcome Header) → x ≡ header s → (r : Refusal) → x ≡ refused r → Judged (file s) before out (refused r)
+  unfolding file body
+  header_refused x read r e =
+      let is : header s ≡ refused r = sym read ∙ e in
+      refused_judged (file s) before out r (rw (le-leb (length s) most_bytes few, file, body, is))
 
-    -- If the header is read, a right answer for what comes after it is a right answer for the file.
-    pub header_read : (h : Header) → x ≡ HeaderStep·is.Read h → (a : Outcome Layout) → Judged (after_header s h) before out a → Judged (file s) before out a
-    unfolding header_outcome
-    header_read h e = step_accepted (file s) (header s) (after_header s) (file_begins s few) before out h (sym read ∙ ap header_outcome e)
+  module _ (h : Header) (header_is : header s ≡ accepted h) where
+    -- If the comments are refused, so is the file.
+    pub comments_refused : (x : Outcome ℕ) → x ≡ comments h.end.0 (lines (drop h.end.0 s)) → (r : Refusal) → x ≡ refused r → Judged (file s) before out (refused r)
+    unfolding file body
+    comments_refused x read r e =
+        let is : comments h.end.0 (lines (drop h.end.0 s)) ≡ refused r = sym read ∙ e in
+        refused_judged (file s) before out r (rw (le-leb (length s) most_bytes few, file, body, header_is, is))
 
-  -- A header that is read ends inside the file.
-  pub header_inside : (h : Header) → x ≡ HeaderStep·is.Read h → h.end.0 ≤ length s
-  unfolding header_outcome
-  header_inside h e = header_bounds s h (sym read ∙ ap header_outcome e)
+    -- If the tree is refused, so is the file.
+    pub tree_refused : (n : ℕ) → comments h.end.0 (lines (drop h.end.0 s)) ≡ accepted n → (x : Outcome (Option Tree)) → x ≡ tree n s → (r : Refusal) → x ≡ refused r
+        → Judged (file s) before out (refused r)
+    unfolding file body
+    tree_refused n comments_is x read r e =
+        let is : tree n s ≡ refused r = sym read ∙ e in
+        refused_judged (file s) before out r (rw (le-leb (length s) most_bytes few, file, body, header_is, comments_is, is))
 
-module _ (s : Bytes) (h : Header) (x : EndStep) (read : end_outcome x ≡ comments h.end.0 (lines (drop h.end.0 s))) where
-  -- If the comments are refused, the answer is their refusal.
-  pub comments_refused : (before out : List ℕ) (r : Refusal) → x ≡ EndStep·is.Refused r → Judged (after_header s h) before out (refused r)
-  unfolding end_outcome after_header
-  comments_refused before out r e = step_refused (after_header s h) _ (after_comments s h) refl before out r (sym read ∙ ap end_outcome e)
+-- What was read of the front of a file.
+pub front_read : (s : Bytes) → length s ≤ most_bytes → (h : Header) → header s ≡ accepted h → (n : ℕ) → comments h.end.0 (lines (drop h.end.0 s)) ≡ accepted n
+    → (t : Option Tree) → tree n s ≡ accepted t → FrontRead s h n t
+front_read s few h a n b t c = record { few = few; header_read = a; comments_read = b; tree_read = c }
 
-  module _ (n : ℕ) (e : x ≡ EndStep·is.At n) where
-    -- If the comments are read, a right answer for what comes after them is a right answer here.
-    pub comments_read : (before out : List ℕ) (a : Outcome Layout) → Judged (after_comments s h n) before out a → Judged (after_header s h) before out a
-    unfolding end_outcome after_header
-    comments_read before out = step_accepted (after_header s h) _ (after_comments s h) refl before out n (sym read ∙ ap end_outcome e)
+module _ (s : Bytes) (h : Header) (n : ℕ) (t : Option Tree) (front : FrontRead s h n t) where
+  -- What comes before the blocks is inside the file.
+  header_inside : h.end.0 ≤ length s
+  header_inside = header_bounds s h front.header_read
 
-    -- Comments that are read end inside the file.
-    pub comments_inside : h.end.0 ≤ length s → n ≤ length s
-    unfolding end_outcome
-    comments_inside q =
-        omega (arith, simp length-drop at (comments_bounds h.end.0 (drop h.end.0 s) n (sym read ∙ ap end_outcome e)))
+  comments_inside : n ≤ length s
+  comments_inside = omega (arith, header_inside, simp length-drop at (comments_bounds h.end.0 (drop h.end.0 s) n front.comments_read))
 
-module _ (s : Bytes) (h : Header) (n : ℕ) (x : TreeStep) (read : tree_outcome x ≡ tree n s) where
-  -- If the tree is refused, the answer is its refusal.
-  pub tree_refused : (before out : List ℕ) (r : Refusal) → x ≡ TreeStep·is.Refused r → Judged (after_comments s h n) before out (refused r)
-  unfolding tree_outcome after_comments
-  tree_refused before out r e = step_refused (after_comments s h n) _ (after_tree s h n) refl before out r (sym read ∙ ap tree_outcome e)
+  pub first_inside : first_block n t ≤ length s
+  first_inside = omega (arith, first_block_bounds n s t comments_inside front.tree_read)
 
-  module _ (t : Option Tree) (e : x ≡ TreeStep·is.Read t) where
-    -- If the tree is read, a right answer for what comes after it is a right answer here.
-    pub tree_read : (before out : List ℕ) (a : Outcome Layout) → Judged (after_tree s h n t) before out a → Judged (after_comments s h n) before out a
-    unfolding tree_outcome after_comments
-    tree_read before out = step_accepted (after_comments s h n) _ (after_tree s h n) refl before out t (sym read ∙ ap tree_outcome e)
+  -- If there is no tree, and neither a block nor the end of the file is where the comments end, the file is refused with
+  -- 7 there.
+  pub blocks_none : (b : Bool) → b ≡ goes_on t (drop n s) → not b ≡ true → (r : Refusal) → r ≡ refusal NeitherTreeNorBlock n → (before out : List ℕ)
+      → Judged (file s) before out (refused r)
+  unfolding file body
+  blocks_none b goes q r e before out =
+      let is : goes_on t (drop n s) ≡ false = sym goes ∙ not-true b q in
+      refused_judged (file s) before out r
+      (rw (le-leb (length s) most_bytes front.few, file, body, front.header_read, front.comments_read, front.tree_read, is, e))
 
-    -- If the tree is read, the offset where the blocks begin is inside the file.
-    pub tree_inside : n ≤ length s → first_block n t ≤ length s
-    unfolding tree_outcome
-    tree_inside q = omega (arith, first_block_bounds n s t q (sym read ∙ ap tree_outcome e))
+  module _ (b : Bool) (goes : b ≡ goes_on t (drop n s)) (on : not b ≡ false) where
+    -- The chain of blocks decides about the rest of the file.
+    file_chain : (o : Outcome Chain) → chain most_blocks 0 (first_block n t) (drop (first_block n t) s) ≡ o
+        → file s ≡ ◌>>=◌ o (λ c. accepted (file_with h n t c))
+    unfolding file body
+    file_chain o e =
+        let is : goes_on t (drop n s) ≡ true = sym goes ∙ not-false b on in
+        rw (le-leb (length s) most_bytes front.few, file, body, front.header_read, front.comments_read, front.tree_read, is, e)
 
-module _ (s : Bytes) (h : Header) (n : ℕ) (t : Option Tree) where
-  module _ (x y m : Offset) (e : t ≡ Found x y m) where
-    -- If there is a tree, the blocks begin after its room.
-    pub blocks_after : (before out : List ℕ) (a : Outcome Layout) → Judged (with_blocks s h n (Found x y m) m.0) before out a → Judged (after_tree s h n t) before out a
-    unfolding after_tree goes_on first_block
-    blocks_after before out a j = rw e j
+    module _ (first : ℕ) (first_is : first ≡ first_block n t) (before out : List ℕ) (x : Outcome ChainFound)
+        (walked : Walked s (chain most_blocks 0 first (drop first s)) before out x) where
+      -- If the chain is refused, so is the file.
+      pub chain_refused : (r : Refusal) → x ≡ refused r → Judged (file s) before out (refused r)
+      chain_refused r e =
+          let w : WalkRefused (chain most_blocks 0 first (drop first s)) out r = rw e at walked in
+          refused_judged (file s) before out r (file_chain (refused r) (rw (← first_is) w.is))
 
-    -- The room ends inside the file.
-    pub room_inside : first_block n t ≤ length s → m.0 ≤ length s
-    unfolding first_block
-    room_inside q = rw e at q
+      module _ (w : ChainFound) (e : x ≡ accepted w) where
+        -- What the walk found, and the chain that it walked.
+        found : Found s (chain most_blocks 0 first (drop first s)) before out w
+        found = go w.tail refl (rw e at walked)
+          where
+            go : (m : Option ℕ) → w.tail ≡ m → WalkedAs s (chain most_blocks 0 first (drop first s)) before out w
+                → Found s (chain most_blocks 0 first (drop first s)) before out w
+            unfolding verdict
+            go None q k =
+                let a : WalkedAlone (chain most_blocks 0 first (drop first s)) before out w.blocks = rw q at k in
+                record { c = a.c; chained = a.chained; verdict_is = rw (q, verdict, a.zeros); inside = rw q tt }
+            go (Some m) q k =
+                let a : WalkedTo s (chain most_blocks 0 first (drop first s)) before out w.blocks m = rw q at k in
+                let begin : take w.blocks out ≡ offsets a.c.blocks = table_kept w.blocks before out a.c.blocks a.chained.count a.chained.kept in
+                record { c = a.c; chained = a.chained; verdict_is = rw (q, verdict, a.zeros, begin, a.tail); inside = rw q a.inside }
 
-  module _ (e : t ≡ None) (b : Bool) (goes : b ≡ goes_on None (drop n s)) (before out : List ℕ) where
-    -- If there is no tree, and neither a block nor the end of the file is where the comments end, the answer is refusal
-    -- 7 there.
-    pub blocks_none : not b ≡ true → (r : Refusal) → r ≡ refusal NeitherTreeNorBlock n → Judged (after_tree s h n t) before out (refused r)
-    unfolding after_tree
-    blocks_none q r i = refused_judged _ before out r (rw (e, after_tree, sym goes ∙ not-true b q, i))
+        -- It is inside the file.
+        pub chain_inside : ChainInside s out w
+        chain_inside =
+            let k = found in
+            let begin : take w.blocks out ≡ offsets k.c.blocks = table_kept w.blocks before out k.c.blocks k.chained.count k.chained.kept in
+            record { few = enough_kept out w.blocks k.c.blocks k.chained.count begin; limit = k.chained.few; tail = k.inside }
 
-    -- If there is no tree, the blocks begin where the comments end, or the file ends there.
-    pub blocks_here : not b ≡ false → (a : Outcome Layout) → Judged (with_blocks s h n t n) before out a → Judged (after_tree s h n t) before out a
-    unfolding after_tree first_block
-    blocks_here q a j = rw (e, after_tree, sym goes ∙ not-false b q) (rw e at j)
+        -- With the verdict on what follows, the layout with these parts is the answer.
+        pub chain_judged : (v : Verdict) → v ≡ chain_verdict s out w → (l : Layout) → l ≡ layout_with h n t w.blocks v → Judged (file s) before out (accepted l)
+        unfolding layout_of
+        chain_judged v q l p =
+            let k = found in
+            accepted_judged (file s) before out l (file_with h n t k.c) (file_chain (accepted k.c) (rw (← first_is) k.chained.is)) (rw (p, k.chained.count, q, k.verdict_is)) k.chained.kept
 
-  -- If there is no tree, the comments end inside the file.
-  pub here_inside : t ≡ None → first_block n t ≤ length s → n ≤ length s
-  unfolding first_block
-  here_inside e q = rw e at q
-
--- If there is no tree, the file may end at offset `at`.
-pub goes_end : (s : Bytes) (at : ℕ) → length s ≤ at → true ≡ goes_on None (drop at s)
+-- Whether a file may go on: with a tree, at its end, or with a block.
+pub goes_tree : (s : Bytes) (t : Option Tree) (at : ℕ) (b : Bool) → b ≡ is_some t → b ≡ true → true ≡ goes_on t (drop at s)
 unfolding goes_on
-goes_end s at h = rw (drop_of_length-le s h)
+goes_tree s (Some x) at b e h = refl
+goes_tree s None at b e h = cc
 
--- If there is no tree and the file does not end at offset `at`, a block must begin there.
-pub goes_mark : (s : Bytes) (at : ℕ) → at < length s → (b : Bool) → b ≡ begins mark (drop at s) → b ≡ goes_on None (drop at s)
+pub goes_end : (s : Bytes) (t : Option Tree) (at : ℕ) (b : Bool) → b ≡ is_some t → b ≡ false → length s ≤ at → true ≡ goes_on t (drop at s)
 unfolding goes_on
-goes_mark s at h b e = rw (drop-cons s at 0 h) (rw (drop-cons s at 0 h) at e)
+goes_end s (Some x) at b e h l = cc
+goes_end s None at b e h l = rw (drop_of_length-le s l)
 
-module _ (s : Bytes) (h : Header) (n : ℕ) (t : Option Tree) (first : ℕ) (before out : List ℕ) where
-  -- If the chain `c` was walked and `v` is the verdict on its tail, the layout with these parts is the answer.
-  chain_judged : (c : Chain) (k : ℕ) → Chained (chain most_blocks 0 first (drop first s)) before out k c → (v : Verdict) → v ≡ verdict (offsets c.blocks) c.tail
-      → (l : Layout) → l ≡ layout_with h n t k v → Judged (with_blocks s h n t first) before out (accepted l)
-  unfolding with_blocks layout_of
-  chain_judged c k w v q l e = accepted_judged _ before out l (file_with h n t c) (rw (w.is, with_blocks)) (rw (e, w.count, q)) w.kept
+pub goes_mark : (s : Bytes) (t : Option Tree) (at : ℕ) (b : Bool) → b ≡ is_some t → b ≡ false → at < length s → (m : Bool) → m ≡ begins mark (drop at s)
+    → m ≡ goes_on t (drop at s)
+unfolding goes_on
+goes_mark s (Some x) at b e h l m k = cc
+goes_mark s None at b e h l m k = rw (drop-cons s at 0 l) (rw (drop-cons s at 0 l) at k)
 
-  module _ (x : ChainStep) (walked : Walked s (chain most_blocks 0 first (drop first s)) before out x) where
-    -- If the chain is refused, the answer is its refusal.
-    pub walk_refused : (r : Refusal) → x ≡ ChainStep·is.Refused r → Judged (with_blocks s h n t first) before out (refused r)
-    unfolding with_blocks
-    walk_refused r e = step_refused (with_blocks s h n t first) (chain most_blocks 0 first (drop first s)) _ refl before out r (rw e at walked).is
+-- The first block begins after the tree's room or, without a tree, where the comments end.
+pub first_none : (n : ℕ) (t : Option Tree) → t ≡ None → n ≡ first_block n t
+unfolding first_block
+first_none n t e = rw e
 
-    module _ (k : ℕ) (e : x ≡ ChainStep·is.Walked k) where
-      -- The walk ended at zeros or at the end of the file.
-      walked_alone : WalkedAlone (chain most_blocks 0 first (drop first s)) before out k
-      walked_alone = rw e at walked
-
-      -- The number of walked blocks is within the limit.
-      pub alone_few : k ≤ 64
-      alone_few = walked_alone.chained.few
-
-      -- No index follows the blocks, so the verdict is absent.
-      pub alone_judged : (l : Layout) → l ≡ layout_with h n t k Absent → Judged (with_blocks s h n t first) before out (accepted l)
-      unfolding verdict
-      alone_judged = let w = walked_alone in chain_judged w.c k w.chained Absent (rw (verdict, w.zeros))
-
-    module _ (k m : ℕ) (e : x ≡ ChainStep·is.Indexed k m) where
-      -- The walk ended at bytes that begin like an index.
-      walked_to : WalkedTo s (chain most_blocks 0 first (drop first s)) before out k m
-      walked_to = rw e at walked
-
-      -- The number of walked blocks is within the limit.
-      pub to_few : k ≤ 64
-      to_few = walked_to.chained.few
-
-      -- The table keeps where the blocks begin.
-      to_begin : take k out ≡ offsets walked_to.c.blocks
-      to_begin = table_kept k before out walked_to.c.blocks walked_to.chained.count walked_to.chained.kept
-
-      -- The table has an entry for each of them.
-      pub to_kept : k ≤ length out
-      to_kept = enough_kept out k walked_to.c.blocks walked_to.chained.count to_begin
-
-      -- The tail begins inside the file.
-      pub to_inside : m ≤ length s
-      to_inside = walked_to.inside
-
-      -- If `v` is the verdict on the tail, the layout with `v` is the answer.
-      pub to_judged : (v : Verdict) → v ≡ judged (take k out) (indexed (lines (take (length s - m) (drop m s))))
-          → (l : Layout) → l ≡ layout_with h n t k v → Judged (with_blocks s h n t first) before out (accepted l)
-      unfolding verdict
-      to_judged v q =
-          let w = walked_to in
-          chain_judged w.c k w.chained v (q ∙ rw (part_all s m, verdict, w.zeros, to_begin, w.tail))
+pub first_room : (n : ℕ) (t : Option Tree) (x : Tree) → t ≡ Some x → x.room_end.0 ≡ first_block n t
+unfolding first_block
+first_room n t x e = rw e
 
 module _ (s : Bytes) (before out : List ℕ) (a : Outcome Layout) (judged : Judged (file s) before out a) where
   -- The right answer for the file states the layout of the file, or its refusal.
@@ -238,7 +199,6 @@ module _ (s : Bytes) (a : Outcome Layout) (judged : a ≡ layout s) where
 
   -- If the answer is a layout, the file is accepted and has that layout.
   pub accepted_as : (l : Layout) → a ≡ accepted l → layout s ≡ accepted l
-  unfolding layout_answer
   accepted_as l e = sym judged ∙ e
 
   -- If the answer is a refusal, it is the answer for every block that is asked for.
@@ -262,26 +222,27 @@ module _ (s : Bytes) (a : Outcome Layout) (judged : a ≡ layout s) where
           absurd (omega arith)
 
 module _ (s : Bytes) (before out : List ℕ) (a : Outcome Layout) (judged : Judged (file s) before out a) where
-  -- If the right answer for the file is passed on, it still states the layout of the file, or its refusal.
-  pub layout_again : (x : Outcome Layout) → a ≡ x → x ≡ layout s
-  layout_again x e = sym (e) ∙ layout_judged s before out a judged
-
   -- If the file is accepted, the table that was kept is its table.
-  pub table_accepted : (l : Layout) → a ≡ accepted l → out ≡ offset_table before (file s)
+  pub table_accepted : is_err a ≡ false → out ≡ offset_table before (file s)
   unfolding offset_table
-  table_accepted l e = go (file s) refl
+  table_accepted e = go (file s) refl
     where
       go : (o : Outcome File) → file s ≡ o → out ≡ offset_table before o
       go (accepted f) h = judged.kept f h
       go (refused q) h =
-          let clash : accepted l ≡ refused q = sym (e) ∙ rw h at judged.is in
-          let z : ◌≡◌ {A = ℕ} 0 1 = cc in
-          absurd (omega arith)
+          let is : a ≡ refused q = judged.is ∙ rw h in
+          absurd (true≢false (sym (rw is) ∙ e))
 
   -- If the file is refused, its table is only zeros.
-  pub table_refused : (r : Refusal) → a ≡ refused r → replicate most_blocks 0 ≡ offset_table before (file s)
+  pub table_refused : is_err a ≡ true → replicate most_blocks 0 ≡ offset_table before (file s)
   unfolding offset_table
-  table_refused r e = rw (file_refused s a (layout_judged s before out a judged) r e)
+  table_refused e = go (file s) refl
+    where
+      go : (o : Outcome File) → file s ≡ o → replicate most_blocks 0 ≡ offset_table before o
+      go (accepted f) h =
+          let is : a ≡ accepted (layout_of f) = judged.is ∙ rw h in
+          absurd (true≢false (sym e ∙ rw is))
+      go (refused q) h = refl
 
 -- Reading a file keeps the length of the table.
 pub table_size : (s : Bytes) (before out : List ℕ) → out ≡ offset_table before (file s) → length before ≡ most_blocks → length out ≡ most_blocks
@@ -293,3 +254,31 @@ table_size s before out is room = ap length is ∙ go (file s) refl
     go (accepted f) e =
         let few = blocks_few most_blocks 0 (blocks_start f) _ (drop (blocks_start f) s) (file_parts s f e).chain_read in
         rw (length-append, length-map, length-drop) (omega arith)
+
+-- If a file is kept, its offsets are those that the table keeps.
+pub kept_opens : (s : Bytes) (out : List ℕ) (blocks : ℕ) → Kept s out blocks → file_offsets s ≡ accepted (take blocks out)
+unfolding file_offsets
+kept_opens s out blocks kept = rw (file_offsets, kept.is, kept.begin)
+
+-- The table has an entry for each block of a file that is kept.
+pub kept_enough : (s : Bytes) (out : List ℕ) (blocks : ℕ) → Kept s out blocks → blocks ≤ length out
+kept_enough s out blocks kept = enough_kept out blocks kept.f.blocks kept.count kept.begin
+
+-- A file that is open is kept.
+pub open_is_kept : (s : Bytes) (out : List ℕ) → file_offsets s ≡ accepted out → Kept s out (length out)
+unfolding file_offsets
+open_is_kept s out h = go (file s) refl
+  where
+    go : (o : Outcome File) → file s ≡ o → Kept s out (length out)
+    go (accepted f) e =
+        let same : accepted (offsets f.blocks) ≡ accepted out = sym (rw (file_offsets, e)) ∙ h in
+        let is : offsets f.blocks ≡ out = cc in
+        record {
+          f = f;
+          is = e;
+          count = sym (length-map f.blocks (λ (b : Block). b.at.0)) ∙ ap length is;
+          begin = take-length out ∙ sym is;
+        }
+    go (refused r) e =
+        let clash : refused r ≡ accepted out = sym (rw (file_offsets, e)) ∙ h in
+        cc

@@ -1,47 +1,47 @@
--- The steps of reading a file. Each step includes everything that comes after it.
+-- What the steps of reading a file know and answer.
 use Rattle.std.specs.Prelude.{ℕ, ◌≡◌, List, length, take, drop}
-use Rattle.std.specs.Prelude.{Option}
+use Rattle.std.specs.Prelude.{Option, None, Some, ◌≤◌}
 use Rattle.format.specs.declared.layout.Header.{Header}
 use Rattle.format.specs.declared.layout.Tree.{Tree}
 use Rattle.format.specs.declared.layout.Verdict.{Verdict}
 use Rattle.format.specs.declared.layout.Layout.{Layout}
-use Rattle.format.specs.declared.refusal.Reason.TheVariants.{NeitherTreeNorBlock}
+use Rattle.format.specs.declared.layout.Verdict.TheVariants.{Absent}
+use Rattle.blocks.specs.declared.step.ChainFound.{ChainFound}
 use Rattle.format.specs.Bytes.{Bytes}
-use Rattle.format.specs.Outcome.{Outcome, accepted, need, ◌>>=◌, ◌>>◌}
+use Rattle.format.specs.Outcome.{Outcome, accepted, refused, ◌>>=◌}
 use Rattle.format.specs.Line.{lines}
+use Rattle.format.specs.Header.{header}
 use Rattle.format.specs.Comments.{comments}
 use Rattle.format.specs.Tree.{tree}
-use Rattle.format.specs.Chain.{Chain, chain, most_blocks}
-use Rattle.format.specs.Index.{verdict}
-use Rattle.format.specs.File.{File, file, first_block, goes_on, offsets, table_of, layout_of}
+use Rattle.format.specs.Chain.{Chain, most_blocks}
+use Rattle.format.specs.Index.{verdict, judged, indexed}
+use Rattle.format.specs.File.{File, most_bytes, file, offsets, table_of, layout_of}
 
 -- The file with the header `h`, comments that end at `n`, the tree `t` and the chain `c`.
 abbrev pub file_with : Header → ℕ → Option Tree → Chain → File
 file_with h n t c = record { header = h; comments_end = n; tree = t; blocks = c.blocks; verdict = verdict (offsets c.blocks) c.tail }
 
--- The file from its first block on, which begins at offset `first` if there is one.
-unfoldable pub with_blocks : Bytes → Header → ℕ → Option Tree → ℕ → Outcome File
-with_blocks s h n t first = do
-  c ← chain most_blocks 0 first (drop first s)
-  accepted (file_with h n t c)
+-- What comes before the blocks of the file `s` was read: the header `h`, comments that end at `n`, and the tree `t`.
+pub record FrontRead (s : Bytes) (h : Header) (n : ℕ) (t : Option Tree) : Type 0 where
+  pub few : length s ≤ most_bytes
+  pub header_read : header s ≡ accepted h
+  pub comments_read : comments h.end.0 (lines (drop h.end.0 s)) ≡ accepted n
+  pub tree_read : tree n s ≡ accepted t
 
--- The file from the end of its tree on. `n` is where its comments end.
-unfoldable pub after_tree : Bytes → Header → ℕ → Option Tree → Outcome File
-after_tree s h n t = do
-  need (goes_on t (drop n s)) NeitherTreeNorBlock n
-  with_blocks s h n t (first_block n t)
+-- The verdict on what follows the chain in the file `s`, if the front of the table `out` holds where the blocks begin.
+abbrev pub chain_verdict : Bytes → List ℕ → ChainFound → Verdict
+chain_verdict s out c = elim c.tail [ None ↦ Absent | Some n ↦ judged (take c.blocks out) (indexed (lines (drop n s))) ]
 
--- The file from the end of its comments on, which is at `n`.
-unfoldable pub after_comments : Bytes → Header → ℕ → Outcome File
-after_comments s h n = do
-  t ← tree n s
-  after_tree s h n t
+-- Where bytes that begin like an index follow the chain, they begin inside the file or at its end.
+abbrev pub TailInside : Bytes → Option ℕ → Type 0
+TailInside s None = Unit {0}
+TailInside s (Some n) = n ≤ length s
 
--- The file from the end of its header on.
-unfoldable pub after_header : Bytes → Header → Outcome File
-after_header s h = do
-  n ← comments h.end.0 (lines (drop h.end.0 s))
-  after_comments s h n
+-- What a walk along the chain of the file `s` found is inside the file, and the table `out` has an entry for each block.
+pub record ChainInside (s : Bytes) (out : List ℕ) (c : ChainFound) : Type 0 where
+  pub few : c.blocks ≤ length out
+  pub limit : c.blocks ≤ most_blocks
+  pub tail : TailInside s c.tail
 
 -- The layout with these parts; its comments end at `n`.
 abbrev pub layout_with : Header → ℕ → Option Tree → ℕ → Verdict → Layout

@@ -1,19 +1,18 @@
 // Reads the layout of a file, from front to back.
 ghost use Rattle.std.specs.Prelude.{◌≡◌, ◌≤◌, length, take, drop, replicate};
 ghost use Rattle.format.specs.File.{file, offset_table, layout, block_at, first_block, goes_on};
-ghost use Rattle.format.specs.Line.{lines};
 ghost use Rattle.format.specs.Chain.{most_blocks};
-ghost use Rattle.format.specs.Index.{judged, indexed};
-ghost use Rattle.format.specs.declared.layout.Tree.TheVariants.{NoTree};
-ghost use Rattle.file.specs.Layout.{after_header, after_comments, after_tree, with_blocks, layout_with, Judged, Kept};
+ghost use Rattle.file.specs.Layout.{layout_with, chain_verdict, ChainInside, Judged, Kept};
+ghost use Rattle.file.specs.Opened.{OpensAs};
 
-use blocks::step::ChainStep;
+use crate::open::OpenFile;
+use blocks::step::ChainFound;
 use blocks::{again, chain};
+use format::block::Block;
 use format::layout::{Header, Layout, Tree, Verdict};
 use format::limits::{MOST_BLOCKS, MOST_BYTES};
 use format::offset::Offset;
 use format::refusal::{Reason, Refusal};
-use front::step::{EndStep, HeaderStep, TreeStep};
 use front::{comments, header, tree};
 
 // Returns the layout of a file, or its refusal.
@@ -28,39 +27,53 @@ pub fn read(s: &[u8]) -> Result<Layout, Refusal>
 // rest of the table stays as it was. A refused file leaves only zeros, so that nothing that was kept before the refusal
 // is passed on.
 pub fn read_into(s: &[u8], offsets: &mut [u64; MOST_BLOCKS]) -> Result<Layout, Refusal>
-    ensures result_value { result ≡ layout s.now }
-    ensures offsets_after { offsets.new ≡ offset_table offsets.old (file s.now) }
+    ensures answer { result ≡ layout s.now }
+    ensures table { offsets.new ≡ offset_table offsets.old (file s.now) }
 {
-    match judge(s, offsets) {
-        Ok(l) => Ok(l),
-        Err(r) => {
-            *offsets = [0u64; MOST_BLOCKS];
-            Err(r)
-        }
+    let layout = judge(s, offsets);
+    if layout.is_err() {
+        *offsets = [0u64; MOST_BLOCKS];
+    }
+    layout
+}
+
+// Reads a file and opens it: its blocks can then be found without reading it again. The table keeps where they begin.
+pub fn open<'a>(s: &'a [u8], table: &'a mut [u64; MOST_BLOCKS]) -> Result<(Layout, OpenFile<'a>), Refusal>
+    ensures { OpensAs s.now result }
+{
+    let layout = read_into(s, table)?;
+    Ok((layout, open_kept(s, table, layout.blocks)))
+}
+
+// Opens an accepted file with this many blocks, which begin at the first offsets of the table.
+fn open_kept<'a>(s: &'a [u8], table: &'a [u64], blocks: u8) -> OpenFile<'a>
+    requires { Kept s.now table.now blocks }
+    ensures { result.bytes.now ≡ s.now }
+{
+    OpenFile {
+        bytes: s,
+        offsets: &table[..blocks as usize],
     }
 }
 
-// Returns block `ordinal` of the file, `NoSuchBlock` if there is none, or the file's refusal.
+// Returns block `ordinal` of the file, nothing if there is none, or the file's refusal.
 pub fn block(s: &[u8], ordinal: u64) -> Result<Option<Block>, Refusal>
     ensures { result ≡ block_at s.now ordinal }
 {
-    let mut offsets = [0u64; MOST_BLOCKS];
-    match read_into(s, &mut offsets) {
-        Err(r) => Err(r),
-        Ok(l) => kept_block(s, &offsets, l.blocks, ordinal),
-    }
+    let mut table = [0u64; MOST_BLOCKS];
+    let (_, file) = open(s, &mut table)?;
+    Ok(block_of(file, ordinal))
 }
 
-// Returns the block with this ordinal of an accepted file. The file has `blocks` blocks, which begin at `offsets`.
-fn kept_block(s: &[u8], offsets: &[u64], blocks: u8, ordinal: u64) -> Result<Option<Block>, Refusal>
-    requires { Kept s.now offsets.now blocks }
-    ensures { result ≡ block_at s.now ordinal }
+// Returns the block with this ordinal of an open file.
+fn block_of(file: OpenFile<'_>, ordinal: u64) -> Option<Block>
+    ensures { accepted result ≡ block_at file.entry.bytes.now ordinal }
 {
-    if blocks as u64 <= ordinal {
-        return Ok(None);
+    if file.offsets.len() as u64 <= ordinal {
+        return None;
     }
-    let at = offsets[ordinal as usize] as usize;
-    BlockAnswer::Found(again::block_of(&s[at..], ordinal as u8, at))
+    let at = file.offsets[ordinal as usize] as usize;
+    Some(again::block_of(&file.bytes[at..], ordinal as u8, at))
 }
 
 // Judges a file. If it is accepted, the offsets of its blocks come first in the table.
@@ -70,104 +83,61 @@ fn judge(s: &[u8], offsets: &mut [u64; MOST_BLOCKS]) -> Result<Layout, Refusal>
     if MOST_BYTES < s.len() {
         return Err(Refusal::new(Reason::FileTooLong, 0));
     }
-    match header::read_header(s) {
-        HeaderStep::Refused(r) => Err(r),
-        HeaderStep::Read(h) => after_header(s, h, offsets),
+    let header = header::read_header(s)?;
+    let comments_end = comments::comments_end(s, header.end.0 as usize)?;
+    let tree = tree::read_tree(s, comments_end)?;
+    if !goes_on(s, tree, comments_end) {
+        return Err(Refusal::new(Reason::NeitherTreeNorBlock, comments_end));
     }
+    let first = first_block(comments_end, tree);
+    let chain = chain::walk(s, first, offsets)?;
+    let verdict = chain_verdict(s, offsets, chain);
+    Ok(layout_with(
+        header,
+        comments_end,
+        tree,
+        chain.blocks,
+        verdict,
+    ))
 }
 
-fn after_header(s: &[u8], h: Header, offsets: &mut [u64; MOST_BLOCKS]) -> Result<Layout, Refusal>
-    requires { h.end.0 ≤ length s.now }
-    ensures { Judged (after_header s.now h) offsets.old offsets.new result }
+// Whether the file may go on at offset `at`, where its comments end: with this tree, at its end, or with a block.
+fn goes_on(s: &[u8], tree: Option<Tree>, at: usize) -> bool
+    ensures { result ≡ goes_on tree (drop at s.now) }
 {
-    match comments::comments_end(s, h.end.0 as usize) {
-        EndStep::Refused(r) => Err(r),
-        EndStep::At(n) => after_comments(s, h, n, offsets),
+    if tree.is_some() {
+        return true;
     }
-}
-
-fn after_comments(s: &[u8], h: Header, n: usize, offsets: &mut [u64; MOST_BLOCKS]) -> Result<Layout, Refusal>
-    requires { n ≤ length s.now }
-    ensures { Judged (after_comments s.now h n) offsets.old offsets.new result }
-{
-    match tree::read_tree(s, n) {
-        TreeStep::Refused(r) => Err(r),
-        TreeStep::Read(t) => after_tree(s, h, n, t, offsets),
-    }
-}
-
-fn after_tree(
-    s: &[u8],
-    h: Header,
-    n: usize,
-    t: Tree,
-    offsets: &mut [u64; MOST_BLOCKS],
-) -> Result<Layout, Refusal>
-    requires { first_block n t ≤ length s.now }
-    ensures { Judged (after_tree s.now h n t) offsets.old offsets.new result }
-{
-    match t {
-        Tree::Found {
-            start: _,
-            end: _,
-            room_end,
-        } => with_blocks(s, h, n, t, room_end.0 as usize, offsets),
-        Tree::NoTree => {
-            if !goes_on(s, n) {
-                return Err(Refusal::new(Reason::NeitherTreeNorBlock, n));
-            }
-            with_blocks(s, h, n, t, n, offsets)
-        }
-    }
-}
-
-// Whether the file ends at offset `at`, or a block begins there.
-fn goes_on(s: &[u8], at: usize) -> bool
-    ensures { result ≡ goes_on NoTree (drop at s.now) }
-{
     if s.len() <= at {
         return true;
     }
     mark::is_mark(s, at)
 }
 
-fn with_blocks(
-    s: &[u8],
-    h: Header,
-    n: usize,
-    t: Tree,
-    first: usize,
-    offsets: &mut [u64; MOST_BLOCKS],
-) -> Result<Layout, Refusal>
-    requires { first ≤ length s.now }
-    ensures { Judged (with_blocks s.now h n t first) offsets.old offsets.new result }
+// Returns where the first block begins, if there is one: after the tree's room or, without a tree, where the comments
+// end.
+fn first_block(comments_end: usize, tree: Option<Tree>) -> usize
+    ensures { result ≡ first_block comments_end tree }
 {
-    match chain::walk(s, first, offsets) {
-        ChainStep::Refused(r) => Err(r),
-        ChainStep::Walked(blocks) => Ok(layout_with(
-            h,
-            n,
-            t,
-            blocks,
-            Verdict::Absent,
-        )),
-        ChainStep::Indexed { blocks, tail } => {
-            let v = judge_tail(&s[tail..], offsets, blocks);
-            Ok(layout_with(h, n, t, blocks, v))
-        }
+    match tree {
+        None => comments_end,
+        Some(t) => t.room_end.0 as usize,
     }
 }
 
-// Returns the verdict on the tail `t` of a file whose blocks begin at the first `count` offsets. The offsets are lent
-// as a slice, because no part of an array can be taken through a reference to it.
-fn judge_tail(t: &[u8], offsets: &[u64], count: usize) -> Verdict
-    requires { count ≤ length offsets.now }
-    ensures { result ≡ judged (take count offsets.now) (indexed (lines t.now)) }
+// Returns the verdict on what follows the chain. The offsets are lent as a slice, because no part of an array can be
+// taken through a reference to it.
+fn chain_verdict(s: &[u8], offsets: &[u64], chain: ChainFound) -> Verdict
+    requires { ChainInside s.now offsets.now chain }
+    ensures { result ≡ chain_verdict s.now offsets.now chain }
 {
-    index::verdict::judge(t, &offsets[..count])
+    match chain.tail {
+        None => Verdict::Absent,
+        Some(tail) => index::verdict::judge(&s[tail..], &offsets[..chain.blocks]),
+    }
 }
 
-fn layout_with(h: Header, n: usize, t: Tree, blocks: usize, v: Verdict) -> Layout
+fn layout_with(h: Header, n: usize, t: Option<Tree>, blocks: usize, v: Verdict) -> Layout
     requires { blocks ≤ most_blocks }
     ensures { result ≡ layout_with h n t blocks v }
 {

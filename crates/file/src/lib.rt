@@ -3,3 +3,4 @@
 
 pub mod index_writer;
 pub mod layout;
+pub mod open;
