@@ -12,34 +12,11 @@ use lib.Dec.{eqb}
 use Rattle.octets.specs.Octets.{index_of, index_after}
 use Rattle.std.proofs.Math.Seq.{slice}
 use Rattle.format.specs.Bytes.{Bytes}
-use Rattle.scan.specs.Find.{has, PassedOver, first_from}
-
--- The invariant of `has_byte`: there is such a byte (`x`) exactly if one was found already (`f`) or one comes from `j`
--- on. Such a byte is `b` or, if `is` is false, a byte other than `b`.
-module _ (is : Bool) (b : ℕ) (s : Bytes) (to j : ℕ) (f x : Bool) (left : (f || has is b (slice j to s)) ≡ x) where
-  module _ (g : Bool) (h : j < to) (q : to ≤ length s) where
-    -- Hence there is such a byte exactly if one was found already, the next byte is one, or one comes after it.
-    has_next : (f || (beq (eqb (get_or s j 0) b) is || has is b (slice (j + 1) to s))) ≡ x
-    has_next = rw (add-one j) (rw (slice-cons j to s 0 h q) at left)
-
-    -- If the next byte is such a byte, the invariant holds after it with the flag set.
-    pub has_hit : beq (eqb (get_or s j 0) b) is ≡ true → g ≡ true → (g || has is b (slice (j + 1) to s)) ≡ x
-    has_hit e k = rw k (sym (or-true f) ∙ rw e at has_next)
-
-    -- If the next byte is no such byte, the invariant holds after it with the same flag.
-    pub has_miss : beq (eqb (get_or s j 0) b) is ≡ false → g ≡ f → (g || has is b (slice (j + 1) to s)) ≡ x
-    has_miss e k = rw k (rw e at has_next)
-
-  -- If no bytes are left, the flag is the answer.
-  pub has_done : to ≤ j → f ≡ x
-  has_done h =
-      let short : length (take to s) ≤ j = simp length-take (omega arith) in
-      sym (or-false f) ∙ (rw (drop_of_length-le (take to s) short) at left)
-
--- `u ++ v` has such a byte exactly if `u` or `v` has one.
-has_append : (is : Bool) (b : ℕ) (u v : Bytes) → has is b (u ++ v) ≡ (has is b u || has is b v)
-has_append is b [] v = refl
-has_append is b (a ∷ u) v = rw (has_append is b u v) (sym (or_assoc (beq (eqb a b) is) (has is b u) (has is b v)))
+use Rattle.scan.specs.Find.{PassedOver, first_from}
+use Rattle.std.specs.Prelude.{◌==◌}
+use Rattle.std.specs.List.{list_any}
+use Rattle.std.proofs.lemmas.List.{drop-take}
+use Rattle.std.proofs.lemmas.List.Folds.{list_any-append}
 
 -- If `b` is in `u`, the first `b` in `u ++ v` is the first `b` in `u`.
 index_in : (b : ℕ) (u v : Bytes) → index_of b u < length u → index_of b (u ++ v) ≡ index_of b u
@@ -64,12 +41,13 @@ index_past b (a ∷ u) v h = go (eqb a b) h (index_past b u v)
     go false h i = omega (arith, i (omega arith))
 
 -- If no byte of `u` is `b`, the search in `u` reaches the end.
-has_none : (b : ℕ) (u : Bytes) → has true b u ≡ false → length u ≤ index_of b u
+has_none : (b : ℕ) (u : Bytes) → list_any (λ a. a == b) u ≡ false → length u ≤ index_of b u
 unfolding index_of
 has_none b [] n = omega arith
 has_none b (a ∷ u) n = go (eqb a b) n (has_none b u)
   where
-    go : (x : Bool) → (beq x true || has true b u) ≡ false → (has true b u ≡ false → length u ≤ index_of b u) → suc (length u) ≤ index_after x (index_of b u)
+    go : (x : Bool) → (x || list_any (λ c. c == b) u) ≡ false → (list_any (λ c. c == b) u ≡ false → length u ≤ index_of b u)
+        → suc (length u) ≤ index_after x (index_of b u)
     go true n i = let z : ◌≡◌ {A = ℕ} 0 1 = cc in absurd (omega arith)
     go false n i = omega (arith, i n)
 
@@ -106,26 +84,27 @@ module _ (b : ℕ) (s : Bytes) (at k : ℕ) (p : at ≤ length s) (q : k ≤ len
   first_far r h g = g ∙ first_past b s at (at + k) (omega arith) (omega arith) (omega arith)
 
 -- The first `b` after bytes that were passed over is also the first `b` from `at` on.
-pub first_skipped : (b : ℕ) (s : Bytes) (at to r : ℕ) → PassedOver true b s at to → r ≡ first_from b s to → r ≡ first_from b s at
+pub first_skipped : (b : ℕ) (s : Bytes) (at to r : ℕ) → PassedOver (λ a. a == b) s at to → r ≡ first_from b s to → r ≡ first_from b s at
 first_skipped b s at to r k g =
     g ∙ first_past b s at to k.onward k.inside (omega (arith, size b s at to k.onward k.inside, has_none b (slice at to s) k.none))
 
-module _ (is : Bool) (b : ℕ) (s : Bytes) (at : ℕ) where
+module _ (test : ℕ → Bool) (s : Bytes) (at : ℕ) where
   -- At the start nothing has been passed over.
-  pub skip_none : at ≤ length s → PassedOver is b s at at
+  pub skip_none : at ≤ length s → PassedOver test s at at
   skip_none h = record { onward = omega arith; inside = h; none = rw (slice_empty at s) }
 
-  -- If the next block of `k` bytes has no such byte, it can be passed over.
-  pub skip_block : (i k : ℕ) (x : Bool) → PassedOver is b s at i → k ≤ length s - i → x ≡ has is b (slice i (i + k) s) → x ≡ false
-      → PassedOver is b s at (i + k)
+  -- If no byte of the next block of `k` bytes passes the test, it can be passed over.
+  pub skip_block : (i k : ℕ) (x : Bool) → PassedOver test s at i → k ≤ length s - i → x ≡ list_any test (take (i + k - i) (drop i s)) → x ≡ false
+      → PassedOver test s at (i + k)
   skip_block i k x d h e n =
       let onward = d.onward in
       let inside = d.inside in
       let whole : i ≤ length (take (i + k) s) = rw (length-take-le (i + k) s (omega arith)) (omega arith) in
       let cut = slice_drop (take (i + k) s) at i onward whole in
-      let both = has_append is b (slice at i s) (slice i (i + k) s) in
+      let both = list_any-append test (slice at i s) (slice i (i + k) s) in
+      let size : i + k - i ≡ k = omega arith in
       record {
         onward = omega arith;
         inside = omega arith;
-        none = rw (cut, take-take i (i + k) s (omega arith), both, d.none) (sym e ∙ n);
+        none = rw (cut, take-take i (i + k) s (omega arith), both, d.none, drop-take i k s) (sym (rw size at e) ∙ n);
       }

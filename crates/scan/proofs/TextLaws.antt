@@ -15,7 +15,11 @@ use borrow.Author.Tests.{eq-eqb, ne_eqb}
 use Rattle.format.specs.Bytes.{Bytes, begins, same, all_zero}
 use Rattle.format.proofs.ByteLaws.{begins_true}
 use Rattle.std.proofs.Math.Seq.{slice}
-use Rattle.scan.specs.Find.{has, PassedOver}
+use Rattle.scan.specs.Find.{PassedOver}
+use Rattle.std.specs.Prelude.{not, ◌==◌}
+use Rattle.std.specs.List.{list_any, list_all}
+use Rattle.std.proofs.Common.{◌-◌, take}
+use Rattle.std.proofs.lemmas.List.{take_rest}
 use Rattle.scan.proofs.FindLaws.{slice_drop}
 
 module _ (k : Bytes) (j : ℕ) (s : Bytes) (i : ℕ) (x : Bool) (left : begins (drop j k) (drop i s) ≡ x) where
@@ -67,34 +71,27 @@ pub begins_fits : (k : Bytes) (at : ℕ) (s : Bytes) (x : Bool) (n : ℕ) → x 
 begins_fits k at s x n h e l p q = omega (arith, begins_inside k at s (sym h ∙ e) (omega arith))
 
 -- Zeros at the front do not count: all bytes are zero exactly if the others are.
-zeros_front : (u v : Bytes) → has false 0 u ≡ false → all_zero (u ++ v) ≡ all_zero v
+zeros_front : (u v : Bytes) → list_any (λ b. not (b == 0)) u ≡ false → all_zero (u ++ v) ≡ all_zero v
 zeros_front [] v n = refl
 zeros_front (a ∷ u) v n = go (eqb a 0) n (zeros_front u v)
   where
-    go : (x : Bool) → (beq x false || has false 0 u) ≡ false → (has false 0 u ≡ false → all_zero (u ++ v) ≡ all_zero v)
+    go : (x : Bool) → (not x || list_any (λ b. not (b == 0)) u) ≡ false → (list_any (λ b. not (b == 0)) u ≡ false → all_zero (u ++ v) ≡ all_zero v)
         → x && all_zero (u ++ v) ≡ all_zero v
     go true n i = i n
     go false n i = let z : ◌≡◌ {A = ℕ} 0 1 = cc in absurd (omega arith)
 
-module _ (s : Bytes) (i : ℕ) (x : Bool) (left : all_zero (drop i s) ≡ x) where
-  -- If blocks of zeros are passed over, the bytes after them decide.
-  pub zeros_skipped : (r : ℕ) → PassedOver false 0 s i r → all_zero (drop r s) ≡ x
-  zeros_skipped r k =
-      let cut = slice_drop s i r k.onward k.inside in
-      sym (ap all_zero cut ∙ zeros_front (slice i r s) (drop r s) k.none) ∙ left
+-- If blocks of zeros are passed over, the bytes after them decide.
+zeros_skipped : (s : Bytes) (i r : ℕ) → PassedOver (λ b. not (b == 0)) s i r → all_zero (drop i s) ≡ all_zero (drop r s)
+zeros_skipped s i r k =
+    ap all_zero (slice_drop s i r k.onward k.inside) ∙ zeros_front (slice i r s) (drop r s) k.none
 
-  -- The answer depends on the next byte, and then on the bytes after it.
-  zeros_next : i < length s → eqb (get_or s i 0) 0 && all_zero (drop (i + 1) s) ≡ x
-  zeros_next h = rw (add-one i) (rw (drop-cons s i 0 h) at left)
+-- The test of all bytes, in the words of the library.
+zeros_all : (s : Bytes) → list_all (λ b. b == 0) s ≡ all_zero s
+zeros_all [] = refl
+zeros_all (b ∷ s) = ap (λ (x : Bool). b == 0 && x) (zeros_all s)
 
-  -- If the next byte is not zero, the answer is false.
-  pub zeros_differs : i < length s → (get_or s i 0 ≡ 0 → ⊥) → false ≡ x
-  zeros_differs h n = rw (ne_eqb _ _ n) at (zeros_next h)
-
-  -- If the next byte is zero, the bytes after it decide.
-  pub zeros_step : i < length s → get_or s i 0 ≡ 0 → all_zero (drop (i + 1) s) ≡ x
-  zeros_step h e = rw (eq-eqb _ _ e) at (zeros_next h)
-
-  -- If nothing is left, the answer is true.
-  pub zeros_done : length s ≤ i → true ≡ x
-  zeros_done h = rw (drop_of_length-le s h) at left
+-- If large blocks of zeros are passed over, and then small ones, the bytes after them decide.
+pub zeros_left : (s : Bytes) (large small : ℕ) (x : Bool) → PassedOver (λ b. not (b == 0)) s 0 large → PassedOver (λ b. not (b == 0)) s large small
+    → x ≡ list_all (λ b. b == 0) (take (length s - small) (drop small s)) → x ≡ all_zero s
+zeros_left s large small x p q h =
+    rw take_rest at h ∙ zeros_all (drop small s) ∙ sym (zeros_skipped s large small q) ∙ sym (zeros_skipped s 0 large p)

@@ -1,8 +1,8 @@
 // The search for a byte, and blocks of bytes that are passed over (not blocks of a file). A block is tested without an
 // early exit, so that the compiled code tests many bytes at a time.
-ghost use Rattle.std.specs.Prelude.{◌≤◌, ◌≡◌, length};
-ghost use Rattle.std.proofs.Math.Seq.{slice};
-ghost use Rattle.scan.specs.Find.{has, PassedOver, first_from};
+ghost use Rattle.std.specs.Prelude.{◌≤◌, ◌≡◌, ℕ, Bool, length};
+ghost use Rattle.std.specs.List.{list_any};
+ghost use Rattle.scan.specs.Find.{Computes, PassedOver, first_from};
 
 // Returns where the first `b` at or after an offset is, or the end if there is none. The next eight bytes are tested
 // one by one, since a `b` is often near.
@@ -28,21 +28,23 @@ fn find_far(s: &[u8], at: usize, b: u8) -> usize
     ensures value { result ≡ first_from b s.now at }
     ensures upper_bound { result ≤ length s.now }
 {
-    let large = skip_blocks(s, at, 64, b, true);
-    let small = skip_blocks(s, large, 8, b, true);
+    let large = skip_blocks(s, at, 64, |a| a == b);
+    let small = skip_blocks(s, large, 8, |a| a == b);
     octets::find(s, small, s.len(), b)
 }
 
-// Passes over blocks of `size` bytes while they have no byte that is `b` or, if `is` is false, no byte other than `b`.
-// Returns the offset after them.
-pub(crate) fn skip_blocks(s: &[u8], at: usize, size: usize, b: u8, is: bool) -> usize
+// Passes over blocks of `size` bytes while none of their bytes passes a test. Returns the offset after them.
+pub(crate) fn skip_blocks<F: Fn(u8) -> bool>(s: &[u8], at: usize, size: usize, wanted: F) -> usize
+    ghost test: { ℕ → Bool }
     requires at_in_bounds { at ≤ length s.now }
     requires le_size { 1 ≤ size }
-    ensures { PassedOver is b s.now at result }
+    requires callable { F.IsAlwaysCallable wanted }
+    requires computes { Computes (F.post wanted) test }
+    ensures { PassedOver test s.now at result }
 {
     let mut i = at;
     while size <= s.len() - i {
-        if has_byte(s, i, i + size, b, is) {
+        if has(&s[i..i + size], &wanted) {
             return i;
         }
         i += size;
@@ -50,18 +52,16 @@ pub(crate) fn skip_blocks(s: &[u8], at: usize, size: usize, b: u8, is: bool) -> 
     i
 }
 
-// Whether a byte of `s` from offset `from` up to `to` is `b` or, if `is` is false, is not `b`. Looks at every byte
-// there.
-fn has_byte(s: &[u8], from: usize, to: usize, b: u8, is: bool) -> bool
-    requires from_le_to { from ≤ to }
-    requires to_in_bounds { to ≤ length s.now }
-    ensures { result ≡ has is b (slice from to s.now) }
+// Whether a byte passes a test. Looks at every byte.
+fn has<F: Fn(u8) -> bool>(block: &[u8], wanted: &F) -> bool
+    ghost test: { ℕ → Bool }
+    requires callable { F.IsAlwaysCallable wanted.now }
+    requires computes { Computes (F.post wanted.now) test }
+    ensures { result ≡ list_any test block.now }
 {
     let mut found = false;
-    for j in from..to {
-        if (s[j] == b) == is {
-            found = true;
-        }
+    for b in block {
+        found = found | wanted(*b);
     }
     found
 }

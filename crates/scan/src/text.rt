@@ -1,5 +1,6 @@
 // Tests on bytes.
-ghost use Rattle.std.specs.Prelude.{◌≡◌, drop};
+ghost use Rattle.std.specs.Prelude.{◌≡◌, ◌==◌, drop};
+ghost use Rattle.std.specs.List.{list_all};
 ghost use Rattle.format.specs.Bytes.{begins, same, all_zero};
 
 use crate::find;
@@ -40,23 +41,16 @@ pub fn only_zeros(s: &[u8]) -> bool
     ensures { result ≡ all_zero s.now }
 {
     if s.len() < 8 {
-        return zeros_from(s, 0);
+        return zeros(s);
     }
-    let large = find::skip_blocks(s, 0, 128, 0, false);
-    let small = find::skip_blocks(s, large, 8, 0, false);
-    zeros_from(s, small)
+    let large = find::skip_blocks(s, 0, 128, |b| b != 0);
+    let small = find::skip_blocks(s, large, 8, |b| b != 0);
+    zeros(&s[small..])
 }
 
-// Whether every byte from an offset on is zero, tested byte by byte.
-fn zeros_from(s: &[u8], from: usize) -> bool
-    ensures { result ≡ all_zero (drop from s.now) }
+// Does the same byte by byte.
+fn zeros(s: &[u8]) -> bool
+    ensures { result ≡ list_all (λ b. b == 0) s.now }
 {
-    let mut i = from;
-    while i < s.len() {
-        if s[i] != 0 {
-            return false;
-        }
-        i += 1;
-    }
-    true
+    s.iter().all(|b| *b == 0)
 }
