@@ -13,26 +13,19 @@ use Rattle.octets.specs.Octets.{index_of}
 use Rattle.std.proofs.Math.Seq.{slice}
 use Rattle.format.specs.declared.refusal.Refusal.{Refusal}
 use Rattle.format.specs.declared.layout.Version.{Version}
-use Rattle.format.specs.declared.line.LineEnd.{LineEnd}
+use Rattle.format.specs.declared.layout.Header.{Header as Header·is}
 use Rattle.format.specs.declared.refusal.Reason.TheVariants.{NotAsdf, VersionMalformed, VersionNotOne}
 use Rattle.format.specs.Bytes.{Bytes, begins}
-use Rattle.format.specs.Outcome.{refused, refusal}
+use Rattle.format.specs.Outcome.{Outcome, accepted, refused, refusal}
 use Rattle.format.specs.Line.{lines}
 use Rattle.format.specs.Numeral.{is_numeral, numeral, both, numerals, split}
 use Rattle.format.specs.Header as Header
 use Rattle.format.proofs.PartLaws.{part_all}
 use Rattle.format.proofs.NumeralLaws.{digits_append, joined, AreParts, split_parts}
 use Rattle.scan.specs.declared.line.Line.{Line}
-use Rattle.scan.specs.declared.line.Line.TheVariants.{Ended, Unended}
 use Rattle.scan.specs.Line.{LineRead}
-use Rattle.scan.specs.declared.number.Number.{Number}
-use Rattle.scan.specs.declared.number.Number.TheVariants.{Value, Malformed}
 use Rattle.scan.specs.Number.{NumeralRead}
 use Rattle.scan.proofs.LineLaws.{unended_lines, ended_first}
-use Rattle.front.specs.declared.step.VersionStep.{VersionStep}
-use Rattle.front.specs.declared.step.VersionStep.TheVariants as VersionStep·is
-use Rattle.front.specs.declared.step.HeaderStep.TheVariants.{Read, Refused}
-use Rattle.front.specs.Step.{version_found, header_outcome}
 use Rattle.scan.proofs.SplitLaws.{others, split_found, others_none, others_some}
 
 -- If there are numbers, then there are `n` of them.
@@ -89,7 +82,7 @@ last_part p q z (u ∷ v ∷ ps) a =
     ∙ sym (rw (← a.whole, point_none u (joined 46 (v ∷ ps)), both_none, both_none))
 
 -- A number of at most four digits fits into 16 bits.
-pub part_fits : (p : Bytes) (r : Number) (x : ℕ) → NumeralRead p 4 r → r ≡ Value x → Fits w16 x
+pub part_fits : (p : Bytes) (r : Option ℕ) (x : ℕ) → NumeralRead p 4 r → r ≡ Some x → Fits w16 x
 part_fits p r x read e = let few = rw e at read.small in omega arith
 
 module _ (t : Bytes) (first : ℕ) (f : first ≡ 0 + index_of 46 (slice 0 (length t) t)) where
@@ -98,8 +91,8 @@ module _ (t : Bytes) (first : ℕ) (f : first ≡ 0 + index_of 46 (slice 0 (leng
   first_part = let all : first - 0 ≡ first = omega arith in rw all at (split_found 46 t 0 first f)
 
   -- If `t` has no point, then it is no version.
-  pub version_one : first ≡ length t → version_found VersionStep·is.Malformed ≡ Header.version t
-  unfolding version_found Header.version
+  pub version_one : first ≡ length t → None ≡ Header.version t
+  unfolding Header.version
   version_one e = rw (first_part, others_none 46 t first e) (sym (not_three _ (λ z. omega arith)))
 
   module _ (n : first ≡ length t → ⊥) (h : first ≤ length t) (second : ℕ) (g : second ≡ first + 1 + index_of 46 (slice (first + 1) (length t) t)) where
@@ -108,8 +101,8 @@ module _ (t : Bytes) (first : ℕ) (f : first ≡ 0 + index_of 46 (slice 0 (leng
     two_parts = first_part ∙ ap (λ (ps : List Bytes). take first t ∷ ps) (others_some 46 t first (omega arith) ∙ split_found 46 t (first + 1) second g)
 
     -- If `t` has only one point, then it is no version.
-    pub version_two : second ≡ length t → version_found VersionStep·is.Malformed ≡ Header.version t
-    unfolding version_found Header.version
+    pub version_two : second ≡ length t → None ≡ Header.version t
+    unfolding Header.version
     version_two e = rw (two_parts, others_none 46 t second e) (sym (not_three _ (λ z. omega arith)))
 
     module _ (n' : second ≡ length t → ⊥) (h' : second ≤ length t) where
@@ -124,66 +117,66 @@ module _ (t : Bytes) (first : ℕ) (f : first ≡ 0 + index_of 46 (slice 0 (leng
       three_parts =
           rw (two_parts, others_some 46 t second (omega arith), part_all t (second + 1)) (last_part _ _ _ _ (split_parts 46 _))
 
-      module _ (a : Number) (major : NumeralRead (take first t) 4 a) where
+      module _ (a : Option ℕ) (major : NumeralRead (take first t) 4 a) where
         -- If the first part is no number, then `t` is no version.
-        pub version_major : a ≡ Malformed → version_found VersionStep·is.Malformed ≡ Header.version t
-        unfolding version_found Header.version_of numerals both
-        version_major e = sym (three_parts ∙ rw (← major.is, e))
+        pub version_major : a ≡ None → (v : Option Version) → v ≡ None → v ≡ Header.version t
+        unfolding Header.version_of numerals both
+        version_major e v n = n ∙ sym (three_parts ∙ rw (← major.is, e))
 
-        module _ (x : ℕ) (d : a ≡ Value x) (b : Number) (minor : NumeralRead (take (second - (first + 1)) (drop (first + 1) t)) 4 b) where
+        module _ (x : ℕ) (d : a ≡ Some x) (b : Option ℕ) (minor : NumeralRead (take (second - (first + 1)) (drop (first + 1) t)) 4 b) where
           -- If the second part is no number, then `t` is no version.
-          pub version_minor : b ≡ Malformed → version_found VersionStep·is.Malformed ≡ Header.version t
-          unfolding version_found Header.version_of numerals both
-          version_minor e = sym (three_parts ∙ rw (← major.is, ← minor.is, d, e))
+          pub version_minor : b ≡ None → (v : Option Version) → v ≡ None → v ≡ Header.version t
+          unfolding Header.version_of numerals both
+          version_minor e v n = n ∙ sym (three_parts ∙ rw (← major.is, ← minor.is, d, e))
 
-          module _ (y : ℕ) (e : b ≡ Value y) (c : Number) (patch : NumeralRead (take (length t - (second + 1)) (drop (second + 1) t)) 4 c) where
+          module _ (y : ℕ) (e : b ≡ Some y) (c : Option ℕ) (patch : NumeralRead (take (length t - (second + 1)) (drop (second + 1) t)) 4 c) where
             -- If the third part is no number, then `t` is no version.
-            pub version_patch : c ≡ Malformed → version_found VersionStep·is.Malformed ≡ Header.version t
-            unfolding version_found Header.version_of numerals both
-            version_patch k = sym (three_parts ∙ rw (← major.is, ← minor.is, ← patch.is, d, e, k))
+            pub version_patch : c ≡ None → (v : Option Version) → v ≡ None → v ≡ Header.version t
+            unfolding Header.version_of numerals both
+            version_patch k v n = n ∙ sym (three_parts ∙ rw (← major.is, ← minor.is, ← patch.is, d, e, k))
 
             -- If each part is a number, then these three numbers are the version.
-            pub version_read : (z : ℕ) → c ≡ Value z → version_found (VersionStep·is.Read (record { major = x; minor = y; patch = z })) ≡ Header.version t
-            unfolding version_found Header.version_of numerals both
+            pub version_read : (z : ℕ) → c ≡ Some z → Some (record { major = x; minor = y; patch = z }) ≡ Header.version t
+            unfolding Header.version_of numerals both
             version_read z k = sym (three_parts ∙ rw (← major.is, ← minor.is, ← patch.is, d, e, k))
 
 module _ (s : Bytes) (b : Bool) (h : b ≡ begins Header.token s) where
   -- If the file does not begin with the token, then it is refused with number 2 at place 0.
-  pub header_token : (y : Refusal) → not b ≡ true → y ≡ refusal NotAsdf 0 → header_outcome (Refused y) ≡ Header.header s
-  unfolding header_outcome Header.header
+  pub header_token : (y : Refusal) → not b ≡ true → y ≡ refusal NotAsdf 0 → refused y ≡ Header.header s
+  unfolding Header.header
   header_token y p q = rw (← h, not-true b p) (ap refused q)
 
-  module _ (p : not b ≡ false) (r : Line) (read : LineRead s 6 r) where
+  module _ (p : not b ≡ false) (r : Option Line) (read : LineRead s 6 r) where
     -- If the file begins with the token, then the line of the version follows and decides the header.
     header_line : Header.header s ≡ Header.version_line (lines (drop 6 s))
     unfolding Header.header
     header_line = rw (← h, not-false b p)
 
     -- If that line does not end, then the header is refused with number 3 at place 6.
-    pub header_unended : (y : Refusal) → r ≡ Unended → y ≡ refusal VersionMalformed 6 → header_outcome (Refused y) ≡ Header.header s
-    unfolding header_outcome Header.version_line
-    header_unended y e q = rw (header_line, unended_lines s 6 r read e) (ap refused q)
+    pub header_unended : (y : Refusal) → r ≡ None → y ≡ refusal VersionMalformed 6 → (x : Outcome Header·is) → x ≡ refused y → x ≡ Header.header s
+    unfolding Header.version_line
+    header_unended y e q x h = rw (header_line, unended_lines s 6 r read e) (h ∙ ap refused q)
 
-    module _ (m next : ℕ) (ending : LineEnd) (e : r ≡ Ended m next ending) (v : VersionStep) (k : version_found v ≡ Header.version (take (m - 6) (drop 6 s))) where
+    module _ (l : Line) (e : r ≡ Some l) (v : Option Version) (k : v ≡ Header.version (take (l.text_end - 6) (drop 6 s))) where
       -- If that line ends, then the header is the one with the version in that line.
-      header_version : Header.header s ≡ Header.header_of (version_found v) ending next
+      header_version : Header.header s ≡ Header.header_of v l.ending l.next
       unfolding Header.version_line
       header_version =
-          let first = ended_first s 6 r read m next ending e in
+          let first = ended_first s 6 r read l e in
           header_line ∙ rw (first.cut, k, ← first.next_is)
 
       -- If the line is no version, then the header is refused with number 3 at place 6.
-      pub header_malformed : (y : Refusal) → v ≡ VersionStep·is.Malformed → y ≡ refusal VersionMalformed 6 → header_outcome (Refused y) ≡ Header.header s
-      unfolding header_outcome Header.header_of version_found
-      header_malformed y d q = rw (header_version, d) (ap refused q)
+      pub header_malformed : (y : Refusal) → v ≡ None → y ≡ refusal VersionMalformed 6 → (x : Outcome Header·is) → x ≡ refused y → x ≡ Header.header s
+      unfolding Header.header_of
+      header_malformed y d q x h = rw (header_version, d) (h ∙ ap refused q)
 
-      module _ (w : Version) (d : v ≡ VersionStep·is.Read w) where
+      module _ (w : Version) (d : v ≡ Some w) where
         -- If the first number of the version is not 1, then the header is refused with number 4 at place 6.
-        pub header_other : (y : Refusal) → (w.major ≡ 1 → ⊥) → y ≡ refusal VersionNotOne 6 → header_outcome (Refused y) ≡ Header.header s
-        unfolding header_outcome Header.header_of version_found
+        pub header_other : (y : Refusal) → (w.major ≡ 1 → ⊥) → y ≡ refusal VersionNotOne 6 → refused y ≡ Header.header s
+        unfolding Header.header_of
         header_other y n q = rw (header_version, d, ne_eqb w.major 1 n) (ap refused q)
 
         -- If the first number of the version is 1, then the header is read.
-        pub header_read : w.major ≡ 1 → header_outcome (Read (record { version = w; line_end = ending; end = record { 0 = next } })) ≡ Header.header s
-        unfolding header_outcome Header.header_of version_found
+        pub header_read : w.major ≡ 1 → accepted (record { version = w; line_end = l.ending; end = record { 0 = l.next } }) ≡ Header.header s
+        unfolding Header.header_of
         header_read n = rw (header_version, d, eq-eqb w.major 1 n)

@@ -4,5 +4,4 @@
 
 pub mod comments;
 pub mod header;
-pub mod step;
 pub mod tree;

@@ -6,8 +6,8 @@ use Rattle.format.specs.Line.{lines}
 use Rattle.format.specs.Comments.{comments}
 use Rattle.front.proofs.comments.comments_end.Given as goal
 
-abbrev pub invariant-loop-text_end : goal.invariant-loop-text_end
-invariant-loop-text_end l = comments l.at (lines (drop l.at l.s)) ≡ comments l.from (lines (drop l.from l.s))
+abbrev pub invariant-loop-line : goal.invariant-loop-line
+invariant-loop-line l = comments l.at (lines (drop l.at l.s)) ≡ comments l.from (lines (drop l.from l.s))
 
-abbrev pub decreases-loop-text_end : goal.decreases-loop-text_end
-decreases-loop-text_end l = length l.s - l.at
+abbrev pub decreases-loop-line : goal.decreases-loop-line
+decreases-loop-line l = length l.s - l.at

@@ -1,29 +1,25 @@
 -- Each test refuses what the definition refuses, in the same order.
 use Rattle.std.proofs.Common.{rules}
-use Rattle.scan.proofs.LineLaws.{ended_begin, ended_end}
 use Rattle.front.proofs.HeaderLaws.{header_token, header_unended, header_malformed, header_other, header_read}
 use Rattle.front.proofs.header.read_header.Goals as goal
 
 pub returns-then-not-begins_at : goal.returns-then-not-begins_at
 returns-then-not-begins_at c = search (header_token, rules)
 
-pub returns-in_default : goal.returns-in_default
-returns-in_default c = search (header_unended, rules)
+pub returns-in_err-line : goal.returns-in_err-line
+returns-in_err-line c =
+    let none = c.in_err-line.ensures.ok_part in
+    let is = rw none at c.in_err-line.ensures.value in
+    search (header_unended, none, is, rules)
 
-pub slice_bounds-read_version-count : goal.slice_bounds-read_version-count
-slice_bounds-read_version-count c = search (ended_begin, rules)
-
-pub slice_bounds-read_version-start : goal.slice_bounds-read_version-start
-slice_bounds-read_version-start c = search (ended_begin, rules)
-
-pub slice_bounds-read_version-end : goal.slice_bounds-read_version-end
-slice_bounds-read_version-end c = search (ended_end, rules)
-
-pub returns-in_default-read_version : goal.returns-in_default-read_version
-returns-in_default-read_version c = search (header_malformed, rules)
+pub returns-in_err-version : goal.returns-in_err-version
+returns-in_err-version c =
+    let none = c.in_err-version.ensures.ok_part in
+    let is = rw none at c.in_err-version.ensures.value in
+    search (header_malformed, none, is, c.in_ok-line.ensures.ok_part, rules)
 
 pub returns-then-version-ne1 : goal.returns-then-version-ne1
-returns-then-version-ne1 c = search (header_other, rules)
+returns-then-version-ne1 c = search (header_other, c.in_ok-line.ensures.ok_part, c.in_ok-version.ensures.ok_part, rules)
 
 pub returns : goal.returns
-returns c = search (header_read, rules)
+returns c = search (header_read, c.in_ok-line.ensures.ok_part, c.in_ok-version.ensures.ok_part, rules)

@@ -13,16 +13,16 @@ returns-then-second-n c = search (version_two, rules)
 pub slice_bounds-numeral-end : goal.slice_bounds-numeral-end
 slice_bounds-numeral-end c = search (length-take-le, rules)
 
-pub returns-in_default : goal.returns-in_default
-returns-in_default c = search (version_major, rules)
+pub returns-in_err-major : goal.returns-in_err-major
+returns-in_err-major c = search (version_major, c.in_err-major.was, rules)
 
-pub returns-in_default-numeral : goal.returns-in_default-numeral
-returns-in_default-numeral c =
-    version_minor c.args.t.now _ c.find-first.ensures.value (search rules) (search rules) _ c.find-second.ensures.value (search rules) (search rules) _ c.numeral.ensures _ c.in-Value.is _ c.numeral-2.ensures (search rules)
+pub returns-in_err-minor : goal.returns-in_err-minor
+returns-in_err-minor c =
+    version_minor c.args.t.now _ c.find-first.ensures.value (search rules) (search rules) _ c.find-second.ensures.value (search rules) (search rules) _ c.numeral.ensures _ c.in_ok-major.was _ c.numeral-2.ensures c.in_err-minor.was _ (search rules)
 
-pub returns-in_default-numeral-2 : goal.returns-in_default-numeral-2
-returns-in_default-numeral-2 c =
-    version_patch c.args.t.now _ c.find-first.ensures.value (search rules) (search rules) _ c.find-second.ensures.value (search rules) (search rules) _ c.numeral.ensures _ c.in-Value.is _ c.numeral-2.ensures _ c.in-Value-numeral.is _ c.numeral-3.ensures (search rules)
+pub returns-in_err-patch : goal.returns-in_err-patch
+returns-in_err-patch c =
+    version_patch c.args.t.now _ c.find-first.ensures.value (search rules) (search rules) _ c.find-second.ensures.value (search rules) (search rules) _ c.numeral.ensures _ c.in_ok-major.was _ c.numeral-2.ensures _ c.in_ok-minor.was _ c.numeral-3.ensures c.in_err-patch.was _ (search rules)
 
 pub overflow_cast-result : goal.overflow_cast-result
 overflow_cast-result c = search (part_fits, rules)
@@ -34,4 +34,5 @@ pub overflow_cast-result-3 : goal.overflow_cast-result-3
 overflow_cast-result-3 c = search (part_fits, rules)
 
 pub returns : goal.returns
-returns c = search (version_read, rules)
+returns c =
+    version_read c.args.t.now _ c.find-first.ensures.value (search rules) (search rules) _ c.find-second.ensures.value (search rules) (search rules) _ c.numeral.ensures _ c.in_ok-major.was _ c.numeral-2.ensures _ c.in_ok-minor.was _ c.numeral-3.ensures _ c.in_ok-patch.was

@@ -6,8 +6,8 @@ use Rattle.front.proofs.tree.read_tree.Goals as goal
 pub returns-in_default : goal.returns-in_default
 returns-in_default c = search (tree_none, rules)
 
-pub returns-in-Refused : goal.returns-in-Refused
-returns-in-Refused c = search (tree_refused, rules)
+pub returns-in_err-end : goal.returns-in_err-end
+returns-in_err-end c = search (tree_refused, c.in_err-end.was, rules)
 
-pub returns-in-At : goal.returns-in-At
-returns-in-At c = search (tree_read, rules)
+pub returns : goal.returns
+returns c = search (tree_read, c.in_ok-end.was, rules)

@@ -1,2 +1,0 @@
--- The definitions that the contracts of the front cite.
-pub mod Step
