@@ -1,25 +1,12 @@
--- Laws about the lists of numbers in which a file, a block and a row are reported.
-use Prim.Native.Nat.{ℕ}
-use Rattle.std.specs.Prelude.{None}
-use Rattle.std.specs.Prelude.{Option}
-use mathlib.Core.Path.{◌≡◌, refl}
-use mathlib.Core.List.{List, [], ◌∷◌, ◌++◌}
-use lib.ListN.{get_or}
+-- Laws about the lists of numbers in which a file and a block are reported.
+use Rattle.std.proofs.Common.{◌≡◌, ℕ, List, [], ◌∷◌, ◌++◌, get_or, refl, Option, None, Some}
 use Rattle.format.specs.declared.block.Record.{Record}
 use Rattle.format.specs.declared.block.Inner.{Inner}
 use Rattle.format.specs.declared.block.Inner.TheVariants.{Plain, Opened, Refused, TooDeep}
 use Rattle.format.specs.declared.layout.Layout.{Layout}
 use Rattle.format.specs.declared.layout.Tree.{Tree}
-use Rattle.format.specs.declared.offset.Offset.{Offset}
-use Rattle.format.specs.declared.refusal.Refusal.{Refusal}
-use Rattle.format.specs.declared.row.Row.{Row}
-use Rattle.format.specs.Bytes.{bit}
-use Rattle.format.specs.Fields.{block_fields, layout_fields, line_end_number, record_fields, refusal_fields, row_fields, tree_fields, verdict_number}
+use Rattle.format.specs.Fields.{block_fields, layout_fields, line_end_number, record_fields, refusal_fields, tree_fields, verdict_number}
 use Rattle.format.specs.Outline.{inner_number}
-
--- If an inner state is refused, then its two numbers are the number and the place of the refusal.
-pub fields_refused : (i : Inner) (r : Refusal) → i ≡ Refused r → r.number ∷ r.place.0 ∷ [] ≡ refusal_fields i
-fields_refused i r h = rw h
 
 -- A list that begins with numbers 0 and 1 of `refusal_fields i` begins with all of `refusal_fields i`.
 two_fields : (i : Inner) (others : List ℕ) → get_or (refusal_fields i) 0 0 ∷ get_or (refusal_fields i) 1 0 ∷ others ≡ refusal_fields i ++ others
@@ -37,21 +24,11 @@ pub record_numbers : (r : Record) (two ten : List ℕ) → two ≡ refusal_field
 unfolding record_fields
 record_numbers r two ten f g at inner e h = rw (f, g, e, h, two_fields r.inner (block_fields r.block))
 
--- The numbers of a row are its fields, with its offset and its three flags as numbers.
-pub row_numbers : (r : Row) (at streamed compressed checksum : ℕ) → at ≡ r.at.0 → streamed ≡ bit r.streamed
-    → compressed ≡ bit r.compressed → checksum ≡ bit r.checksum
-    → r.depth ∷ r.ordinal ∷ at ∷ r.header_size ∷ r.allocated ∷ r.used ∷ streamed ∷ compressed ∷ checksum ∷ r.inner ∷ [] ≡ row_fields r
-row_numbers r at streamed compressed checksum a s c k = rw (a, s, c, k)
-
--- If a tree is found, then its numbers are 1, its start, its end and the end of its room.
-pub tree_found : (t : Option Tree) (a e m : Offset) → t ≡ Found a e m → 1 ∷ a.0 ∷ e.0 ∷ m.0 ∷ [] ≡ tree_fields t
-tree_found t a e m h = rw h
-
 -- A list that begins with numbers 0 to 3 of `tree_fields t` begins with all of `tree_fields t`.
 four_fields : (t : Option Tree) (others : List ℕ)
     → get_or (tree_fields t) 0 0 ∷ get_or (tree_fields t) 1 0 ∷ get_or (tree_fields t) 2 0 ∷ get_or (tree_fields t) 3 0 ∷ others ≡ tree_fields t ++ others
 four_fields None others = refl
-four_fields (Found a e m) others = refl
+four_fields (Some t) others = refl
 
 -- The numbers of a layout contain the four numbers of its tree, between the end of the comments and the number of
 -- blocks.

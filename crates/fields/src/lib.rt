@@ -1,10 +1,8 @@
 // The lists of numbers in which a file, a block and a row are reported.
 #![tactic(auto)]
 
-ghost use Rattle.std.specs.Prelude.{◌<◌, ◌≡◌};
-ghost use Rattle.format.specs.Bytes.{bit as Bytes·bit};
+ghost use Rattle.std.specs.Prelude.{◌≡◌};
 ghost use Rattle.format.specs.Fields.{block_fields, layout_fields, line_end_number, record_fields, refusal_fields, row_fields, tree_fields, verdict_number};
-ghost use Rattle.format.specs.Outline.{inner_number};
 
 use format::block::{Block, Inner, Record};
 use format::layout::{Layout, Tree, Verdict};
@@ -18,37 +16,30 @@ pub fn layout_fields(l: Layout) -> [u64; 12]
 {
     let header = l.header;
     let version = header.version;
-    let line_end = header.line_end;
-    let tree = l.tree;
-    let verdict = l.verdict;
-    let four = tree_fields(tree);
+    let [found, start, end, room_end] = tree_fields(l.tree);
     [
         version.major as u64,
         version.minor as u64,
         version.patch as u64,
         header.end.0,
         l.comments_end.0,
-        four[0],
-        four[1],
-        four[2],
-        four[3],
+        found,
+        start,
+        end,
+        room_end,
         l.blocks as u64,
-        verdict_number(verdict),
-        line_end_number(line_end),
+        verdict_number(l.verdict),
+        line_end_number(header.line_end),
     ]
 }
 
 // Returns whether there is a tree, its start, its end and the end of its room.
-fn tree_fields(t: Tree) -> [u64; 4]
-    ensures { result ≡ tree_fields t }
+fn tree_fields(tree: Option<Tree>) -> [u64; 4]
+    ensures { result ≡ tree_fields tree }
 {
-    match t {
-        Tree::NoTree => [0, 0, 0, 0],
-        Tree::Found {
-            start,
-            end,
-            room_end,
-        } => [1, start.0, end.0, room_end.0],
+    match tree {
+        None => [0, 0, 0, 0],
+        Some(t) => [1, t.start.0, t.end.0, t.room_end.0],
     }
 }
 
@@ -56,22 +47,14 @@ fn tree_fields(t: Tree) -> [u64; 4]
 fn verdict_number(v: Verdict) -> u64
     ensures { result ≡ verdict_number v }
 {
-    match v {
-        Verdict::Absent => 0,
-        Verdict::Good => 1,
-        Verdict::IgnoredForm => 2,
-        Verdict::IgnoredList => 3,
-    }
+    v as u64
 }
 
 // Returns the number of the header's line end.
 fn line_end_number(e: LineEnd) -> u64
     ensures { result ≡ line_end_number e }
 {
-    match e {
-        LineEnd::Lf => 0,
-        LineEnd::Crlf => 1,
-    }
+    e as u64
 }
 
 // Returns the numbers of a block: its ordinal, offset, header size, flags, compression, sizes and checksum.
@@ -92,27 +75,13 @@ pub fn block_fields(b: Block) -> [u64; 10]
     ]
 }
 
-// Returns the number of an inner state.
-pub fn inner_number(inner: Inner) -> u8
-    ensures { result ≡ inner_number inner }
-{
-    match inner {
-        Inner::Plain => 0,
-        Inner::Opened => 1,
-        Inner::Refused(_) => 2,
-        Inner::TooDeep => 3,
-    }
-}
-
 // Returns the number and the place of an inner file's refusal, or zeros if there is none.
 fn refusal_fields(inner: Inner) -> [u64; 2]
     ensures { result ≡ refusal_fields inner }
 {
     match inner {
-        Inner::Plain => [0, 0],
-        Inner::Opened => [0, 0],
-        Inner::Refused(r) => [r.number as u64, r.place.0],
-        Inner::TooDeep => [0, 0],
+        Inner::Refused(r) => [r.reason.number() as u64, r.place.0],
+        Inner::Plain | Inner::Opened | Inner::TooDeep => [0, 0],
     }
 }
 
@@ -121,26 +90,35 @@ fn refusal_fields(inner: Inner) -> [u64; 2]
 pub fn record_fields(r: Record) -> [u64; 15]
     ensures { result ≡ record_fields r }
 {
-    let b = r.block;
-    let inner = r.inner;
-    let refusal = refusal_fields(inner);
-    let block = block_fields(b);
+    let [reason, place] = refusal_fields(r.inner);
+    let [
+        ordinal,
+        at,
+        header_size,
+        flags,
+        compression,
+        allocated,
+        used,
+        data_size,
+        high,
+        low,
+    ] = block_fields(r.block);
     [
         r.depth as u64,
         r.at.number(),
-        inner_number(inner) as u64,
-        refusal[0],
-        refusal[1],
-        block[0],
-        block[1],
-        block[2],
-        block[3],
-        block[4],
-        block[5],
-        block[6],
-        block[7],
-        block[8],
-        block[9],
+        r.inner.kind().number() as u64,
+        reason,
+        place,
+        ordinal,
+        at,
+        header_size,
+        flags,
+        compression,
+        allocated,
+        used,
+        data_size,
+        high,
+        low,
     ]
 }
 
@@ -156,16 +134,9 @@ pub fn row_fields(r: Row) -> [u64; 10]
         r.header_size as u64,
         r.allocated,
         r.used,
-        bit(r.streamed),
-        bit(r.compressed),
-        bit(r.checksum),
-        r.inner as u64,
+        u64::from(r.streamed),
+        u64::from(r.compressed),
+        u64::from(r.checksum),
+        r.inner.number() as u64,
     ]
-}
-
-// Returns a flag as a number: 1 if it is set, otherwise 0.
-pub fn bit(b: bool) -> u64
-    ensures { (result ≡ Bytes·bit b) × (result < 2) }
-{
-    if b { 1 } else { 0 }
 }
