@@ -1,6 +1,7 @@
 -- What a block's content is, and what is kept of a file in it.
 use Rattle.std.specs.Prelude.{◌≡◌, ℕ, zero, suc, ◌+◌, ◌-◌, ◌≤◌, Bool, true, false, not, ◌&&◌, List, [], drop, ◌≢◌, nat_le}
 use Rattle.format.specs.declared.block.Record.{Record}
+use Rattle.format.specs.declared.block.Inner.{Inner}
 use Rattle.format.specs.declared.block.Inner.TheVariants.{TooDeep, Plain}
 use Rattle.format.specs.Bytes.{Bytes, begins}
 use Rattle.format.specs.Header.{token}
@@ -42,6 +43,10 @@ pub record Opens (depth : ℕ) (compressed : Bool) (t : Bytes) (offsets : List �
 unfoldable pub content_table : ℕ → Bool → Bytes → List ℕ → List ℕ
 content_table depth compressed t before =
     elim (not compressed && begins token t && not (nat_le deepest depth)) [ true ↦ offset_table before (file t) | false ↦ before ]
+
+-- What is found about content that is not opened.
+abbrev pub closed_found : Inner → Found
+closed_found i = record { inner = i; blocks = 0 }
 
 -- `found` is what was found about the content `t` of a block at this depth. This changed the table of offsets from
 -- `before` to `after`.

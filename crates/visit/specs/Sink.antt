@@ -1,5 +1,5 @@
 -- What is done with the blocks of a walk, which come one after another.
-use Rattle.std.specs.Prelude.{◌≡◌, ℕ, ◌*◌, true, false, List, [], ◌∷◌, length, ◌==◌}
+use Rattle.std.specs.Prelude.{Option, None, Some, ◌≡◌, ℕ, ◌*◌, true, false, List, [], ◌∷◌, length, ◌==◌}
 use mathlib.Core.List.{flat_map}
 use Rattle.format.specs.declared.block.Inner.{Inner}
 use Rattle.format.specs.declared.block.Record.{Record}
@@ -12,12 +12,17 @@ use Rattle.blocks.specs.Again.{block_again}
 use Rattle.visit.specs.declared.sink.Form.{Form}
 use Rattle.visit.specs.declared.sink.Form.TheVariants.{Rows, Table, One}
 use Rattle.visit.specs.declared.sink.Place.{Place}
-use Rattle.visit.specs.declared.sink.Place.TheVariants.{Nowhere, Row, Numbers}
+use Rattle.visit.specs.declared.sink.Place.TheVariants.{Row, Numbers}
+use Rattle.visit.specs.declared.sink.Reached.{Reached}
 
 -- The record of block `i`, read again from `t`, which begins with it. The block is at offset `n` of its file and at
 -- `here` of the outermost file, and its inner state is `inner`.
 abbrev pub block_record : ℕ → OutermostOffset → ℕ → ℕ → Bytes → Inner → Record
 block_record depth here i n t inner = record { depth = depth; at = here; block = block_again i n t; inner = inner }
+
+-- The record of a block that the walk has reached, with this inner state.
+abbrev pub reached_record : Reached → Inner → Record
+reached_record b inner = block_record b.depth b.here b.ordinal b.at b.bytes.now inner
 
 -- What is put for every record. In the form `One` these are no bytes: `delivery` states what is put for the wanted
 -- record.
@@ -59,7 +64,7 @@ pub record Delivered (form : Form) (n : ℕ) (before : Bytes) (rs : List Record)
   pub buffer : after ≡ put_all form n before rs
 
 -- What must be put of record number `n` into a buffer of `room` bytes, and where.
-abbrev pub PlaceIs : Form → ℕ → ℕ → Place → Type 0
-PlaceIs form n room Nowhere = (out : Bytes) (r : Record) → length out ≡ room → out ≡ placed out (n * width form) (delivery form n r)
-PlaceIs form n room (Row p) = (out : Bytes) (r : Record) → placed out p (encode_row (row_of r)) ≡ placed out (n * width form) (delivery form n r)
-PlaceIs form n room (Numbers p) = (out : Bytes) (r : Record) → placed out p (encode_record r) ≡ placed out (n * width form) (delivery form n r)
+abbrev pub PlaceIs : Form → ℕ → ℕ → Option Place → Type 0
+PlaceIs form n room None = (out : Bytes) (r : Record) → length out ≡ room → out ≡ placed out (n * width form) (delivery form n r)
+PlaceIs form n room (Some (Row p)) = (out : Bytes) (r : Record) → placed out p (encode_row (row_of r)) ≡ placed out (n * width form) (delivery form n r)
+PlaceIs form n room (Some (Numbers p)) = (out : Bytes) (r : Record) → placed out p (encode_record r) ≡ placed out (n * width form) (delivery form n r)

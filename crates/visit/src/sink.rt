@@ -5,16 +5,17 @@ ghost use Rattle.std.specs.Prelude.{◌≡◌, ℕ, ◌*◌, [], ◌∷◌};
 ghost use Rattle.format.specs.Fields.{encode_record};
 ghost use Rattle.format.specs.Lent.{placed};
 ghost use Rattle.format.specs.Outline.{row_of};
-ghost use Rattle.visit.specs.Sink.{Delivered, PlaceIs, delivery, block_record, width};
+ghost use Rattle.visit.specs.Sink.{Delivered, PlaceIs, delivery, reached_record, width};
 
 use blocks::again;
-use fields::inner_number;
 use format::block::{Inner, Record};
 use format::limits::{RECORD_BYTES, ROW_BYTES};
 use format::offset::OutermostOffset;
 use format::row::Row;
 use outline::row;
 
+// What is wanted of the blocks. It stays an enum: the walk is the same for all three and is compiled once, and a trait
+// with three types would say no more than the three arms of each match.
 #[derive(Clone, Copy)]
 pub enum Form {
     // A row is put for each block. If the buffer is too short for a row, blocks are only counted.
@@ -25,10 +26,23 @@ pub enum Form {
     One(u64),
 }
 
+// A block that the walk has reached.
+#[derive(Clone, Copy)]
+pub struct Reached<'a> {
+    // The rest of its file, which begins with it.
+    pub bytes: &'a [u8],
+    // Its number in its file, and its first byte there.
+    pub ordinal: u8,
+    pub at: usize,
+    // How many files surround its file.
+    pub depth: u8,
+    // Its first byte, in the outermost file.
+    pub here: OutermostOffset,
+}
+
 // What is put of a block, and where.
 #[derive(Clone, Copy)]
 enum Place {
-    Nowhere,
     // Its row, at this offset.
     Row(usize),
     // The numbers of its record, at this offset.
@@ -47,112 +61,82 @@ pub fn width_of(form: Form) -> u64
     }
 }
 
-// Takes the block that `t` begins with as number `n`, and returns the number of the next block.
-pub fn take_block(
-    form: Form,
-    n: u64,
-    t: &[u8],
-    ordinal: u8,
-    at: usize,
-    depth: u8,
-    here: OutermostOffset,
-    inner: Inner,
-    out: &mut [u8],
-) -> u64
-    ensures { Delivered form n out.old (block_record depth here ordinal at t.now inner ∷ []) out.new result }
+// Takes a block as number `n`, and returns the number of the next block.
+pub fn take_block(form: Form, n: u64, block: Reached<'_>, inner: Inner, out: &mut [u8]) -> u64
+    ensures { Delivered form n out.old (reached_record block.entry inner ∷ []) out.new result }
 {
-    put_entry(form, n, t, ordinal, at, depth, here, inner, out);
-    std::num::wrapping_add_u64(n, 1)
+    put_entry(form, n, block, inner, out);
+    n.wrapping_add(1)
 }
 
 // Puts what the form wants of the block. If it does not fit, nothing changes.
-fn put_entry(
-    form: Form,
-    n: u64,
-    t: &[u8],
-    ordinal: u8,
-    at: usize,
-    depth: u8,
-    here: OutermostOffset,
-    inner: Inner,
-    out: &mut [u8],
-)
-    ensures { out.new ≡ placed out.old (n * width form) (delivery form n (block_record depth here ordinal at t.now inner)) }
+fn put_entry(form: Form, n: u64, block: Reached<'_>, inner: Inner, out: &mut [u8])
+    ensures { out.new ≡ placed out.old (n * width form) (delivery form n (reached_record block.entry inner)) }
 {
     match place_of(form, n, out.len()) {
-        Place::Nowhere => {}
-        Place::Row(place) => {
-            row::put_row(out, place, row_of(t, ordinal, depth, here, inner));
+        None => {}
+        Some(Place::Row(place)) => {
+            row::put_row(out, place, row_of(block, inner));
         }
-        Place::Numbers(place) => {
-            put_record(out, place, t, ordinal, at, depth, here, inner);
+        Some(Place::Numbers(place)) => {
+            put_record(out, place, block, inner);
         }
     }
 }
 
-// Returns what is put of block number `n` in a buffer of `room` bytes, and where.
-fn place_of(form: Form, n: u64, room: usize) -> Place
+// Returns what is put of block number `n` in a buffer of `room` bytes, and where, if anything is put.
+fn place_of(form: Form, n: u64, room: usize) -> Option<Place>
     ensures { PlaceIs form n room result }
 {
     match form {
         Form::Rows => {
             if (room / ROW_BYTES) as u64 <= n {
-                return Place::Nowhere;
+                return None;
             }
-            Place::Row(n as usize * ROW_BYTES)
+            Some(Place::Row(n as usize * ROW_BYTES))
         }
         Form::Table => {
             if (room / RECORD_BYTES) as u64 <= n {
-                return Place::Nowhere;
+                return None;
             }
-            Place::Numbers(n as usize * RECORD_BYTES)
+            Some(Place::Numbers(n as usize * RECORD_BYTES))
         }
         Form::One(wanted) => {
             if wanted != n {
-                return Place::Nowhere;
+                return None;
             }
-            Place::Numbers(0)
+            Some(Place::Numbers(0))
         }
     }
 }
 
-// Returns the row of the block that `t` begins with. It does not depend on where the block is in its own file.
-fn row_of(t: &[u8], ordinal: u8, depth: u8, here: OutermostOffset, inner: Inner) -> Row
-    ensures { (at : ℕ) → result ≡ row_of (block_record depth here ordinal at t.now inner) }
+// Returns the row of a block. It does not depend on where the block is in its own file.
+fn row_of(block: Reached<'_>, inner: Inner) -> Row
+    ensures { result ≡ row_of (reached_record block.entry inner) }
 {
-    let b = again::summary_of(t);
+    let b = again::summary_of(block.bytes);
     Row {
-        depth,
+        depth: block.depth,
         streamed: b.streamed,
         compressed: b.compressed,
         checksum: b.checksum,
-        inner: inner_number(inner),
-        ordinal,
+        inner: inner.kind(),
+        ordinal: block.ordinal,
         header_size: b.header_size,
-        at: here,
+        at: block.here,
         allocated: b.allocated,
         used: b.used,
     }
 }
 
-// Puts the record of the block that `t` begins with as numbers at offset `place`. If they do not fit, nothing changes.
-fn put_record(
-    out: &mut [u8],
-    place: usize,
-    t: &[u8],
-    ordinal: u8,
-    at: usize,
-    depth: u8,
-    here: OutermostOffset,
-    inner: Inner,
-)
-    ensures { out.new ≡ placed out.old place (encode_record (block_record depth here ordinal at t.now inner)) }
+// Puts the record of a block as numbers at offset `place`. If they do not fit, nothing changes.
+fn put_record(out: &mut [u8], place: usize, block: Reached<'_>, inner: Inner)
+    ensures { out.new ≡ placed out.old place (encode_record (reached_record block.entry inner)) }
 {
-    let block = again::block_of(t, ordinal, at);
     let numbers = fields::record_fields(Record {
-        depth,
-        at: here,
-        block,
+        depth: block.depth,
+        at: block.here,
+        block: again::block_of(block.bytes, block.ordinal, block.at),
         inner,
     });
     put::put_numbers(out, place, &numbers);

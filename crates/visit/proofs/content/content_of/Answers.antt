@@ -12,8 +12,8 @@ returns-then-not-begins_at c = search (content_plain, rules)
 pub returns-then-depth-ge-DEEPEST : goal.returns-then-depth-ge-DEEPEST
 returns-then-depth-ge-DEEPEST c = search (content_deep, rules)
 
-pub returns-in-Refused : goal.returns-in-Refused
-returns-in-Refused c = search (content_refused, rules)
+pub returns-in-Err : goal.returns-in-Err
+returns-in-Err c = search (content_refused, rules)
 
-pub returns-in-Accepted : goal.returns-in-Accepted
-returns-in-Accepted c = search (content_opened, rules)
+pub returns-in-Ok : goal.returns-in-Ok
+returns-in-Ok c = search (content_opened, rules)

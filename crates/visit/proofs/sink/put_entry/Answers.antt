@@ -3,11 +3,11 @@ use Rattle.std.proofs.Common.{rules}
 use Rattle.visit.proofs.SinkLaws.{put_nowhere, put_row, put_numbers}
 use Rattle.visit.proofs.sink.put_entry.Goals as goal
 
-pub returns-in-Nowhere : goal.returns-in-Nowhere
-returns-in-Nowhere c = search (put_nowhere, rules)
+pub returns-in-None : goal.returns-in-None
+returns-in-None c = search (put_nowhere, rules)
 
 pub returns-in-Row : goal.returns-in-Row
-returns-in-Row c = search (put_row, rules, c.row_of.ensures)
+returns-in-Row c = search (put_row, rules)
 
 pub returns-in-Numbers : goal.returns-in-Numbers
 returns-in-Numbers c = search (put_numbers, rules)

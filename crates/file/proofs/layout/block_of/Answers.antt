@@ -1,7 +1,7 @@
--- `file::layout::kept_block` meets its contract: the block of a kept offset is the block that is read there.
+-- `file::layout::block_of` meets its contract: the block of a kept offset is the block that is read there.
 use Rattle.std.proofs.Common.{rules}
 use Rattle.file.proofs.KeptLaws.{kept_none, kept_room, kept_inside, kept_again}
-use Rattle.file.proofs.layout.kept_block.Goals as goal
+use Rattle.file.proofs.layout.block_of.Goals as goal
 
 pub returns-then-blocks-ordinal : goal.returns-then-blocks-ordinal
 returns-then-blocks-ordinal c = search (kept_none, rules)
