@@ -8,6 +8,7 @@ use Rattle.format.specs.Bytes.{Bytes}
 use Rattle.format.specs.Outcome.{accepted, refused}
 use Rattle.format.specs.Block.{is_compressed, content_start, sound_block}
 use Rattle.format.specs.Nest.{Inside, records}
+use Rattle.visit.specs.declared.sink.Reached.{Reached}
 use Rattle.visit.specs.Content.{inside_of}
 
 -- The content of the block `b`, with which `t` begins.
@@ -26,6 +27,10 @@ record_of depth here b inner = record { depth = depth; at = here; block = b; inn
 -- of its file and at `here` of the outermost file.
 abbrev pub records_at : ℕ → OutermostOffset → ℕ → ℕ → Bytes → List Record
 records_at depth here i n t = let b = sound_block i n t in let inside = inside_at depth here b t in record_of depth here b inside.state ∷ inside.records
+
+-- The same for a block that the walk has reached.
+abbrev pub reached_records : Reached → List Record
+reached_records b = records_at b.depth b.here b.ordinal b.at b.bytes.now
 
 -- All records of an accepted outermost file.
 unfoldable pub all_records : Bytes → List Record

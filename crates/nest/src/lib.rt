@@ -9,11 +9,11 @@ ghost use Rattle.format.specs.File.{layout as File·layout};
 ghost use Rattle.format.specs.Nest.{record_count, record_at};
 ghost use Rattle.format.specs.Outcome.{accepted};
 ghost use Rattle.format.specs.Promise.{Written, OutlineWritten};
-ghost use Rattle.file.specs.Layout.{Kept};
 ghost use Rattle.visit.specs.Sink.{all_encoded, width};
 ghost use Rattle.nest.specs.Walk.{all_records};
 
-use file::layout::read_into;
+use file::layout::open;
+use file::open::OpenFile;
 use format::answer::OutlinedAnswer;
 use format::limits::{LEAST_BLOCK, MOST_BLOCKS, RECORD_BYTES};
 use format::refusal::{Reason, Refusal};
@@ -27,11 +27,9 @@ const OWN_BYTES: usize = MOST_BLOCKS * RECORD_BYTES;
 pub fn count(s: &[u8]) -> Result<u64, Refusal>
     ensures { result ≡ record_count s.now }
 {
-    let mut offsets = [0u64; MOST_BLOCKS];
-    match read_into(s, &mut offsets) {
-        Err(r) => Err(r),
-        Ok(l) => Ok(count_in(s, &offsets, l.blocks)),
-    }
+    let mut table = [0u64; MOST_BLOCKS];
+    let (_, file) = open(s, &mut table)?;
+    Ok(count_in(file))
 }
 
 // Writes the outline of a file: a row of sixteen bytes for each block.
@@ -43,19 +41,19 @@ pub fn outline(s: &[u8], out: &mut [u8]) -> Result<u64, Refusal>
 
 // Does the same and also returns the layout, so that the file is judged only once.
 pub fn outline_with_layout(s: &[u8], out: &mut [u8]) -> OutlinedAnswer
-    ensures layout_value { result.layout ≡ File·layout s.now }
-    ensures outline_written { OutlineWritten s.now out.old out.new result.written }
+    ensures layout { result.layout ≡ File·layout s.now }
+    ensures written { OutlineWritten s.now out.old out.new result.written }
 {
-    let mut offsets = [0u64; MOST_BLOCKS];
-    match read_into(s, &mut offsets) {
+    let mut table = [0u64; MOST_BLOCKS];
+    match open(s, &mut table) {
         Err(r) => OutlinedAnswer {
             layout: Err(r),
             written: Err(r),
         },
-        Ok(l) => {
-            let written = write(s, &offsets, l.blocks, Form::Rows, out);
+        Ok((layout, file)) => {
+            let written = write(file, Form::Rows, out);
             OutlinedAnswer {
-                layout: Ok(l),
+                layout: Ok(layout),
                 written,
             }
         }
@@ -66,41 +64,33 @@ pub fn outline_with_layout(s: &[u8], out: &mut [u8]) -> OutlinedAnswer
 pub fn records(s: &[u8], out: &mut [u8]) -> Result<u64, Refusal>
     ensures { Written (record_table s.now) out.old out.new result }
 {
-    let mut offsets = [0u64; MOST_BLOCKS];
-    match read_into(s, &mut offsets) {
-        Err(r) => Err(r),
-        Ok(l) => write(s, &offsets, l.blocks, Form::Table, out),
-    }
+    let mut table = [0u64; MOST_BLOCKS];
+    let (_, file) = open(s, &mut table)?;
+    write(file, Form::Table, out)
 }
 
 // Writes the record with this number, in 120 bytes, or nothing if there is no such record.
 pub fn record(s: &[u8], wanted: u64, out: &mut [u8]) -> Result<u64, Refusal>
     ensures { Written (found_bytes record_fields (record_at s.now wanted)) out.old out.new result }
 {
-    let mut offsets = [0u64; MOST_BLOCKS];
-    match read_into(s, &mut offsets) {
-        Err(r) => Err(r),
-        Ok(l) => write_one(s, &offsets, l.blocks, wanted, out),
-    }
+    let mut table = [0u64; MOST_BLOCKS];
+    let (_, file) = open(s, &mut table)?;
+    write_one(file, wanted, out)
 }
 
-// Returns how many records an accepted file has. They are put nowhere, because a buffer of one byte is too short for a
-// row.
-fn count_in(s: &[u8], offsets: &[u64], blocks: u8) -> u64
-    requires { Kept s.now offsets.now blocks }
-    ensures { result ≡ length (all_records s.now) }
+// Returns how many records a file has. They are put nowhere, because a buffer of one byte is too short for a row.
+fn count_in(file: OpenFile<'_>) -> u64
+    ensures { result ≡ length (all_records file.entry.bytes.now) }
 {
     let mut nothing = [0u8; 1];
-    walk::walk_all(s, offsets, blocks, Form::Rows, &mut nothing)
+    walk::walk_all(file, Form::Rows, &mut nothing)
 }
 
-// Writes the record with this number of an accepted file. One walk is enough: if the record does not fit, the walk
-// changes nothing.
-fn write_one(s: &[u8], offsets: &[u64], blocks: u8, wanted: u64, out: &mut [u8]) -> Result<u64, Refusal>
-    requires { Kept s.now offsets.now blocks }
-    ensures { Written (found_bytes record_fields (record_at s.now wanted)) out.old out.new result }
+// Writes the record with this number. One walk is enough: if the record does not fit, the walk changes nothing.
+fn write_one(file: OpenFile<'_>, wanted: u64, out: &mut [u8]) -> Result<u64, Refusal>
+    ensures { Written (found_bytes record_fields (record_at file.entry.bytes.now wanted)) out.old out.new result }
 {
-    let n = walk::walk_all(s, offsets, blocks, Form::One(wanted), out);
+    let n = walk::walk_all(file, Form::One(wanted), out);
     if n <= wanted {
         return Ok(0);
     }
@@ -110,37 +100,35 @@ fn write_one(s: &[u8], offsets: &[u64], blocks: u8, wanted: u64, out: &mut [u8])
     Ok(RECORD_BYTES as u64)
 }
 
-// Writes what is wanted of each block of an accepted file. A block has a minimum size, so the length of the file limits
-// how many blocks there can be. If the buffer is long enough for that many, one walk is enough.
-fn write(s: &[u8], offsets: &[u64], blocks: u8, form: Form, out: &mut [u8]) -> Result<u64, Refusal>
-    requires kept { Kept s.now offsets.now blocks }
-    requires bound { 1 ≤ width form }
-    ensures { Written (accepted (all_encoded form (all_records s.now))) out.old out.new result }
+// Writes what is wanted of each block. A block has a minimum size, so the length of the file limits how many blocks
+// there can be. If the buffer is long enough for that many, one walk is enough.
+fn write(file: OpenFile<'_>, form: Form, out: &mut [u8]) -> Result<u64, Refusal>
+    requires { 1 ≤ width form }
+    ensures { Written (accepted (all_encoded form (all_records file.entry.bytes.now))) out.old out.new result }
 {
     let each = sink::width_of(form);
-    if out.len() as u64 / each < (s.len() / LEAST_BLOCK) as u64 {
-        return write_measured(s, offsets, blocks, form, out);
+    if out.len() as u64 / each < (file.bytes.len() / LEAST_BLOCK) as u64 {
+        return write_measured(file, form, out);
     }
-    let n = walk::walk_all(s, offsets, blocks, form, out);
+    let n = walk::walk_all(file, form, out);
     Ok(each * n)
 }
 
 // Does the same if the buffer might be too short. The first walk counts and writes into a buffer of its own, so that a
 // refusal changes nothing. If everything fitted into that buffer, no second walk is needed.
-fn write_measured(s: &[u8], offsets: &[u64], blocks: u8, form: Form, out: &mut [u8]) -> Result<u64, Refusal>
-    requires kept { Kept s.now offsets.now blocks }
-    requires bound { 1 ≤ width form }
-    ensures { Written (accepted (all_encoded form (all_records s.now))) out.old out.new result }
+fn write_measured(file: OpenFile<'_>, form: Form, out: &mut [u8]) -> Result<u64, Refusal>
+    requires { 1 ≤ width form }
+    ensures { Written (accepted (all_encoded form (all_records file.entry.bytes.now))) out.old out.new result }
 {
     let each = sink::width_of(form);
     let mut own = [0u8; OWN_BYTES];
-    let n = walk::walk_all(s, offsets, blocks, form, &mut own);
+    let n = walk::walk_all(file, form, &mut own);
     if out.len() as u64 / each < n {
         return Err(Refusal::new(Reason::BufferTooShort, 0));
     }
     let own_most = OWN_BYTES as u64 / each;
     if own_most < n {
-        walk::walk_all(s, offsets, blocks, form, out);
+        walk::walk_all(file, form, out);
         return Ok(each * n);
     }
     hand_over(&own, each * n, out)
@@ -148,8 +136,8 @@ fn write_measured(s: &[u8], offsets: &[u64], blocks: u8, form: Form, out: &mut [
 
 // Puts the first `size` bytes of a buffer at the start of another, which has room for them.
 fn hand_over(own: &[u8], size: u64, out: &mut [u8]) -> Result<u64, Refusal>
-    requires size_in_bounds { size ≤ length own.now }
-    requires size_in_bounds_2 { size ≤ length out.old }
+    requires own { size ≤ length own.now }
+    requires room { size ≤ length out.old }
     ensures { Written (accepted (take size own.now)) out.old out.new result }
 {
     let end = size as usize;

@@ -1,106 +1,102 @@
 // The walk. The reader of a block's content and the walker along the blocks call each other. Every file is judged once,
 // when it is opened. From then on the walk follows the offsets that were kept when it was judged.
-ghost use Rattle.std.specs.Prelude.{◌+◌, ◌≤◌, length};
+ghost use Rattle.std.specs.Prelude.{◌+◌, ◌≤◌, ◌≡◌, length};
 ghost use Rattle.format.specs.Block.{Sound};
 ghost use Rattle.format.specs.File.{most_bytes};
 ghost use Rattle.format.specs.Nest.{deepest};
 ghost use Rattle.file.specs.Layout.{Kept};
 ghost use Rattle.visit.specs.Content.{file_records};
 ghost use Rattle.visit.specs.Sink.{Delivered};
-ghost use Rattle.nest.specs.Walk.{records_at, all_records};
+ghost use Rattle.nest.specs.Walk.{reached_records, all_records};
 
 use blocks::again;
+use file::open::OpenFile;
 use format::limits::MOST_BLOCKS;
 use format::offset::{Offset, OutermostOffset};
-use visit::sink::Form;
+use visit::sink::{Form, Reached};
 use visit::{content, sink};
 
-// Walks all blocks of an accepted file. `offsets` holds where each of its `blocks` blocks begins.
-pub(crate) fn walk_all(s: &[u8], offsets: &[u64], blocks: u8, form: Form, out: &mut [u8]) -> u64
-    requires { Kept s.now offsets.now blocks }
-    ensures { Delivered form 0 out.old (all_records s.now) out.new result }
+// Walks all blocks of an accepted file.
+pub(crate) fn walk_all(file: OpenFile<'_>, form: Form, out: &mut [u8]) -> u64
+    ensures { Delivered form 0 out.old (all_records file.entry.bytes.now) out.new result }
 {
-    walk_blocks(
-        s,
-        offsets,
-        blocks,
-        0,
-        OutermostOffset::start(),
-        form,
-        0,
-        out,
-    )
+    walk_blocks(file, 0, OutermostOffset::start(), form, 0, out)
 }
 
 // Walks the blocks of a file at this depth. The file's first byte is at `start` of the outermost file.
 #[cycle(walk_blocks_walk_content)]
 fn walk_blocks(
-    s: &[u8],
-    offsets: &[u64],
-    blocks: u8,
+    file: OpenFile<'_>,
     depth: u8,
     start: OutermostOffset,
     form: Form,
     number: u64,
     out: &mut [u8],
 ) -> u64
-    requires kept { Kept s.now offsets.now blocks }
-    requires depth_le_deepest { depth ≤ deepest }
-    requires s_bound { start.0 + length s.now ≤ most_bytes }
-    ensures { Delivered form number out.old (file_records depth start.0 s.now) out.new result }
+    requires depth { depth ≤ deepest }
+    requires inside { start.0 + length file.entry.bytes.now ≤ most_bytes }
+    ensures { Delivered form number out.old (file_records depth start.0 file.entry.bytes.now) out.new result }
 {
     // One table serves all inner files, because each is finished before the next is opened.
     let mut inside = [0u64; MOST_BLOCKS];
     let mut n = number;
-    let mut k: u8 = 0;
-    while k < blocks {
-        let at = offsets[k as usize] as usize;
-        let here = Offset(at as u64).outermost(start);
-        n = walk_content(&s[at..], k, at, depth, here, &mut inside, form, n, out);
-        k += 1;
+    'blocks: for k in 0..file.offsets.len() {
+        let at = file.offsets[k] as usize;
+        let block = Reached {
+            bytes: &file.bytes[at..],
+            ordinal: k as u8,
+            at,
+            depth,
+            here: Offset(at as u64).outermost(start),
+        };
+        n = walk_content(block, &mut inside, form, n, out);
     }
     n
 }
 
-// Takes the block that `t` begins with, and after it the blocks inside. The block is at `here` of the outermost file
-// and at offset `at` of its own file. The record is made at one point of the code only, so that the compiler can build
-// it in place.
+// Takes a block, and after it the blocks inside. The record is made at one point of the code only, so that the compiler
+// can build it in place.
 #[cycle(walk_blocks_walk_content)]
 fn walk_content(
-    t: &[u8],
-    ordinal: u8,
-    at: usize,
-    depth: u8,
-    here: OutermostOffset,
+    block: Reached<'_>,
     offsets: &mut [u64; MOST_BLOCKS],
     form: Form,
     number: u64,
     out: &mut [u8],
 ) -> u64
-    requires sound { Sound t.now }
-    requires depth_le_deepest { depth ≤ deepest }
-    requires t_bound { here.0 + length t.now ≤ most_bytes }
-    ensures { Delivered form number out.old (records_at depth here ordinal at t.now) out.new result }
+    requires sound { Sound block.entry.bytes.now }
+    requires depth { block.entry.depth ≤ deepest }
+    requires inside { block.entry.here.0 + length block.entry.bytes.now ≤ most_bytes }
+    ensures { Delivered form number out.old (reached_records block.entry) out.new result }
 {
-    let c = again::content_of(t);
+    let c = again::content_of(block.bytes);
     let from = c.from;
     let to = c.to;
-    let part = &t[from..to];
-    let found = content::content_of(part, c.compressed, depth, offsets);
-    let inner = found.inner;
-    let n = sink::take_block(form, number, t, ordinal, at, depth, here, inner, out);
+    let part = &block.bytes[from..to];
+    let found = content::content_of(part, c.compressed, block.depth, offsets);
+    let n = sink::take_block(form, number, block, found.inner, out);
     if found.blocks == 0 {
         return n;
     }
-    let content = Offset(from as u64).outermost(here);
+    let content = Offset(from as u64).outermost(block.here);
     walk_blocks(
-        part,
-        offsets,
-        found.blocks,
-        depth + 1,
+        opened(part, offsets, found.blocks),
+        block.depth + 1,
         content,
         form,
         n,
         out,
     )
+}
+
+// Makes an open file of an accepted one with this many blocks, which begin at the first offsets of the table.
+fn opened<'a>(bytes: &'a [u8], table: &'a [u64], blocks: u8) -> OpenFile<'a>
+    requires { Kept bytes.now table.now blocks }
+    ensures bytes { result.bytes.now ≡ bytes.now }
+    ensures blocks { length result.offsets.now ≡ blocks }
+{
+    OpenFile {
+        bytes,
+        offsets: &table[..blocks as usize],
+    }
 }

@@ -5,7 +5,7 @@ use Rattle.std.proofs.KnownBytes.{Consumes-trans}
 use Rattle.std.specs.Io.KnownBytes.{Consumes}
 use borrow.Rule.Slice.PartMut.{put_mid, post_of}
 use Rattle.std.proofs.Math.Seq.{take-add, take-append-le}
-use Rattle.list.proofs.read_full.Goals as goal
+use Rattle.report.proofs.read_full.Goals as goal
 
 -- Bytes `xs` that are put at `a` follow the first `a` bytes of `ys`.
 take_put : (a k n : ℕ) (ys xs : List ℕ) → a ≤ length ys → n ≤ length xs → take a ys ++ take n xs ≡ take (a + n) (put_mid a k ys xs)
