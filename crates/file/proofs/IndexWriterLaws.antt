@@ -7,7 +7,7 @@ use mathlib.Core.List.{List, [], ◌∷◌}
 use Rattle.std.specs.Prelude.{Some}
 use lib.ListN.{length, take, drop, get_or}
 use Rattle.std.specs.Prelude.{slice_get}
-use lib.Seq.{length-take-le}
+use lib.Seq.{take-length}
 use borrow.Author.Tests.{le-leb}
 use mir.Syntax.{w8}
 use mir.Val.{Fits}
@@ -29,9 +29,11 @@ use Rattle.format.proofs.WriterLaws.{index_good, index_short}
 use Rattle.format.proofs.PartLaws.{part_all}
 use Rattle.blocks.specs.Again.{streamed_again}
 use Rattle.blocks.proofs.AgainLaws.{sound_streamed}
+use Rattle.file.specs.Open.{file_offsets}
+use Rattle.file.specs.Opened.{EndsAs}
 use Rattle.file.specs.Layout.{Kept}
-use Rattle.file.proofs.KeptLaws.{Each, kept_each, kept_room}
-use Rattle.file.proofs.LayoutLaws.{file_refused}
+use Rattle.file.proofs.KeptLaws.{Each, kept_each}
+use Rattle.file.proofs.LayoutLaws.{file_refused, open_is_kept}
 use Rattle.format.specs.Promise.{Written, IndexWritten}
 use Rattle.put.proofs.WrittenLaws.{written_refused, Taken, written_taken}
 use Rattle.index.specs.Text.{offsets_index}
@@ -45,71 +47,65 @@ last_decides (a ∷ []) (suc j) b n h = absurd (omega arith)
 last_decides (a ∷ c ∷ bs) zero b n h = absurd (omega arith)
 last_decides (a ∷ c ∷ bs) (suc j) b n h = last_decides (c ∷ bs) j b (omega arith) h
 
-module _ (s : Bytes) (kept : List ℕ) (count : ℕ) (h : Kept s kept count) where
+module _ (s : Bytes) (out : List ℕ) (is_open : file_offsets s ≡ accepted out) where
+  -- What is kept of an open file.
+  h : Kept s out (length out)
+  h = open_is_kept s out is_open
+
   -- If the blocks may have an index, it lists the offsets that are kept; otherwise the index is refused with 22.
   index_is : (b : Bool) → may_have_index h.f.blocks ≡ b
-      → index_for s ≡ elim b [ true ↦ accepted (index_text h.f.header.line_end (take count kept)) | false ↦ refused (refusal NoIndexPossible 0) ]
+      → index_for s ≡ elim b [ true ↦ accepted (index_text h.f.header.line_end out) | false ↦ refused (refusal NoIndexPossible 0) ]
   unfolding index_for
-  index_is true e = rw (index_for, h.is, e, h.begin)
+  index_is true e = rw (index_for, h.is, e, ← h.begin, take-length)
   index_is false e = rw (index_for, h.is, e)
 
-  -- The file's header is the header of the layout that is reported.
-  same_header : (l : Layout) → layout s ≡ accepted l → h.f.header ≡ l.header
+  -- The file's header ends as that of the layout that is reported.
+  same_ending : (l : Layout) → layout s ≡ accepted l → h.f.header ≡ l.header
   unfolding layout layout_of
-  same_header l told = cc (rw (h.is, layout) at told)
+  same_ending l told = cc (rw (h.is, layout) at told)
 
   -- If the file has no block, the index is refused with 22.
-  pub no_block : count ≡ 0 → (out : Bytes) (x : Outcome ℕ) → x ≡ refused (refusal NoIndexPossible 0) → Written (index_for s) out out x
+  pub no_block : length out ≡ 0 → (before : Bytes) (x : Outcome ℕ) → x ≡ refused (refusal NoIndexPossible 0) → Written (index_for s) before before x
   unfolding may_have_index
-  no_block p out = written_refused (index_for s) out (refusal NoIndexPossible 0) (index_is false (none_may h.f.blocks (h.count ∙ p)))
+  no_block p before = written_refused (index_for s) before (refusal NoIndexPossible 0) (index_is false (none_may h.f.blocks (h.count ∙ p)))
     where
       none_may : (bs : List Block) → length bs ≡ 0 → may_have_index bs ≡ false
       none_may [] q = refl
       none_may (b ∷ bs) q = absurd (omega arith)
 
-  module _ (p : count ≡ 0 → ⊥) where
-    -- The table keeps where the last block begins.
-    last_each : Each s h.f.blocks (count - 1) (get_or kept (count - 1) 0)
-    last_each = kept_each h (omega arith)
+  -- There are no more blocks than a file may have, so the index of their offsets is accepted.
+  part_index : (k : LineEnd) → offsets_index k out ≡ accepted (index_text k out)
+  unfolding offsets_index
+  part_index k =
+      let few = blocks_few most_blocks 0 (blocks_start h.f) _ (drop (blocks_start h.f) s) (file_parts s h.f h.is).chain_read in
+      rw (offsets_index, le-leb (length out) most_blocks (omega (arith, h.count)))
 
-    pub last_room : count - 1 < length kept
-    last_room = kept_room h (omega arith)
+  module _ (n : ℕ) (p : 0 < length out) (last : n ≡ get_or out (length out - 1) 0) where
+    -- The table keeps where the last block begins.
+    last_each : Each s h.f.blocks (length out - 1) n
+    last_each = rw last (kept_each h (omega arith))
 
     -- The last block begins inside the file.
-    pub last_inside : get_or kept (count - 1) 0 ≤ length s
+    pub last_inside : n ≤ length s
     last_inside = last_each.inside
 
-    -- The table keeps where all blocks begin.
-    pub all_kept : count ≤ length kept
-    all_kept = omega (arith, last_room)
-
-    -- The part of the table that is taken has `count` offsets. A file may have that many blocks, so their index is
-    -- accepted (the next law).
-    pub part_length : length (take count kept) ≡ count
-    part_length = length-take-le count kept all_kept
-
-    part_index : (k : LineEnd) → offsets_index k (take count kept) ≡ accepted (index_text k (take count kept))
-    unfolding offsets_index
-    part_index k =
-        let few = blocks_few most_blocks 0 (blocks_start h.f) _ (drop (blocks_start h.f) s) (file_parts s h.f h.is).chain_read in
-        rw (offsets_index, le-leb (length (take count kept)) most_blocks (omega (arith, part_length, h.count)))
-
-    module _ (x : Bool) (read : x ≡ streamed_again (take (length s - get_or kept (count - 1) 0) (drop (get_or kept (count - 1) 0) s))) where
+    module _ (x : Bool) (read : x ≡ streamed_again (take (length s - n) (drop n s))) where
       -- The last block's header, read again, tells whether there may be an index.
       last_may : (t : Bool) → not x ≡ t → may_have_index h.f.blocks ≡ t
       last_may t q =
           let told : x ≡ is_streamed last_each.b.flags
           = rw (read, part_all) (sound_streamed _ last_each.is.sound) ∙ ap is_streamed (sym last_each.is.same_flags) in
-          last_decides h.f.blocks (count - 1) last_each.b (omega (arith, h.count)) last_each.found ∙ ap not (sym told) ∙ q
+          last_decides h.f.blocks (length out - 1) last_each.b (omega (arith, h.count)) last_each.found ∙ ap not (sym told) ∙ q
 
       -- If the last block is streamed, the index is refused with 22.
-      pub last_streamed : x ≡ true → (out : Bytes) (y : Outcome ℕ) → y ≡ refused (refusal NoIndexPossible 0) → Written (index_for s) out out y
-      last_streamed q out = written_refused (index_for s) out (refusal NoIndexPossible 0) (index_is false (last_may false (rw q)))
+      pub last_streamed : x ≡ true → (before : Bytes) (y : Outcome ℕ) → y ≡ refused (refusal NoIndexPossible 0) → Written (index_for s) before before y
+      last_streamed q before = written_refused (index_for s) before (refusal NoIndexPossible 0) (index_is false (last_may false (rw q)))
 
       -- If the last block is not streamed, writing the index of the kept offsets is writing the index of the file.
-      pub last_plain : x ≡ false → (l : Layout) → layout s ≡ accepted l → (k : LineEnd) → k ≡ l.header.line_end
-          → (out after : Bytes) (y : Outcome ℕ) → Written (offsets_index k (take count kept)) out after y → Written (index_for s) out after y
-      last_plain q l told k e out after y w = rw (index_is true (last_may true (rw q)), same_header l told, ← e) (rw (part_index k) at w)
+      pub last_plain : x ≡ false → (k : LineEnd) → EndsAs s k → (before after : Bytes) (y : Outcome ℕ) → Written (offsets_index k out) before after y
+          → Written (index_for s) before after y
+      last_plain q k ends before after y w =
+          rw (index_is true (last_may true (rw q)), same_ending ends.l ends.read, ← ends.is) (rw (part_index k) at w)
 
 -- What is written is a good index, and it is short enough.
 module _ (s : Bytes) (known : (i : ℕ) → Fits w8 (get_or s i 0)) where
@@ -127,8 +123,11 @@ module _ (s : Bytes) (known : (i : ℕ) → Fits w8 (get_or s i 0)) where
       taken n e = written_taken (index_for s) out after n (rw e at w)
 
   -- If the file is refused, its refusal is the answer, and nothing is written.
-  pub index_refused : (a : Outcome Layout) → a ≡ layout s → (r : Refusal) → a ≡ refused r → (out : Bytes)
-      → IndexWritten s out out (refused r)
+  pub index_refused : (r : Refusal) → layout s ≡ refused r → (out : Bytes) → IndexWritten s out out (refused r)
   unfolding index_for
-  index_refused a is r e out =
-      index_written out out (refused r) (written_refused (index_for s) out r (rw (file_refused s a is r e, index_for)) (refused r) refl)
+  index_refused r e out =
+      index_written out out (refused r) (written_refused (index_for s) out r (rw (file_refused s (layout s) refl r e, index_for)) (refused r) refl)
+
+  -- The same for the bytes of an open file.
+  pub index_open : (t : Bytes) → t ≡ s → (out after : Bytes) (x : Outcome ℕ) → Written (index_for t) out after x → IndexWritten s out after x
+  index_open t same out after x w = index_written out after x (rw same at w)

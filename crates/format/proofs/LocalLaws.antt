@@ -104,7 +104,7 @@ free_before (b ∷ p) y z h = go (begins mark (b ∷ p ++ y)) refl (free_before 
   where
     go : (t : Bool) → begins mark (b ∷ p ++ y) ≡ t → (free_space (p ++ y) ≡ length p → free_space (p ++ (mark ++ z)) ≡ length p)
         → free_space (b ∷ p ++ (mark ++ z)) ≡ suc (length p)
-    go true e i = let None : 0 ≡ suc (length p) = rw (e, free_space) at h in absurd (omega arith)
+    go true e i = let clash : 0 ≡ suc (length p) = rw (e, free_space) at h in absurd (omega arith)
     go false e i =
         let one : suc (free_space (p ++ y)) ≡ suc (length p) = rw (e, free_space) at h in
         rw (mark_apart b p y z e, free_space) (ap suc (i (omega arith)))

@@ -8,11 +8,11 @@ use lib.ListN.{length, length-append}
 use Rattle.format.specs.declared.row.Row.{Row}
 use Rattle.format.specs.Bytes.{Bytes, text, bit}
 use Rattle.format.specs.Numeral.{decimal}
-use Rattle.format.specs.Outline.{sum, row_from, unpacked, decode_row}
+use Rattle.format.specs.Outline.{kind_number, sum, row_from, unpacked, decode_row}
 use Rattle.format.specs.Listing.{sentence, row_text}
 use Rattle.listing.specs.Text.{most_row}
 use Rattle.format.proofs.NumeralLaws.{decimal_is}
-use Rattle.format.proofs.RowLaws.{RowFits, bit_lt}
+use Rattle.format.proofs.RowLaws.{kind_lt, RowFits, bit_lt}
 
 -- How many bytes the numbers take after a word, each with a space before it.
 abbrev digits : List ℕ → ℕ
@@ -34,7 +34,6 @@ row_fits : (b : Bytes) → RowFits (decode_row b)
 unfolding decode_row row_from unpacked sum
 row_fits b = record {
   depth = mod-lt _ (omega arith);
-  inner = mod-lt _ (omega arith);
   ordinal = mod-lt _ (omega arith);
   header_size_lem = mod-lt _ (omega arith);
   at = mod-lt _ (omega arith);
@@ -51,7 +50,7 @@ fitting_short r h =
     let flag3 = bit_lt r.checksum in
     omega (
       arith,
-      line_length (decimal r.depth) (r.ordinal ∷ r.at.0 ∷ r.header_size ∷ r.allocated ∷ r.used ∷ bit r.streamed ∷ bit r.compressed ∷ bit r.checksum ∷ r.inner ∷ []),
+      line_length (decimal r.depth) (r.ordinal ∷ r.at.0 ∷ r.header_size ∷ r.allocated ∷ r.used ∷ bit r.streamed ∷ bit r.compressed ∷ bit r.checksum ∷ kind_number r.inner ∷ []),
       few 1 r.depth (omega arith) (omega (arith, h.depth)),
       few 3 r.ordinal (omega arith) (omega (arith, h.ordinal)),
       few 10 r.at.0 (omega arith) (omega (arith, h.at)),
@@ -61,7 +60,7 @@ fitting_short r h =
       few 1 (bit r.streamed) (omega arith) (omega arith),
       few 1 (bit r.compressed) (omega arith) (omega arith),
       few 1 (bit r.checksum) (omega arith) (omega arith),
-      few 1 r.inner (omega arith) (omega (arith, h.inner)),
+      few 1 (kind_number r.inner) (omega arith) (omega (arith, kind_lt r.inner)),
     )
 
 pub row_short : (b : Bytes) → length (row_text (decode_row b)) ≤ most_row

@@ -2,7 +2,7 @@
 use Prim.Native.Nat.{ℕ, suc, ◌+◌, ◌*◌, ◌-◌, ◌/◌, ◌^◌, ◌≤◌, ◌<◌}
 use Rattle.std.specs.Prelude.{Option}
 use native.Mathlib.Omega.{arith}
-use mathlib.Core.Path.{◌≡◌, refl, ap, ◌∙◌}
+use mathlib.Core.Path.{◌≡◌, refl, sym, ap, ◌∙◌}
 use Rattle.std.specs.Prelude.{None, Some}
 use mathlib.Core.List.{List, [], ◌∷◌, ◌++◌, map, flat_map, append_assoc}
 use lib.ListN.{length, take, drop}
@@ -10,15 +10,16 @@ use lib.Seq.{drop-drop}
 use borrow.Author.Tests.{le-leb}
 use Rattle.format.specs.declared.layout.Tree.{Tree}
 use Rattle.format.specs.declared.layout.Verdict.{Verdict}
-use Rattle.format.specs.declared.offset.Offset.{Offset}
 use Rattle.format.specs.declared.refusal.Refusal.{Refusal}
 use Rattle.format.specs.declared.row.Row.{Row}
 use Rattle.format.specs.Bytes.{Bytes, text}
 use Rattle.format.specs.Fields.{row_fields}
 use Rattle.format.specs.Numeral.{decimal}
-use Rattle.format.specs.Outcome.{Outcome, accepted, refused}
+use Rattle.format.specs.Outcome.{refused}
 use Rattle.format.specs.Outline.{decode_row, row_bytes}
 use Rattle.format.specs.Listing.{sentence, tree_text, row_text, printed}
+use Rattle.format.specs.Reason.{reason_number}
+use Rattle.format.proofs.OutcomeLaws.{none_is_not_some}
 use Rattle.put.specs.Put.{PutWhole, PutAt, PutDecimals, decimals}
 use Rattle.put.proofs.PartLaws.{whole_put, nothing_put, parts_put, put_same, decimals_put_lem}
 use Rattle.outline.specs.Row.{row_at}
@@ -42,7 +43,7 @@ line_put out a b c at p q r start ns one two three =
 
 module _ (out after : Bytes) (x : ℕ) where
   -- The line of a refusal is put.
-  pub refused_put : (r : Refusal) → PutAt out after 0 (line_text (text "refused ") (r.number ∷ r.place.0 ∷ [])) (most_line 8 2) x
+  pub refused_put : (r : Refusal) → PutAt out after 0 (line_text (text "refused ") (reason_number r.reason ∷ r.place.0 ∷ [])) (most_line 8 2) x
       → PutAt out after 0 (printed (refused r)) most_short x
   unfolding printed sentence
   refused_put r = put_same refl (omega arith)
@@ -52,10 +53,10 @@ module _ (out after : Bytes) (x : ℕ) where
   unfolding tree_text sentence
   no_tree_put t e put = rw e (put_same refl (omega arith) (whole_put put))
 
-  pub tree_put : (t : Option Tree) (n e m : Offset) → t ≡ Found n e m → PutAt out after 0 (line_text (text "tree ") (n.0 ∷ e.0 ∷ [])) (most_line 5 2) x
+  pub tree_put : (t : Option Tree) (k : Tree) → t ≡ Some k → PutAt out after 0 (line_text (text "tree ") (k.start.0 ∷ k.end.0 ∷ [])) (most_line 5 2) x
       → PutAt out after 0 (tree_text t) most_short x
   unfolding tree_text sentence
-  tree_put t n e m is put = rw is (put_same refl (omega arith) put)
+  tree_put t k is put = rw is (put_same refl (omega arith) put)
 
   -- The line of a verdict is put.
   pub verdict_put : (at : ℕ) (v w : Verdict) → v ≡ w → PutWhole out after at (verdict_text w) (length (verdict_text w)) x → length (verdict_text w) ≤ most_short
@@ -70,7 +71,7 @@ unfolding row_text
 row_put out after at x r numbers e put = rw e at put
 
 -- The outline `b` holds all bytes of row `k`, and `x` is the answer of the function that reads this row.
-module _ (b : Bytes) (k : ℕ) (h : k * row_bytes + row_bytes ≤ length b) (x : Outcome (Option Row)) (read : x ≡ accepted (row_at b (k * row_bytes))) where
+module _ (b : Bytes) (k : ℕ) (h : k * row_bytes + row_bytes ≤ length b) (x : Option Row) (read : x ≡ row_at b (k * row_bytes)) where
   abbrev here : Row
   here = decode_row (take row_bytes (drop (k * row_bytes) b))
 
@@ -78,29 +79,17 @@ module _ (b : Bytes) (k : ℕ) (h : k * row_bytes + row_bytes ≤ length b) (x :
   unfolding row_at
   is_there = rw (row_at, le-leb (k * row_bytes + row_bytes) (length b) h)
 
-  pub row_at_put : (r : Row) → x ≡ accepted (Some r) → (out after : Bytes) (at y : ℕ) → PutAt out after at (row_text r) (most_line 0 10) y
+  pub row_at_put : (r : Row) → x ≡ Some r → (out after : Bytes) (at y : ℕ) → PutAt out after at (row_text r) (most_line 0 10) y
       → PutAt out after at (row_text (decode_row (take row_bytes (drop (k * row_bytes) b)))) most_row y
-  unfolding row_answer
   row_at_put r e out after at y put =
-      let same : accepted (Some r) ≡ accepted (Some here) = rw e at read ∙ ap accepted is_there in
+      let same : Some r ≡ Some here = sym e ∙ read ∙ is_there in
       let row : r ≡ here = cc in
       let whole = rw row at put in
       record { buffer = whole.buffer; size = whole.size; end = whole.end; few = row_short (take row_bytes (drop (k * row_bytes) b)) }
 
-  -- The row exists, so the answer is neither `NoSuchRow` nor a refusal.
-  pub row_not_none : x ≡ accepted None → (out : Bytes) (at : ℕ) → PutAt out out at (row_text here) most_row at
-  unfolding row_answer
-  row_not_none e out at =
-      let same : accepted None ≡ accepted (Some here) = rw e at read ∙ ap accepted is_there in
-      let z : ◌≡◌ {A = ℕ} 0 1 = cc in
-      absurd (omega arith)
-
-  pub row_not_refused : (r : Refusal) → x ≡ refused r → (out : Bytes) (at : ℕ) → PutAt out out at (row_text here) most_row at
-  unfolding row_answer
-  row_not_refused r e out at =
-      let same : refused r ≡ accepted (Some here) = rw e at read ∙ ap accepted is_there in
-      let z : ◌≡◌ {A = ℕ} 0 1 = cc in
-      absurd (omega arith)
+  -- The row exists, so it is found.
+  pub row_not_none : x ≡ None → (out : Bytes) (at : ℕ) → PutAt out out at (row_text here) most_row at
+  row_not_none e out at = absurd (none_is_not_some here (sym e ∙ read ∙ is_there))
 
 -- The lines of the first `n` rows of an outline are put.
 abbrev PutRows : Bytes → Bytes → ℕ → ℕ → Bytes → ℕ → Type 0
@@ -144,8 +133,8 @@ module _ (before : Bytes) (at : ℕ) (b : Bytes) where
     pub rows_done : length b / row_bytes ≤ k → PutRows before out at (length b / row_bytes) b end
     unfolding flat_map
     rows_done p =
-        let None : length b / row_bytes - k ≡ 0 = omega arith in
-        h.left (rw None (nothing_put h.fits))
+        let no_row : length b / row_bytes - k ≡ 0 = omega arith in
+        h.left (rw no_row (nothing_put h.fits))
 
 -- If the tree, the rows and the verdict are put one after another, all lines of the file are put.
 pub file_put : (out a c after : Bytes) (p q r : ℕ) (t : Option Tree) (b : Bytes) (v : Verdict) → PutAt out a 0 (tree_text t) most_short p

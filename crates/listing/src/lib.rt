@@ -10,6 +10,7 @@ ghost use Rattle.format.specs.Promise.{Listed, ListedLent};
 ghost use Rattle.listing.specs.Listing.{most_outline, BothShort, Outlined, Short};
 ghost use Rattle.listing.specs.Text.{file_text};
 
+use format::answer::OutlinedAnswer;
 use format::layout::Layout;
 use format::limits::{LEAST_BLOCK, ROW_BYTES};
 use format::refusal::{Reason, Refusal};
@@ -38,9 +39,7 @@ pub fn list(s: &[u8], rows: &mut [u8], out: &mut [u8]) -> Result<u64, Refusal>
     }
     let mut own = [0u8; MOST_OUTLINE];
     let found = nest::outline_with_layout(s, &mut own);
-    let answer = found.layout;
-    let written = found.written;
-    list_outlined(s, answer, written, &own, rows, out)
+    list_outlined(s, found, &own, rows, out)
 }
 
 // Does the same as `list`, with buffers that are long enough for every file. The listing is at the start of `out`, and
@@ -67,25 +66,21 @@ fn write_refused(r: Refusal, out: &mut [u8]) -> Result<u64, Refusal>
 // a buffer that is long enough.
 fn list_outlined(
     s: &[u8],
-    answer: Result<Layout, Refusal>,
-    written: Result<u64, Refusal>,
+    found: OutlinedAnswer,
     own: &[u8],
     rows: &mut [u8],
     out: &mut [u8],
 ) -> Result<u64, Refusal>
-    requires s_len_bound { length s.now ≤ most_input }
-    requires outlined { Outlined s.now answer written own.now }
+    requires short { length s.now ≤ most_input }
+    requires outlined { Outlined s.now found.layout found.written own.now }
     ensures { Listed s.now rows.old out.old rows.new out.new result }
 {
-    match answer {
+    match found.layout {
         Err(r) => write_refused(r, out),
-        Ok(l) => match written {
-            Err(r) => Err(r),
-            Ok(n) => {
-                let end = n as usize;
-                write_both(&own[..end], l, rows, out)
-            }
-        },
+        Ok(l) => {
+            let end = found.written? as usize;
+            write_both(&own[..end], l, rows, out)
+        }
     }
 }
 
@@ -95,10 +90,8 @@ fn write_both(b: &[u8], l: Layout, rows: &mut [u8], out: &mut [u8]) -> Result<u6
     requires { length b.now ≤ most_outline }
     ensures { BothShort b.now (file_text l.tree b.now l.verdict) rows.old out.old rows.new out.new result }
 {
-    let tree = l.tree;
-    let verdict = l.verdict;
     let mut nothing = [0u8; 1];
-    let n = text::put_file(&mut nothing, tree, b, verdict);
+    let n = text::put_file(&mut nothing, l.tree, b, l.verdict);
     if rows.len() < b.len() {
         return Err(Refusal::new(Reason::BufferTooShort, 0));
     }
@@ -106,6 +99,6 @@ fn write_both(b: &[u8], l: Layout, rows: &mut [u8], out: &mut [u8]) -> Result<u6
         return Err(Refusal::new(Reason::BufferTooShort, 0));
     }
     put_text(rows, 0, b);
-    text::put_file(out, tree, b, verdict);
+    text::put_file(out, l.tree, b, l.verdict);
     Ok(n as u64)
 }

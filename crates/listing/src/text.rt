@@ -29,22 +29,18 @@ fn put_line(out: &mut [u8], at: usize, start: &[u8], numbers: &[u64]) -> usize
 pub(crate) fn put_refused(out: &mut [u8], r: Refusal) -> usize
     ensures { PutAt out.old out.new 0 (printed (refused r)) most_short result }
 {
-    let numbers = [r.number as u64, r.place.0];
+    let numbers = [r.reason.number() as u64, r.place.0];
     put_line(out, 0, b"refused ", &numbers)
 }
 
 // Puts the line of a tree.
-fn put_tree(out: &mut [u8], t: Tree) -> usize
+fn put_tree(out: &mut [u8], t: Option<Tree>) -> usize
     ensures { PutAt out.old out.new 0 (tree_text t) most_short result }
 {
     match t {
-        Tree::NoTree => put_text(out, 0, b"tree none\n"),
-        Tree::Found {
-            start,
-            end,
-            room_end: _,
-        } => {
-            let numbers = [start.0, end.0];
+        None => put_text(out, 0, b"tree none\n"),
+        Some(t) => {
+            let numbers = [t.start.0, t.end.0];
             put_line(out, 0, b"tree ", &numbers)
         }
     }
@@ -65,9 +61,8 @@ fn put_row_at(out: &mut [u8], at: usize, b: &[u8], k: usize) -> usize
     ensures { PutAt out.old out.new at (row_text (decode_row (take row_bytes (drop (k * row_bytes) b.now)))) most_row result }
 {
     match row::read_row(b, k * ROW_BYTES) {
-        Ok(Some(r)) => put_row(out, at, r),
-        Ok(None) => at,
-        Err(_) => at,
+        Some(r) => put_row(out, at, r),
+        None => at,
     }
 }
 
@@ -76,10 +71,8 @@ fn put_rows(out: &mut [u8], at: usize, b: &[u8]) -> usize
     ensures { PutAt out.old out.new at (row_texts (length b.now / row_bytes) b.now) (most_row * (length b.now / row_bytes)) result }
 {
     let mut end = at;
-    let mut k = 0;
-    while k < b.len() / ROW_BYTES {
+    'rows: for k in 0..b.len() / ROW_BYTES {
         end = put_row_at(out, end, b, k);
-        k += 1;
     }
     end
 }
@@ -97,7 +90,7 @@ fn put_verdict(out: &mut [u8], at: usize, v: Verdict) -> usize
 }
 
 // Puts all lines of an accepted file whose outline is `b`.
-pub(crate) fn put_file(out: &mut [u8], t: Tree, b: &[u8], v: Verdict) -> usize
+pub(crate) fn put_file(out: &mut [u8], t: Option<Tree>, b: &[u8], v: Verdict) -> usize
     ensures { PutAt out.old out.new 0 (file_text t b.now v) (most_file (length b.now / row_bytes)) result }
 {
     let tree_end = put_tree(out, t);

@@ -21,7 +21,7 @@ use Rattle.format.specs.declared.refusal.Reason.TheVariants.{BufferTooShort}
 use Rattle.format.specs.Bytes.{Bytes, wrapped}
 use Rattle.format.specs.Block.{least_block}
 use Rattle.format.specs.Outcome.{Outcome, accepted, refused, refusal}
-use Rattle.format.specs.File.{most_bytes, file, offset_table, layout}
+use Rattle.format.specs.File.{most_bytes, layout}
 use Rattle.format.specs.Nest.{deepest, records, record_count, record_at}
 use Rattle.format.specs.Fields.{record_fields, record_bytes, encode_record, record_table, found_numbers, found_bytes}
 use Rattle.format.specs.Lent.{placed}
@@ -34,8 +34,10 @@ use Rattle.format.proofs.OutlineLaws.{read_back}
 use Rattle.format.proofs.RowLaws.{encoded_length}
 use Rattle.put.proofs.PutLaws.{placed_nothing, placed_none, placed_length, placed_append}
 use Rattle.put.proofs.WrittenLaws.{written_refused, written_short, written_placed, written_taken}
+use Rattle.file.specs.declared.open.OpenFile.{OpenFile}
+use Rattle.file.specs.Open.{file_offsets}
 use Rattle.file.specs.Layout.{Kept}
-use Rattle.file.proofs.LayoutLaws.{file_refused, blocks_kept}
+use Rattle.file.proofs.LayoutLaws.{file_refused, open_is_kept}
 use Rattle.visit.specs.declared.sink.Form.{Form}
 use Rattle.visit.specs.declared.sink.Form.TheVariants.{Rows, Table, One}
 use Rattle.visit.specs.Content.{file_records}
@@ -44,7 +46,11 @@ use Rattle.visit.proofs.ContentLaws.{refused_records, accepted_records}
 use Rattle.visit.proofs.SinkLaws.{record_length, delivered_length}
 use Rattle.nest.specs.Walk.{all_records}
 
-module _ {s : Bytes} {offsets : List ℕ} {blocks : ℕ} (kept : Kept s offsets blocks) where
+module _ {s : Bytes} {offsets : List ℕ} (is_open : file_offsets s ≡ accepted offsets) where
+  -- What is kept of an open file.
+  kept : Kept s offsets (length offsets)
+  kept = open_is_kept s offsets is_open
+
   -- The records of an accepted file are the records that the walk finds at depth 0, from offset 0 on.
   all_are : records s ≡ accepted (file_records 0 0 s)
   unfolding records
@@ -83,9 +89,9 @@ put_after : (w n : ℕ) (out : Bytes) (rs : List Record) → n + length rs < 2 ^
 unfolding put_all
 put_after w n out [] few h = refl
 put_after w n out (r ∷ rs) few h =
-    let None : placed out (n * 0) (delivery (One w) n r) ≡ out =
+    let same : placed out (n * 0) (delivery (One w) n r) ≡ out =
     rw (mul-zero n, delivery, ne_eqb w n (λ e. omega arith)) (sym (placed_nothing out 0 (omega arith))) in
-    rw None (put_after w (wrapped n 1) out rs (omega arith) (omega arith))
+    rw same (put_after w (wrapped n 1) out rs (omega arith) (omega arith))
 
 -- If one record is wanted, that record is put at the start, or nothing if there is no such record.
 put_one : (w n : ℕ) (out : Bytes) (rs : List Record) → n + length rs < 2 ^ 64 → n ≤ w
@@ -120,12 +126,12 @@ record_there [] k h = absurd (omega arith)
 record_there (r ∷ rs) zero h = record_length r
 record_there (r ∷ rs) (suc k) h = record_there rs k (omega arith)
 
-module _ {s : Bytes} {offsets : List ℕ} {blocks : ℕ} (kept : Kept s offsets blocks) (out after : Bytes) (x : ℕ) where
+module _ {s : Bytes} {offsets : List ℕ} (is_open : file_offsets s ≡ accepted offsets) (out after : Bytes) (x : ℕ) where
   -- A walk counts the records of an accepted file.
   pub counted : (form : Form) → Delivered form 0 out (all_records s) after x → x ≡ length (all_records s)
   counted form h =
-      let few = all_few kept in
-      h.next ∙ number_after_lem 0 (all_records s) (omega (arith, short kept)) ∙ omega arith
+      let few = all_few is_open in
+      h.next ∙ number_after_lem 0 (all_records s) (omega (arith, short is_open)) ∙ omega arith
 
   -- Case: one record is wanted.
   module _ (w : ℕ) (d : Delivered (One w) 0 out (all_records s) after x) where
@@ -134,12 +140,12 @@ module _ {s : Bytes} {offsets : List ℕ} {blocks : ℕ} (kept : Kept s offsets 
 
     one_is : found_bytes record_fields (record_at s w) ≡ accepted (found_numbers record_fields found)
     unfolding found_bytes record_at
-    one_is = rw (found_bytes, record_at, accepted_all kept)
+    one_is = rw (found_bytes, record_at, accepted_all is_open)
 
     one_put : after ≡ placed out 0 (found_numbers record_fields found)
     one_put =
-        let few = all_few kept in
-        d.buffer ∙ put_one w 0 out (all_records s) (omega (arith, short kept)) (omega arith) ∙ rw (sub-zero w)
+        let few = all_few is_open in
+        d.buffer ∙ put_one w 0 out (all_records s) (omega (arith, short is_open)) (omega arith) ∙ rw (sub-zero w)
 
     -- If there is no such record, nothing is written.
     pub one_none : x ≤ w → Written (found_bytes record_fields (record_at s w)) out after (accepted 0)
@@ -212,12 +218,12 @@ fits_width Rows n h = omega arith
 fits_width Table n h = omega arith
 fits_width (One w) n h = rw (zero-mul n) (omega arith)
 
-pub told_fits : {s : Bytes} {offsets : List ℕ} {blocks : ℕ} → Kept s offsets blocks → {form : Form} {each n : ℕ} {out after : Bytes}
+pub told_fits : {s : Bytes} {offsets : List ℕ} → file_offsets s ≡ accepted offsets → {form : Form} {each n : ℕ} {out after : Bytes}
     → Delivered form 0 out (all_records s) after n → each ≡ width form → Fits w64 (each * n)
-told_fits kept {form} {each} {n} {out} {after} d e =
-    rw e (fits_width form n (omega (arith, counted kept out after n form d, all_few kept, short kept)))
+told_fits is_open {form} {each} {n} {out} {after} d e =
+    rw e (fits_width form n (omega (arith, counted is_open out after n form d, all_few is_open, short is_open)))
 
-module _ {s : Bytes} {offsets : List ℕ} {blocks : ℕ} (kept : Kept s offsets blocks) (form : Form) (wide : 1 ≤ width form) {each : ℕ} (width_is : each ≡ width form) where
+module _ {s : Bytes} {offsets : List ℕ} (is_open : file_offsets s ≡ accepted offsets) (form : Form) (wide : 1 ≤ width form) {each : ℕ} (width_is : each ≡ width form) where
   pub each_some : 0 < each
   each_some = omega arith
 
@@ -233,16 +239,16 @@ module _ {s : Bytes} {offsets : List ℕ} {blocks : ℕ} (kept : Kept s offsets 
     all_put : Written (accepted (all_encoded form (all_records s))) out after (accepted (each * n))
     all_put =
         let rs = all_records s in
-        let few = all_few kept in
+        let few = all_few is_open in
         let fit : (0 + length rs) * width form ≤ length out = rw (zero-add (length rs), ← width_is) all_room in
-        let put = put_encoded form 0 out rs wide (omega (arith, short kept)) fit in
+        let put = put_encoded form 0 out rs wide (omega (arith, short is_open)) fit in
         written_placed _ out (all_encoded form rs) refl (rw all_bytes all_room) after (d.buffer ∙ put ∙ rw (zero-mul (width form))) (each * n)
-        (mul_comm each n ∙ ap (λ (m : ℕ). m * each) (counted kept out after n form d) ∙ sym all_bytes)
+        (mul_comm each n ∙ ap (λ (m : ℕ). m * each) (counted is_open out after n form d) ∙ sym all_bytes)
 
   -- Case: the buffer has places for as many blocks as the file can have, so it is long enough.
   module _ {out after : Bytes} {n : ℕ} (d : Delivered form 0 out (all_records s) after n) (h : length s / least_block ≤ length out / each) where
     sure : length (all_records s) ≤ length out / each
-    sure = let few = all_few kept in omega arith
+    sure = let few = all_few is_open in omega arith
 
     pub sure_put : Written (accepted (all_encoded form (all_records s))) out after (accepted (each * n))
     sure_put = all_put d sure
@@ -257,18 +263,18 @@ module _ {s : Bytes} {offsets : List ℕ} {blocks : ℕ} (kept : Kept s offsets 
     pub measured_short : length out / each < n → (a : Outcome ℕ) → a ≡ refused (refusal BufferTooShort 0)
         → Written (accepted (all_encoded form (all_records s))) out out a
     measured_short h =
-        let many : length out < length (all_records s) * each = (div-lt_iff_lt-mul each_some).0 (rw (counted kept own made n form d) at h) in
+        let many : length out < length (all_records s) * each = (div-lt_iff_lt-mul each_some).0 (rw (counted is_open own made n form d) at h) in
         written_short _ out (all_encoded form (all_records s)) refl (rw all_bytes many)
 
     module _ (h : n ≤ length out / each) where
       enough : length (all_records s) ≤ length out / each
-      enough = rw (counted kept own made n form d) at h
+      enough = rw (counted is_open own made n form d) at h
 
       -- If the records fit, a second walk puts them.
       pub measured_put : {after : Bytes} {x : ℕ} → Delivered form 0 out (all_records s) after x
           → Written (accepted (all_encoded form (all_records s))) out after (accepted (each * n))
       measured_put {after} {x} g =
-          let same : x ≡ n = counted kept out after x form g ∙ sym (counted kept own made n form d) in
+          let same : x ≡ n = counted is_open out after x form g ∙ sym (counted is_open own made n form d) in
           rw (← same) (all_put g enough)
 
       -- Case: all records are in the function's own buffer, so no second walk is needed.
@@ -279,7 +285,7 @@ module _ {s : Bytes} {offsets : List ℕ} {blocks : ℕ} (kept : Kept s offsets 
         pub own_put : {after : Bytes} {r : Outcome ℕ} → Written (accepted (take (each * n) made)) out after r
             → Written (accepted (all_encoded form (all_records s))) out after r
         own_put w =
-            let mine = all_put d (rw (counted kept own made n form d) at g) in
+            let mine = all_put d (rw (counted is_open own made n form d) at g) in
             rw (written_taken _ own made (each * n) mine).is w
 
 -- The outline has a row for each record.
@@ -288,59 +294,60 @@ unfolding outline_of all_encoded flat_map
 rows_encoded [] = refl
 rows_encoded (r ∷ rs) = ap (λ (b : Bytes). encode_row (row_of r) ++ b) (rows_encoded rs)
 
--- The answers of the public functions.
-module _ (s : Bytes) (a : Outcome Layout) (read : a ≡ layout s) where
-  -- If the answer that was read is passed on, it is the layout of the file.
-  pub told_again : (x : Outcome Layout) → a ≡ x → x ≡ layout s
-  told_again x e = sym (e) ∙ read
+-- If an outline is written, it reads back to the rows of the file.
+back : (s : Bytes) → ((i : ℕ) → Fits w8 (get_or s i 0)) → (out after : Bytes) (x : Outcome ℕ) → Written (outline s) out after x → OutlineWritten s out after x
+back s known out after x w =
+    record {
+      written = w;
+      reads_back = λ n e. let t = written_taken (outline s) out after n (rw e at w) in read_back s (take n after) (λ i. (known i).fits) t.is;
+    }
 
-  -- If an outline is written, it reads back to the rows of the file.
-  back : ((i : ℕ) → Fits w8 (get_or s i 0)) → (out after : Bytes) (x : Outcome ℕ) → Written (outline s) out after x → OutlineWritten s out after x
-  back known out after x w =
-      record {
-        written = w;
-        reads_back = λ n e. let t = written_taken (outline s) out after n (rw e at w) in read_back s (take n after) (λ i. (known i).fits) t.is;
-      }
+-- The answers of the public functions, for a file that is refused.
+module _ (s : Bytes) (r : Refusal) (e : layout s ≡ refused r) where
+  -- Its records are refused in the same way.
+  no_records : records s ≡ refused r
+  unfolding records
+  no_records = refused_records deepest 0 0 s r (file_refused s (layout s) refl r e)
 
-  module _ (r : Refusal) (e : a ≡ refused r) where
-    -- If the file is refused, its records are refused in the same way.
-    no_records : records s ≡ refused r
-    unfolding records
-    no_records = refused_records deepest 0 0 s r (file_refused s a read r e)
+  pub count_refused : refused r ≡ record_count s
+  unfolding record_count
+  count_refused = rw (record_count, no_records)
 
-    pub count_refused : (refused r) ≡ record_count s
-    unfolding record_count
-    count_refused = rw (record_count, no_records)
+  pub record_refused : (w : ℕ) (out : Bytes) → Written (found_bytes record_fields (record_at s w)) out out (refused r)
+  unfolding found_bytes record_at
+  record_refused w out = written_refused (found_bytes record_fields (record_at s w)) out r (rw (found_bytes, record_at, no_records)) _ refl
 
-    pub record_refused : (w : ℕ) (out : Bytes) → Written (found_bytes record_fields (record_at s w)) out out (refused r)
-    unfolding found_bytes record_at
-    record_refused w out = written_refused (found_bytes record_fields (record_at s w)) out r (rw (found_bytes, record_at, no_records)) _ refl
+  pub outline_refused : ((i : ℕ) → Fits w8 (get_or s i 0)) → (out : Bytes) → OutlineWritten s out out (refused r)
+  unfolding outline rows
+  outline_refused known out = back s known out out _ (written_refused (outline s) out r (rw (outline, rows, no_records)) _ refl)
 
-    pub outline_refused : ((i : ℕ) → Fits w8 (get_or s i 0)) → (out : Bytes) → OutlineWritten s out out (refused r)
-    unfolding outline rows
-    outline_refused known out = back known out out _ (written_refused (outline s) out r (rw (outline, rows, no_records)) _ refl)
+  pub table_refused : (out : Bytes) → Written (record_table s) out out (refused r)
+  unfolding record_table
+  table_refused out = written_refused (record_table s) out r (rw (record_table, no_records)) _ refl
 
-    pub table_refused : (out : Bytes) → Written (record_table s) out out (refused r)
-    unfolding record_table
-    table_refused out = written_refused (record_table s) out r (rw (record_table, no_records)) _ refl
+-- The answers of the public functions, for a file that is open.
+module _ (s : Bytes) (file : OpenFile) (same : file.bytes.now ≡ s) where
+  opened_here : file_offsets s ≡ accepted file.offsets.now
+  opened_here = rw same at file.kept
 
-  module _ (before table : List ℕ) (is : table ≡ offset_table before (file s)) (l : Layout) (e : a ≡ accepted l) where
-    kept : Kept s table l.blocks
-    kept = blocks_kept s a read before table is l e
+  pub count_accepted : (n : ℕ) → n ≡ length (all_records file.bytes.now) → accepted n ≡ record_count s
+  unfolding record_count
+  count_accepted n c = rw (record_count, accepted_all opened_here, c, same)
 
-    pub count_accepted : (n : ℕ) → n ≡ length (all_records s) → (accepted n) ≡ record_count s
-    unfolding record_count
-    count_accepted n c = rw (record_count, accepted_all kept, c)
+  pub record_written : (w : ℕ) (out after : Bytes) (x : Outcome ℕ) → Written (found_bytes record_fields (record_at file.bytes.now w)) out after x
+      → Written (found_bytes record_fields (record_at s w)) out after x
+  record_written w out after x h = rw same at h
 
-    pub outline_written : ((i : ℕ) → Fits w8 (get_or s i 0)) → (out after : Bytes) (x : Outcome ℕ)
-        → Written (accepted (all_encoded Rows (all_records s))) out after x → OutlineWritten s out after x
-    unfolding outline rows all_encoded
-    outline_written known out after x w = back known out after x (rw (outline, rows, accepted_all kept, rows_encoded (all_records s)) w)
+  pub outline_written : ((i : ℕ) → Fits w8 (get_or s i 0)) → (out after : Bytes) (x : Outcome ℕ)
+      → Written (accepted (all_encoded Rows (all_records file.bytes.now))) out after x → OutlineWritten s out after x
+  unfolding outline rows all_encoded
+  outline_written known out after x w =
+      back s known out after x (rw (outline, rows, accepted_all opened_here, rows_encoded (all_records s)) (rw same at w))
 
-    pub table_written : (out after : Bytes) (x : Outcome ℕ) → Written (accepted (all_encoded Table (all_records s))) out after x
-        → Written (record_table s) out after x
-    unfolding record_table all_encoded
-    table_written out after x w = rw (record_table, accepted_all kept) w
+  pub table_written : (out after : Bytes) (x : Outcome ℕ) → Written (accepted (all_encoded Table (all_records file.bytes.now))) out after x
+      → Written (record_table s) out after x
+  unfolding record_table all_encoded
+  table_written out after x w = rw (record_table, accepted_all opened_here) (rw same at w)
 
 -- If the first `size` bytes of a buffer are put at the start of another that has room for them, they are written there.
 pub handed_over : (own out : Bytes) (size : ℕ) → size ≤ length own → size ≤ length out → (after : Bytes) → after ≡ placed out 0 (take size (drop 0 own))

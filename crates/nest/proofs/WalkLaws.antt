@@ -23,11 +23,14 @@ use Rattle.format.specs.Nest.{deepest, content_at, Inside, inside, walked, walk}
 use Rattle.format.proofs.ChainLaws.{blocks_few}
 use Rattle.format.proofs.FileLaws.{blocks_start, file_parts}
 use Rattle.blocks.specs.declared.again.Content.{Content}
+use Rattle.format.specs.Outcome.{accepted}
+use Rattle.file.specs.Open.{file_offsets}
 use Rattle.file.specs.Layout.{Kept}
+use Rattle.file.proofs.LayoutLaws.{open_is_kept}
 use Rattle.blocks.specs.Again.{reported, content_again}
 use Rattle.format.proofs.PartLaws.{part_all}
 use Rattle.blocks.proofs.AgainLaws.{reported_left, reported_stored, block_again_lem}
-use Rattle.file.proofs.KeptLaws.{Each, kept_each, kept_room}
+use Rattle.file.proofs.KeptLaws.{Each, kept_each}
 use Rattle.visit.specs.declared.content.Found.{Found}
 use Rattle.visit.specs.declared.sink.Form.{Form}
 use Rattle.visit.specs.Content.{reads, inside_of, records_left, file_records, Opens, ContentIs}
@@ -48,9 +51,9 @@ kept_few {s} kept =
 pub less_inside : (depth blocks k t : ℕ) → 66 * (deepest - depth) + blocks ≡ t → k < blocks → 66 * (deepest - depth) < t
 less_inside depth blocks k t e h = omega arith
 
-pub less_opened : {c : Bytes} {offsets : List ℕ} {depth blocks t : ℕ} {compressed : Bool} → 66 * (deepest - depth) ≡ t
-    → Opens depth compressed c offsets blocks → 66 * (deepest - (depth + 1)) + blocks < t
-less_opened e opens = omega (arith, opens.higher, kept_few opens.kept)
+pub less_opened : {c : Bytes} {offsets : List ℕ} {depth blocks t n : ℕ} {compressed : Bool} → 66 * (deepest - depth) ≡ t
+    → Opens depth compressed c offsets blocks → n ≡ blocks → 66 * (deepest - (depth + 1)) + n < t
+less_opened e opens same = omega (arith, opens.higher, kept_few opens.kept)
 
 -- A sound block has the header size and the compression name of its header.
 module _ (i n : ℕ) (t : Bytes) where
@@ -85,22 +88,23 @@ pub walking_start : (depth start : ℕ) (s : Bytes) (blocks : ℕ) (form : Form)
     → Walking depth start s blocks form number before before 0 number
 walking_start depth start s blocks form number before = record { few = omega arith; size = refl; onward = λ after x h. h }
 
-module _ {depth start : ℕ} {s : Bytes} {blocks : ℕ} {form : Form} {number : ℕ} {before out : Bytes} {k n : ℕ} {offsets : List ℕ}
-    (w : Walking depth start s blocks form number before out k n) (kept : Kept s offsets blocks) where
+module _ {depth start : ℕ} {s : Bytes} {form : Form} {number : ℕ} {before out : Bytes} {k n : ℕ} {offsets : List ℕ}
+    (w : Walking depth start s (length offsets) form number before out k n) (is_open : file_offsets s ≡ accepted offsets) where
+  -- What is kept of an open file.
+  kept : Kept s offsets (length offsets)
+  kept = open_is_kept s offsets is_open
+
   -- If no block is left, all records of the file are delivered.
-  pub walking_done : blocks ≤ k → Delivered form number before (file_records depth start s) out n
+  pub walking_done : length offsets ≤ k → Delivered form number before (file_records depth start s) out n
   walking_done h = w.onward out n (rw (nothing_left kept depth start k h) (delivered_none form n out))
 
-  module _ (h : k < blocks) where
+  module _ (h : k < length offsets) where
     each : Each s kept.f.blocks k (get_or offsets k 0)
     each = kept_each kept h
 
     -- The next block begins inside the file.
     pub walking_inside : get_or offsets k 0 ≤ length s
     walking_inside = each.inside
-
-    pub walking_kept : k < length offsets
-    walking_kept = kept_room kept h
 
     -- The next block is sound.
     pub walking_sound : Sound (take (length s - get_or offsets k 0) (drop (get_or offsets k 0) s))
@@ -152,7 +156,7 @@ module _ {depth start : ℕ} {s : Bytes} {blocks : ℕ} {form : Form} {number : 
 
       pub walking_next : (mid : ℕ) (between : Bytes)
           → Delivered form n out (records_at depth here k (get_or offsets k 0) (take (length s - get_or offsets k 0) (drop (get_or offsets k 0) s))) between mid
-          → Walking depth start s blocks form number before between (k + 1) mid
+          → Walking depth start s (length offsets) form number before between (k + 1) mid
       walking_next mid between h' = record {
         few = omega arith;
         size = delivered_length h' ∙ w.size;

@@ -3,8 +3,8 @@ use Rattle.std.proofs.Common.{rules}
 use Rattle.listing.proofs.ListLaws.{never_refused, shown}
 use Rattle.listing.proofs.list_lent.Goals as goal
 
-pub returns-in-Refused : goal.returns-in-Refused
-returns-in-Refused c = search (never_refused, rules)
+pub returns-in-Err : goal.returns-in-Err
+returns-in-Err c = search (never_refused, rules)
 
-pub returns-in-Counted : goal.returns-in-Counted
-returns-in-Counted c = search (shown, rules)
+pub returns-in-Ok : goal.returns-in-Ok
+returns-in-Ok c = search (shown, rules)

@@ -9,11 +9,11 @@ slice_bounds-write_both-end c = search (outline_inside, outline_length, rules)
 pub write_both-requires : goal.write_both-requires
 write_both-requires c = search (outline_small, rules)
 
-pub returns-in-Refused : goal.returns-in-Refused
-returns-in-Refused c = search (listed_refused, rules)
+pub returns-in-Err : goal.returns-in-Err
+returns-in-Err c = search (listed_refused, rules)
 
-pub returns-in-Refused-written : goal.returns-in-Refused-written
-returns-in-Refused-written c = search (outline_refused, rules)
+pub returns-in_err-written : goal.returns-in_err-written
+returns-in_err-written c = search (outline_refused, rules)
 
-pub returns-in-Counted : goal.returns-in-Counted
-returns-in-Counted c = search (outline_listed, rules)
+pub returns-in-Ok : goal.returns-in-Ok
+returns-in-Ok c = search (outline_listed, rules)
