@@ -37,8 +37,8 @@ use Rattle.format.proofs.PartLaws.{part_all}
 use Rattle.file.proofs.KeptLaws.{table_kept, enough_kept}
 
 -- If the outcome is a refusal, that refusal is the right answer.
-refused_judged : (o : Outcome File) (before out : List ℕ) (r : Refusal) → o ≡ refused r → Judged o before out (refused r)
-refused_judged o before out r h = record { is = rw h; kept = λ f e. cc }
+refused_judged : (o : Outcome File) (before out : List ℕ) (r : Refusal) → o ≡ refused r → (y : Outcome Layout) → y ≡ refused r → Judged o before out y
+refused_judged o before out r h y e = record { is = rw (h, e); kept = λ f q. cc }
 
 -- If the outcome is an accepted file and `out` is the table of its blocks, the file's layout is the right answer.
 accepted_judged : (o : Outcome File) (before out : List ℕ) (l : Layout) (f : File) → o ≡ accepted f → l ≡ layout_of f → out ≡ table_of before f.blocks
@@ -56,31 +56,33 @@ pub record Found (s : Bytes) (o : Outcome Chain) (before out : List ℕ) (w : Ch
 -- A file that is too long is refused with 1.
 pub file_long : (s : Bytes) → most_bytes < length s → (r : Refusal) → r ≡ refusal FileTooLong 0 → (before out : List ℕ) → Judged (file s) before out (refused r)
 unfolding file
-file_long s h r e before out = refused_judged (file s) before out r (rw (lt-leb (length s) most_bytes h, file, e))
+file_long s h r e before out = refused_judged (file s) before out r (rw (lt-leb (length s) most_bytes h, file, e)) (refused r) refl
 
 module _ (s : Bytes) (few : length s ≤ most_bytes) (before out : List ℕ) where
   -- If the header is refused, the file is refused in the same way.
-  pub header_refused : (x : Outcome Header) → x ≡ header s → (r : Refusal) → x ≡ refused r → Judged (file s) before out (refused r)
+  pub header_refused : (x : Outcome Header) → x ≡ header s → (r : Refusal) → x ≡ refused r → (y : Outcome Layout) → y ≡ refused r
+        → Judged (file s) before out y
   unfolding file body
-  header_refused x read r e =
+  header_refused x read r e y told =
       let is : header s ≡ refused r = sym read ∙ e in
-      refused_judged (file s) before out r (rw (le-leb (length s) most_bytes few, file, body, is))
+      refused_judged (file s) before out r (rw (le-leb (length s) most_bytes few, file, body, is)) y told
 
   module _ (h : Header) (header_is : header s ≡ accepted h) where
     -- If the comments are refused, so is the file.
-    pub comments_refused : (x : Outcome ℕ) → x ≡ comments h.end.0 (lines (drop h.end.0 s)) → (r : Refusal) → x ≡ refused r → Judged (file s) before out (refused r)
+    pub comments_refused : (x : Outcome ℕ) → x ≡ comments h.end.0 (lines (drop h.end.0 s)) → (r : Refusal) → x ≡ refused r → (y : Outcome Layout) → y ≡ refused r
+        → Judged (file s) before out y
     unfolding file body
-    comments_refused x read r e =
+    comments_refused x read r e y told =
         let is : comments h.end.0 (lines (drop h.end.0 s)) ≡ refused r = sym read ∙ e in
-        refused_judged (file s) before out r (rw (le-leb (length s) most_bytes few, file, body, header_is, is))
+        refused_judged (file s) before out r (rw (le-leb (length s) most_bytes few, file, body, header_is, is)) y told
 
     -- If the tree is refused, so is the file.
-    pub tree_refused : (n : ℕ) → comments h.end.0 (lines (drop h.end.0 s)) ≡ accepted n → (x : Outcome (Option Tree)) → x ≡ tree n s → (r : Refusal) → x ≡ refused r
-        → Judged (file s) before out (refused r)
+    pub tree_refused : (n : ℕ) → comments h.end.0 (lines (drop h.end.0 s)) ≡ accepted n → (x : Outcome (Option Tree)) → x ≡ tree n s → (r : Refusal) → x ≡ refused r → (y : Outcome Layout) → y ≡ refused r
+        → Judged (file s) before out y
     unfolding file body
-    tree_refused n comments_is x read r e =
+    tree_refused n comments_is x read r e y told =
         let is : tree n s ≡ refused r = sym read ∙ e in
-        refused_judged (file s) before out r (rw (le-leb (length s) most_bytes few, file, body, header_is, comments_is, is))
+        refused_judged (file s) before out r (rw (le-leb (length s) most_bytes few, file, body, header_is, comments_is, is)) y told
 
 -- What was read of the front of a file.
 pub front_read : (s : Bytes) → length s ≤ most_bytes → (h : Header) → header s ≡ accepted h → (n : ℕ) → comments h.end.0 (lines (drop h.end.0 s)) ≡ accepted n
@@ -106,7 +108,7 @@ module _ (s : Bytes) (h : Header) (n : ℕ) (t : Option Tree) (front : FrontRead
   blocks_none b goes q r e before out =
       let is : goes_on t (drop n s) ≡ false = sym goes ∙ not-true b q in
       refused_judged (file s) before out r
-      (rw (le-leb (length s) most_bytes front.few, file, body, front.header_read, front.comments_read, front.tree_read, is, e))
+      (rw (le-leb (length s) most_bytes front.few, file, body, front.header_read, front.comments_read, front.tree_read, is, e)) (refused r) refl
 
   module _ (b : Bool) (goes : b ≡ goes_on t (drop n s)) (on : not b ≡ false) where
     -- The chain of blocks decides about the rest of the file.
@@ -120,19 +122,20 @@ module _ (s : Bytes) (h : Header) (n : ℕ) (t : Option Tree) (front : FrontRead
     module _ (first : ℕ) (first_is : first ≡ first_block n t) (before out : List ℕ) (x : Outcome ChainFound)
         (walked : Walked s (chain most_blocks 0 first (drop first s)) before out x) where
       -- If the chain is refused, so is the file.
-      pub chain_refused : (r : Refusal) → x ≡ refused r → Judged (file s) before out (refused r)
-      chain_refused r e =
+      pub chain_refused : (r : Refusal) → x ≡ refused r → (y : Outcome Layout) → y ≡ refused r
+        → Judged (file s) before out y
+      chain_refused r e y told =
           let w : WalkRefused (chain most_blocks 0 first (drop first s)) out r = rw e at walked in
-          refused_judged (file s) before out r (file_chain (refused r) (rw (← first_is) w.is))
+          refused_judged (file s) before out r (file_chain (refused r) (rw (← first_is) w.is)) y told
 
       module _ (w : ChainFound) (e : x ≡ accepted w) where
         -- What the walk found, and the chain that it walked.
         found : Found s (chain most_blocks 0 first (drop first s)) before out w
+        unfolding verdict
         found = go w.tail refl (rw e at walked)
           where
             go : (m : Option ℕ) → w.tail ≡ m → WalkedAs s (chain most_blocks 0 first (drop first s)) before out w
                 → Found s (chain most_blocks 0 first (drop first s)) before out w
-            unfolding verdict
             go None q k =
                 let a : WalkedAlone (chain most_blocks 0 first (drop first s)) before out w.blocks = rw q at k in
                 record { c = a.c; chained = a.chained; verdict_is = rw (q, verdict, a.zeros); inside = rw q tt }
@@ -200,11 +203,6 @@ module _ (s : Bytes) (a : Outcome Layout) (judged : a ≡ layout s) where
   -- If the answer is a layout, the file is accepted and has that layout.
   pub accepted_as : (l : Layout) → a ≡ accepted l → layout s ≡ accepted l
   accepted_as l e = sym judged ∙ e
-
-  -- If the answer is a refusal, it is the answer for every block that is asked for.
-  pub block_refused : (j : ℕ) (r : Refusal) → a ≡ refused r → (refused r) ≡ block_at s j
-  unfolding block_at
-  block_refused j r e = rw (file_refused r e, block_at)
 
   -- If the answer is a layout, the table keeps where the blocks of the file begin.
   pub blocks_kept : (before out : List ℕ) → out ≡ offset_table before (file s) → (l : Layout) → a ≡ accepted l → Kept s out l.blocks
@@ -282,3 +280,15 @@ open_is_kept s out h = go (file s) refl
     go (refused r) e =
         let clash : refused r ≡ accepted out = sym (rw (file_offsets, e)) ∙ h in
         cc
+
+-- An open file has no more blocks than a file may have.
+pub open_few : (s : Bytes) (out : List ℕ) → file_offsets s ≡ accepted out → length out ≤ most_blocks
+open_few s out h =
+    let kept = open_is_kept s out h in
+    let few = blocks_few most_blocks 0 (blocks_start kept.f) _ (drop (blocks_start kept.f) s) (file_parts s kept.f kept.is).chain_read in
+    omega (arith, kept.count)
+
+-- If a file is refused, there is no block in it.
+pub block_refused : (s : Bytes) (j : ℕ) (r : Refusal) → layout s ≡ refused r → refused r ≡ block_at s j
+unfolding block_at
+block_refused s j r e = rw (file_refused s (layout s) refl r e, block_at)

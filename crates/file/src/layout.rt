@@ -2,6 +2,7 @@
 ghost use Rattle.std.specs.Prelude.{◌≡◌, ◌≤◌, length, take, drop, replicate};
 ghost use Rattle.format.specs.File.{file, offset_table, layout, block_at, first_block, goes_on};
 ghost use Rattle.format.specs.Chain.{most_blocks};
+ghost use Rattle.format.specs.Outcome.{accepted};
 ghost use Rattle.file.specs.Layout.{layout_with, chain_verdict, ChainInside, Judged, Kept};
 ghost use Rattle.file.specs.Opened.{OpensAs};
 
