@@ -1,13 +1,12 @@
 -- Laws about the search for a byte: the flag that a block has the byte, the blocks that are passed over, and the search
 -- after bytes that have no `b`.
 use Prim.Native.Nat.{ℕ, suc, ◌+◌, ◌-◌, ◌≤◌, ◌<◌}
-use native.Mathlib.Numerals.{add-one}
 use native.Mathlib.Omega.{arith}
 use mathlib.Core.Path.{◌≡◌, refl, sym, ap, ◌∙◌}
-use mathlib.Core.Bool.{Bool, true, false, ◌||◌, beq, or-true, or-false, or_assoc}
+use mathlib.Core.Bool.{Bool, true, false, ◌||◌}
 use mathlib.Core.List.{[], ◌∷◌, ◌++◌}
-use lib.ListN.{length, take, drop, get_or, take-append-drop, length-take, drop_of_length-le}
-use lib.Seq.{drop-append-le, length-take-le, length-slice, slice_empty, slice-cons, take-length, take-take}
+use lib.ListN.{length, take, drop, take-append-drop}
+use lib.Seq.{drop-append-le, length-take-le, length-slice, slice_empty, take-length, take-take}
 use lib.Dec.{eqb}
 use Rattle.octets.specs.Octets.{index_of, index_after}
 use Rattle.std.proofs.Math.Seq.{slice}

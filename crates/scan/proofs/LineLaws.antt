@@ -4,19 +4,19 @@ use Prim.Native.Nat.{ℕ, zero, suc, ◌+◌, ◌-◌, ◌≤◌, ◌<◌}
 use native.Mathlib.Numerals.{add-one}
 use native.Mathlib.Omega.{arith}
 use mathlib.Core.Path.{◌≡◌, refl, sym, ap, ◌∙◌}
-use mathlib.Core.Bool.{Bool, true, false, ◌&&◌}
+use mathlib.Core.Bool.{Bool, true, false, ◌&&◌, and-false}
 use mathlib.Core.List.{[], ◌∷◌, ◌++◌}
 use lib.ListN.{length, take, drop, get_or, take-append-drop, length-take, length-drop, drop_of_length-le}
 use lib.Seq.{take-suc, take_all, take-length, drop-cons, drop-drop, get_or-drop, take_at}
 use lib.Dec.{eqb, ltb}
-use borrow.Author.Tests.{ltb-true, ltb-false, lt-ltb, le-ltb, eqb-true}
+use borrow.Author.Tests.{ltb-true, ltb-false, le-ltb, eqb-true, ne_eqb}
 use Rattle.octets.specs.Octets.{index_of, index_after}
 use Rattle.std.proofs.Math.Seq.{slice}
 use Rattle.format.specs.declared.line.LineEnd.{LineEnd}
 use Rattle.format.specs.declared.line.LineEnd.TheVariants.{Lf, Crlf}
 use Rattle.format.specs.Bytes.{Bytes, begins}
 use Rattle.format.specs.Line.{line_end, Lines, unended, line, after_line, lines}
-use Rattle.format.proofs.ByteLaws.{and_left, and_right, begins_true, lacks, lacks_cons}
+use Rattle.format.proofs.ByteLaws.{begins_true, lacks, lacks_cons}
 use Rattle.format.proofs.LineLaws.{join_lines, ends_in, ends_snoc, IsLine, plain_line, join_lines_lem, lines_unended, lines_line, line_split, lines_after}
 use Rattle.scan.proofs.TextLaws.{begins_inside}
 use Rattle.scan.specs.declared.line.Line.{Line}
@@ -45,14 +45,6 @@ index_found b (a ∷ u) h = go (eqb a b) refl h (index_found b u)
         → get_or (a ∷ u) (index_after x (index_of b u)) 0 ≡ b
     go true e h i = eqb-true a b e
     go false e h i = i (omega arith)
-
--- If there is no byte from `at` to `end`, the answer is false.
-pub ends_none : (at end : ℕ) (x : Bool) → end ≤ at → false ≡ (ltb at end && x)
-ends_none at end x h = rw (le-ltb at end h)
-
--- If there is a byte from `at` to `end`, the test of the last one is the answer.
-pub ends_last : (at end : ℕ) (x : Bool) → at < end → x ≡ (ltb at end && x)
-ends_last at end x h = rw (lt-ltb at end h)
 
 -- The bytes from `at` to `end` end in `b` exactly if there is one and the last is `b`.
 ends_at : (b : ℕ) (s : Bytes) (at end : ℕ) → end ≤ length s
@@ -119,32 +111,27 @@ module _ (s : Bytes) (at end : ℕ) (f : end ≡ at + index_of 10 (slice at (len
       let all = take_all (end - at) (drop at s) (simp length-drop (omega arith)) in
       record { is = rw (lines_unended (drop at s) (rw all at (before end (omega arith)))); inside = tt }
 
-  module _ (x : Bool) (h : x ≡ (ltb at end && eqb (get_or s (end - 1) 0) 13)) where
-    -- If the test for 0D is true, `end` comes after `at` and the byte before `end` is 0D.
-    return : x ≡ true → (at < end) × (get_or s (end - 1) 0 ≡ 13)
-    return e =
-        let both = sym h ∙ e in
-        (ltb-true at end (and_left _ _ both), eqb-true (get_or s (end - 1) 0) 13 (and_right (ltb at end) _ both))
+  module _ (q : end ≤ length s) (n : end ≡ length s → ⊥) where
+    -- If a 0D is directly before the 0A, it belongs to the line end.
+    pub line_crlf : at < end → get_or s (end - 1) 0 ≡ 13 → LineRead s at (Some (record { text_end = end - 1; next = end + 1; ending = Crlf }))
+    line_crlf some e =
+        let to : suc (end - 1) ≡ end = omega arith in
+        let rest = rw (e, to, feed (omega arith)) at (drop-cons s (end - 1) 0 (omega arith)) in
+        let text : IsLine (take (end - 1 - at) (drop at s)) Crlf = record { no_feed = before (end - 1) (omega arith); no_return = λ z. cc } in
+        text_read s at (end - 1) (end + 1) Crlf text rest (omega arith) (omega arith)
 
-    -- Hence `end` is not 0, so that 1 can be subtracted from it.
-    pub line_some : x ≡ true → 1 ≤ end
-    line_some e = omega (arith, return e)
+    -- If no 0D is directly before the 0A, the line end is the 0A alone.
+    lf_alone : (ltb at end && eqb (get_or s (end - 1) 0) 13) ≡ false → LineRead s at (Some (record { text_end = end; next = end + 1; ending = Lf }))
+    lf_alone e =
+        let text = plain_line _ Lf (before end (omega arith)) (ends_at 13 s at end q ∙ e) in
+        text_read s at end (end + 1) Lf text (feed (omega arith)) refl (omega (arith, found))
 
-    module _ (q : end ≤ length s) (n : end ≡ length s → ⊥) where
-      -- If a 0D is directly before the 0A, it belongs to the line end.
-      pub line_crlf : x ≡ true → LineRead s at (Some (record { text_end = end - 1; next = end + 1; ending = Crlf }))
-      line_crlf e =
-          let r = return e in
-          let to : suc (end - 1) ≡ end = omega arith in
-          let rest = rw (r.1, to, feed (omega arith)) at (drop-cons s (end - 1) 0 (omega arith)) in
-          let text : IsLine (take (end - 1 - at) (drop at s)) Crlf = record { no_feed = before (end - 1) (omega arith); no_return = λ z. cc } in
-          text_read s at (end - 1) (end + 1) Crlf text rest (omega arith) (omega arith)
+    -- So it is if the line is empty, and if the last byte of the line is another one.
+    pub line_lf_empty : end ≤ at → LineRead s at (Some (record { text_end = end; next = end + 1; ending = Lf }))
+    line_lf_empty h = lf_alone (rw (le-ltb at end h))
 
-      -- If no 0D is directly before the 0A, the line end is the 0A alone.
-      pub line_lf : x ≡ false → LineRead s at (Some (record { text_end = end; next = end + 1; ending = Lf }))
-      line_lf e =
-          let text = plain_line _ Lf (before end (omega arith)) (ends_at 13 s at end q ∙ sym h ∙ e) in
-          text_read s at end (end + 1) Lf text (feed (omega arith)) refl (omega (arith, found))
+    pub line_lf : (get_or s (end - 1) 0 ≡ 13 → ⊥) → LineRead s at (Some (record { text_end = end; next = end + 1; ending = Lf }))
+    line_lf h = lf_alone (rw (ne_eqb (get_or s (end - 1) 0) 13 h) (and-false (ltb at end)))
 
 -- The first line from offset `at` on has the text `t` and the line end `e`, and the next line begins at `next`.
 pub record FirstLine (s : Bytes) (at : ℕ) (t : Bytes) (next : ℕ) (e : LineEnd) : Type 0 where

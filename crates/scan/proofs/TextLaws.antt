@@ -1,64 +1,53 @@
 -- One law for each return from the loops over bytes. The invariant of each loop: what is left to test gives the same
 -- answer as all that had to be tested.
-use Prim.Native.Nat.{ℕ, suc, ◌+◌, ◌^◌, ◌≤◌, ◌<◌}
-use native.Mathlib.Numerals.{add-one}
+use Prim.Native.Nat.{ℕ, ◌+◌, ◌^◌, ◌≤◌, ◌<◌}
 use native.Mathlib.Omega.{arith}
 use mathlib.Core.Path.{◌≡◌, refl, sym, ◌∙◌, ap}
-use mathlib.Core.Bool.{Bool, true, false, ◌&&◌, ◌||◌, beq, and-false}
+use mathlib.Core.Bool.{Bool, true, false, ◌&&◌, ◌||◌, and-false}
 use mathlib.Core.List.{[], ◌∷◌, ◌++◌}
-use lib.ListN.{length, drop, get_or, drop_of_length-le, length-append, length-drop}
-use lib.Seq.{drop-cons}
+use lib.ListN.{length, drop, drop_of_length-le, length-append, length-drop}
 use lib.Dec.{eqb}
 use mir.Syntax.{w64}
 use mir.Val.{Fits}
-use borrow.Author.Tests.{eq-eqb, ne_eqb}
-use Rattle.format.specs.Bytes.{Bytes, begins, same, all_zero}
+use borrow.Author.Tests.{lt-leb, ne_eqb}
+use Rattle.format.specs.Bytes.{Bytes, begins, all_zero}
 use Rattle.format.proofs.ByteLaws.{begins_true}
 use Rattle.std.proofs.Math.Seq.{slice}
 use Rattle.scan.specs.Find.{PassedOver}
 use Rattle.std.specs.Prelude.{not, ◌==◌}
 use Rattle.std.specs.List.{list_any, list_all}
+use Rattle.std.specs.Cmp.Lexicographic.{pointwise}
+use lib.Dec.{leb}
 use Rattle.std.proofs.Common.{◌-◌, take}
 use Rattle.std.proofs.lemmas.List.{take_rest}
 use Rattle.scan.proofs.FindLaws.{slice_drop}
 
-module _ (k : Bytes) (j : ℕ) (s : Bytes) (i : ℕ) (x : Bool) (left : begins (drop j k) (drop i s) ≡ x) where
-  -- If the bytes end before the word does, the answer is false.
-  pub begins_short : j < length k → length s ≤ i → false ≡ x
-  begins_short h g = rw (drop-cons k j 0 h, drop_of_length-le s g) at left
+-- The first bytes are the word exactly if the bytes begin with it.
+front_same : (k r : Bytes) → length k ≤ length r → pointwise eqb k (take (length k) r) ≡ begins k r
+front_same [] r h = refl
+front_same (a ∷ k) [] h = absurd (omega arith)
+front_same (a ∷ k) (b ∷ r) h = rw (front_same k r (omega arith))
 
-  -- The answer depends on the next byte of each, and then on the bytes after them.
-  begins_next : j < length k → i < length s → eqb (get_or k j 0) (get_or s i 0) && begins (drop (j + 1) k) (drop (i + 1) s) ≡ x
-  begins_next h g = rw (add-one j, add-one i) (rw (drop-cons k j 0 h, drop-cons s i 0 g) at left)
+-- Too few bytes do not begin with the word.
+begins_few : (k r : Bytes) → length r < length k → begins k r ≡ false
+begins_few [] r h = absurd (omega arith)
+begins_few (a ∷ k) [] h = refl
+begins_few (a ∷ k) (b ∷ r) h = rw (begins_few k r (omega arith)) (and-false (eqb a b))
 
-  -- If the next bytes differ, the answer is false.
-  pub begins_differs : j < length k → i < length s → (get_or k j 0 ≡ get_or s i 0 → ⊥) → false ≡ x
-  begins_differs h g n = rw (ne_eqb _ _ n) at (begins_next h g)
+module _ (k s : Bytes) (at : ℕ) where
+  -- If there are as many bytes as the word has, the first of them are compared with it.
+  pub begins_front : (x : Bool) → length k ≤ length (take (length s - at) (drop at s))
+      → x ≡ pointwise eqb k (take (length k) (take (length s - at) (drop at s))) → x ≡ begins k (drop at s)
+  begins_front x h e = rw take_rest at e ∙ front_same k (drop at s) (rw take_rest at h)
 
-  -- If the next bytes are the same, the bytes after them decide.
-  pub begins_step : j < length k → i < length s → get_or k j 0 ≡ get_or s i 0 → begins (drop (j + 1) k) (drop (i + 1) s) ≡ x
-  begins_step h g e = rw (eq-eqb _ _ e) at (begins_next h g)
+  -- If the word is longer, the bytes do not begin with it.
+  pub begins_long : length (take (length s - at) (drop at s)) < length k → leb (length k) (length (take (length s - at) (drop at s))) ≡ begins k (drop at s)
+  begins_long h = rw (lt-leb (length k) (length (take (length s - at) (drop at s))) h) (sym (begins_few k (drop at s) (rw take_rest at h)))
 
-  -- If nothing is left of the word, the answer is true.
-  pub begins_done : length k ≤ j → true ≡ x
-  begins_done h = rw (drop_of_length-le k h) at left
-
--- Byte strings of different lengths are not the same.
-pub same_lengths : (s k : Bytes) → (length s ≡ length k → ⊥) → false ≡ same s k
-same_lengths [] [] n = absurd (n refl)
-same_lengths [] (b ∷ k) n = refl
-same_lengths (a ∷ s) [] n = refl
-same_lengths (a ∷ s) (b ∷ k) n = rw (← same_lengths s k (λ e. n (ap suc e))) (sym (and-false (eqb a b)))
-
--- If two byte strings have the same length, the second begins with the first exactly if they are the same.
-pub begins_same : (s k : Bytes) (x : Bool) → x ≡ begins s k → length s ≡ length k → x ≡ same s k
-begins_same s k x h e = h ∙ go s k e
-  where
-    go : (s k : Bytes) → length s ≡ length k → begins s k ≡ same s k
-    go [] [] e = refl
-    go [] (b ∷ k) e = absurd (omega arith)
-    go (a ∷ s) [] e = refl
-    go (a ∷ s) (b ∷ k) e = ap (λ (x : Bool). eqb a b && x) (go s k (omega arith))
+-- Past the end there is only an empty word.
+pub begins_past : (k s : Bytes) (at : ℕ) (x : Bool) → length s < at → x ≡ (length k == 0) → x ≡ begins k (drop at s)
+begins_past [] s at x h e = e
+begins_past (a ∷ k) s at x h e = rw (drop_of_length-le s {i = at} (omega arith)) (e ∙ ne_eqb (length (a ∷ k)) 0 (λ z. omega arith))
 
 -- If a word that is not empty is found at an offset, it ends inside.
 pub begins_inside : (k : Bytes) (at : ℕ) (s : Bytes) → begins k (drop at s) ≡ true → 1 ≤ length k → at + length k ≤ length s

@@ -1,7 +1,7 @@
 -- Numbers in bytes and in digits.
 use Rattle.std.specs.Prelude.{ℕ, ◌%◌, ◌^◌, ◌≤◌, ◌<◌, min, ◌≡◌, Bool, true, false, ◌||◌, not, length, leb}
 use Rattle.std.specs.Prelude.{Option, None, Some}
-use Rattle.format.specs.Bytes.{Bytes, text, begins, big_endian, number}
+use Rattle.format.specs.Bytes.{Bytes, text, begins, big_endian}
 use Rattle.format.specs.Numeral.{numeral, all_digits, decimal_value}
 
 -- `r` is the number that the bytes `s` give, in 64 bits. With at most eight bytes nothing is lost.
@@ -9,11 +9,6 @@ pub record BigEndian (s : Bytes) (r : ℕ) : Type 0 where
   pub is : r ≡ big_endian s % 2 ^ 64
   pub whole : length s ≤ 8 → r ≡ big_endian s
   pub small : r < 256 ^ length s
-
--- `r` is the number in the four bytes at offset `n`.
-pub record Four (s : Bytes) (n r : ℕ) : Type 0 where
-  pub is : r ≡ number n 4 s
-  pub small : r < 4294967296
 
 -- The number, if there is one, has at most `most` digits.
 abbrev pub Digits : ℕ → Option ℕ → Type 0

@@ -1,5 +1,5 @@
 // Lines. A line ends at the first 0A, and one 0D directly before it belongs to the line end.
-ghost use Rattle.std.specs.Prelude.{◌-◌, ◌≤◌, ◌≡◌, ◌&&◌, length, get_or, ltb, eqb};
+ghost use Rattle.std.specs.Prelude.{◌-◌, ◌≤◌, ◌≡◌, length};
 ghost use Rattle.format.specs.Tree.{yaml_line};
 ghost use Rattle.scan.specs.Line.{LineRead, ExactRead};
 
@@ -41,7 +41,7 @@ fn long_line(s: &[u8], at: usize) -> Option<Line>
     if end == s.len() {
         return None;
     }
-    if ends_in_0d(s, at, end) {
+    if at < end && s[end - 1] == b'\r' {
         return Some(Line {
             text_end: end - 1,
             next: end + 1,
@@ -53,17 +53,6 @@ fn long_line(s: &[u8], at: usize) -> Option<Line>
         next: end + 1,
         ending: LineEnd::Lf,
     })
-}
-
-// Whether the bytes of `s` from `at` to `end` end in 0D.
-fn ends_in_0d(s: &[u8], at: usize, end: usize) -> bool
-    requires { end ≤ length s.now }
-    ensures { result ≡ ltb at end && eqb (get_or s.now (end - 1) 0) 13 }
-{
-    if end <= at {
-        return false;
-    }
-    s[end - 1] == b'\r'
 }
 
 // If the line at an offset is `word`, returns where the next line begins, and how this line ends.

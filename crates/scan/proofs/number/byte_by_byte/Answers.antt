@@ -1,9 +1,7 @@
-use Rattle.std.proofs.Common.{rules}
-use Rattle.scan.proofs.NumberLaws.{big_endian_step, big_endian_done}
+use Rattle.std.proofs.Common.{arith}
+use Rattle.scan.proofs.NumberLaws.{big_endian_step}
 use Rattle.scan.proofs.number.byte_by_byte.Goals as goal
 
-pub loop-i-preserved : goal.loop-i-preserved
-loop-i-preserved c = search (big_endian_step, rules)
-
-pub returns : goal.returns
-returns c = search (big_endian_done, rules)
+pub loop-b-preserved : goal.loop-b-preserved
+loop-b-preserved c =
+    big_endian_step _ _ _ c.loop-b.invariant _ c.from.ensures (omega (arith, c.type_inv.s c.loop-b.b-index)) c.loop-b-test.true

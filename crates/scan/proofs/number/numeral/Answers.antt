@@ -1,19 +1,17 @@
 -- Each test is one that a numeral passes. If all are passed, the result is the number of the digits.
-use Rattle.std.proofs.Common.{rules}
-use Rattle.scan.proofs.NumberLaws.{numeral_empty, numeral_long, numeral_longer, numeral_zero, numeral_read}
+use Rattle.std.proofs.Common.{rules, arith}
+use Rattle.scan.proofs.NumberLaws.{numeral_empty, numeral_long, numeral_zero, numeral_read}
 use Rattle.scan.proofs.number.numeral.Goals as goal
+use Rattle.scan.proofs.number.numeral.Goals.{then-is_empty-via-then-is_empty, then-is_empty-via-else-is_empty+then-min-t, then-is_empty-via-else-is_empty+else-min-t+then-not-leads_well}
 
-pub returns-then-t-lt1 : goal.returns-then-t-lt1
-returns-then-t-lt1 c = search (numeral_empty, rules)
-
-pub returns-then-most-t : goal.returns-then-most-t
-returns-then-most-t c = search (numeral_long, rules)
-
-pub returns-then-t-gt19 : goal.returns-then-t-gt19
-returns-then-t-gt19 c = search (numeral_longer, rules)
-
-pub returns-then-not-leads_well : goal.returns-then-not-leads_well
-returns-then-not-leads_well c = search (numeral_zero, rules)
+pub returns-then-is_empty : goal.returns-then-is_empty
+returns-then-is_empty c =
+    elim c.then-is_empty.branch [
+      | then-is_empty-via-then-is_empty w ↦ search (numeral_empty, rules)
+      | then-is_empty-via-else-is_empty+then-min-t w ↦ search (numeral_long, rules)
+      | then-is_empty-via-else-is_empty+else-min-t+then-not-leads_well w ↦ search (numeral_zero, rules)
+    ]
 
 pub returns : goal.returns
-returns c = search (numeral_read, rules)
+returns c =
+    numeral_read _ _ _ c.leads_well.ensures _ _ c.if-not-leads_well.false c.digits.ensures c.is_empty.ensures c.if-is_empty.false (omega arith)

@@ -1,15 +1,13 @@
+-- The bytes from the offset on, if there are as many as the word has, are compared with the word.
 use Rattle.std.proofs.Common.{rules}
-use Rattle.scan.proofs.TextLaws.{begins_short, begins_differs, begins_step, begins_done}
+use Rattle.scan.proofs.TextLaws.{begins_past, begins_front, begins_long}
 use Rattle.scan.proofs.text.begins_at.Goals as goal
 
-pub returns-then-s-i : goal.returns-then-s-i
-returns-then-s-i c = search (begins_short, rules)
+pub returns-then-s-at : goal.returns-then-s-at
+returns-then-s-at c = search (begins_past, rules)
 
-pub returns-then-word-j : goal.returns-then-word-j
-returns-then-word-j c = search (begins_differs, rules)
+pub returns-then-word-rest : goal.returns-then-word-rest
+returns-then-word-rest c = search (begins_front, rules)
 
-pub loop-j-preserved : goal.loop-j-preserved
-loop-j-preserved c = search (begins_step, rules)
-
-pub returns : goal.returns
-returns c = search (begins_done, rules)
+pub returns-else-word-rest : goal.returns-else-word-rest
+returns-else-word-rest c = search (begins_long, rules)
