@@ -1,5 +1,5 @@
 -- Blocks one after another.
-use Rattle.std.proofs.Common.{◌≡◌, ℕ, zero, suc, ◌+◌, ◌-◌, ◌*◌, ◌/◌, ◌%◌, ◌<◌, ◌≤◌, [], ◌∷◌, ◌++◌, length, take, drop, sym, refl, ◌∙◌, append_assoc, add-zero, suc-add, zero-add, arith, length-append, length-drop, take-append-drop, length-take-le, drop-drop}
+use Rattle.std.proofs.Common.{◌≡◌, ℕ, zero, suc, ◌+◌, ◌-◌, ◌*◌, ◌/◌, ◌%◌, ◌<◌, ◌≤◌, [], ◌∷◌, ◌++◌, length, take, drop, sym, refl, ap, ◌∙◌, append_assoc, add-zero, suc-add, zero-add, arith, length-append, length-drop, take-append-drop, length-take-le, drop-drop}
 use lib.Seq.{take-append-le, drop-append-le, drop-append-add}
 use Rattle.md5_parts.specs.declared.words.Words.{Words}
 use Rattle.format.specs.Bytes.{Bytes}
@@ -17,6 +17,9 @@ words_front (suc n) p t h =
 compressed_front : (w : Words) (p t : Bytes) → 64 ≤ length p → compressed w (p ++ t) ≡ compressed w p
 unfolding compressed
 compressed_front w p t h = rw (words_front 16 p t (omega arith))
+
+pub compressed_take : (w : Words) (t : Bytes) → 64 ≤ length t → compressed w (take 64 t) ≡ compressed w t
+compressed_take w t h = sym (compressed_front w (take 64 t) (drop 64 t) (omega (arith, length-take-le 64 t h))) ∙ ap (compressed w) (take-append-drop 64 t)
 
 -- first the blocks of p, then those behind it
 blocks_append : (k n : ℕ) (w : Words) (p t : Bytes) → length p ≡ 64 * k → blocks (k + n) w (p ++ t) ≡ blocks n (blocks k w p) t
@@ -71,20 +74,3 @@ pub left_on : (s t : Bytes) → left (left s ++ t) ≡ left (s ++ t)
 left_on s t =
     let on = left_append (length s / 64) (front s) (left s ++ t) (front_size s) in
     sym (rw (← append_assoc, front_left) at on)
-
--- the loop over the blocks of s from w on: those from offset `at` on are hashed from v
-module _ (w v : Words) (s : Bytes) (at : ℕ) (inv : hashed v (drop at s) ≡ hashed w s) where
-  -- one block more
-  pub blocks_again : 64 ≤ length s - at → (u : Words) → u ≡ compressed v (drop at s) → hashed u (drop (at + 64) s) ≡ hashed w s
-  unfolding blocks
-  blocks_again h u e =
-      let more : length (drop at s) / 64 ≡ suc (length (drop (at + 64) s) / 64) = simp length-drop (omega arith) in
-      let one : hashed v (drop at s) ≡ hashed (compressed v (drop at s)) (drop (at + 64) s) = rw (more, blocks, drop-drop) in
-      rw e (sym one ∙ inv)
-
-  -- none is left
-  pub blocks_done : length s - at < 64 → v ≡ hashed w s
-  unfolding blocks
-  blocks_done h =
-      let none : length (drop at s) / 64 ≡ 0 = simp length-drop (omega arith) in
-      rw none at inv

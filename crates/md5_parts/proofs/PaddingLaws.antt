@@ -2,16 +2,13 @@
 use Rattle.std.proofs.Common.{◌≡◌, ℕ, ◌+◌, ◌-◌, ◌*◌, ◌/◌, ◌%◌, ◌^◌, ◌<◌, ◌≤◌, [], ◌∷◌, ◌++◌, length, take, drop, sym, refl, ap, ◌∙◌, append_assoc, append-nil, arith, length-append, length-take-le}
 use lib.ListN.{length-replicate}
 use lib.Seq.{take-append_seam}
+use Rattle.std.specs.Int.{w64, to_le_bytes}
 use Rattle.format.specs.Bytes.{Bytes}
 use Rattle.md5_parts.specs.declared.words.Words.{Words}
-use Rattle.md5_parts.specs.Md5.{from_little, compressed, blocks, hashed, padding}
+use Rattle.md5_parts.specs.Md5.{compressed, blocks, hashed, padding}
 use Rattle.md5_parts.specs.State.{in_block}
 use Rattle.md5_parts.proofs.BlockLaws.{hashed_append}
 use Rattle.md5_parts.proofs.JoinLaws.{zeros, zeros_append}
-
--- The number of bits: what the code works out in 64 bits is what counts.
-bits_is : (n : ℕ) → n % 2305843009213693952 * 8 ≡ 8 * n % 2 ^ 64
-bits_is n = omega arith
 
 -- A block that is full has no zeros after it.
 pub full : (t : Bytes) → length t ≡ 64 → in_block t ≡ t
@@ -27,19 +24,9 @@ two_blocks : (w : Words) (b c : Bytes) → length b ≡ 64 → length c ≡ 64 �
 unfolding blocks
 two_blocks w b c h g = hashed_append 1 b c (omega arith) w ∙ one_block (compressed w b) c g
 
-eight_size : (x : ℕ) → length (from_little 8 x) ≡ 8
-eight_size x = refl
-
--- A message of `n` bytes: `p` begins with those after its whole blocks. `block` holds them and the bit after them, and
--- `size` is the number of bits.
-module _ (w : Words) (p : Bytes) (n : ℕ) (room : length p ≡ 64) (block size : Bytes) (eb : block ≡ in_block (take (n % 64) p ++ (128 ∷ []))) (es : size ≡ from_little 8 (n % 2305843009213693952 * 8)) where
-  -- The bytes after the whole blocks.
-  abbrev h : Bytes
-  h = take (n % 64) p
-
-  held : length h ≡ n % 64
-  held = length-take-le (n % 64) p (omega arith)
-
+-- A message of `n` bytes: `h` has those after its whole blocks. `block` holds them and the bit after them, and `size` is
+-- the number of bits.
+module _ (w : Words) (h : Bytes) (n : ℕ) (held : length h ≡ n % 64) (block size : Bytes) (eb : block ≡ in_block (h ++ (128 ∷ []))) (es : size ≡ to_le_bytes w64 (n * 8 % 2 ^ 64)) where
   -- What is held, and the bit.
   abbrev marked : Bytes
   marked = h ++ (128 ∷ [])
@@ -47,8 +34,8 @@ module _ (w : Words) (p : Bytes) (n : ℕ) (room : length p ≡ 64) (block size 
   marked_size : length marked ≡ n % 64 + 1
   marked_size = length-append h (128 ∷ []) ∙ omega (arith, held)
 
-  size_is : size ≡ from_little 8 (8 * n % 2 ^ 64)
-  size_is = es ∙ ap (from_little 8) (bits_is n)
+  size_is : size ≡ to_le_bytes w64 (8 * n % 2 ^ 64)
+  size_is = let bits : n * 8 % 2 ^ 64 ≡ 8 * n % 2 ^ 64 = omega arith in rw bits at es
 
   size_length : length size ≡ 8
   size_length = ap length size_is
@@ -56,7 +43,7 @@ module _ (w : Words) (p : Bytes) (n : ℕ) (room : length p ≡ 64) (block size 
   -- The message ends with the bit, zeros and the number of bits.
   ending : h ++ padding n ≡ marked ++ (zeros ((119 - n % 64) % 64) ++ size)
   unfolding padding
-  ending = rw size_is (sym (append_assoc h (128 ∷ []) (zeros ((119 - n % 64) % 64) ++ from_little 8 (8 * n % 2 ^ 64))))
+  ending = rw size_is (sym (append_assoc h (128 ∷ []) (zeros ((119 - n % 64) % 64) ++ to_le_bytes w64 (8 * n % 2 ^ 64))))
 
   -- The block that begins with what is held.
   block_is : block ≡ marked ++ zeros (63 - n % 64)
@@ -84,7 +71,7 @@ module _ (w : Words) (p : Bytes) (n : ℕ) (room : length p ≡ 64) (block size 
         ending ∙ ap (λ (k : ℕ). marked ++ (zeros k ++ size)) e ∙ sym (append_assoc marked (zeros (55 - n % 64)) size)
 
     -- If fewer than 56 bytes are held, all is one block.
-    pub one_last : (last : Bytes) → last ≡ in_block (take 56 block ++ size) → (v : Words) → v ≡ compressed w (drop 0 last) → v ≡ hashed w (h ++ padding n)
+    pub one_last : (last : Bytes) → last ≡ in_block (take 56 block ++ size) → (v : Words) → v ≡ compressed w last → v ≡ hashed w (h ++ padding n)
     one_last last el v ev =
         let whole : length (front ++ size) ≡ 64 = length-append front size ∙ omega (arith, front_size, size_length) in
         let is : last ≡ front ++ size = el ∙ ap (λ (t : Bytes). in_block (t ++ size)) front_is ∙ full (front ++ size) whole in
@@ -92,8 +79,8 @@ module _ (w : Words) (p : Bytes) (n : ℕ) (room : length p ≡ 64) (block size 
 
   module _ (many : 56 ≤ n % 64) where
     -- Otherwise there are two.
-    pub two_last : (last : Bytes) → last ≡ in_block (zeros 56 ++ size) → (u : Words) → u ≡ compressed w (drop 0 block)
-        → (v : Words) → v ≡ compressed u (drop 0 last) → v ≡ hashed w (h ++ padding n)
+    pub two_last : (last : Bytes) → last ≡ in_block (zeros 56 ++ size) → (u : Words) → u ≡ compressed w block
+        → (v : Words) → v ≡ compressed u last → v ≡ hashed w (h ++ padding n)
     two_last last el u eu v ev =
         let first-whole : length block ≡ 64 = ap length block_is ∙ simp (length-append, length-replicate) (omega (arith, held)) in
         let whole : length (zeros 56 ++ size) ≡ 64 = simp (length-append, length-replicate) (omega (arith, size_length)) in

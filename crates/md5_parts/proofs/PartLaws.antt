@@ -1,81 +1,79 @@
 -- A part that is given to a state.
-use Rattle.std.proofs.Common.{◌≡◌, ℕ, ◌+◌, ◌-◌, ◌*◌, ◌/◌, ◌%◌, ◌<◌, ◌≤◌, ◌++◌, length, take, drop, sym, ap, ◌∙◌, append_assoc, arith, length-append, length-drop, take-append-drop, length-take, length-take-le, drop-drop, le-leb}
+use Rattle.std.proofs.Common.{◌≡◌, ℕ, zero, suc, List, [], refl, append-nil, ◌+◌, ◌-◌, ◌*◌, ◌/◌, ◌%◌, ◌<◌, ◌≤◌, ◌++◌, length, take, drop, sym, ap, ◌∙◌, append_assoc, arith, length-append, length-drop, take-append-drop, length-take, length-take-le, drop-drop, le-leb}
 use borrow.Author.Tests.{lt-leb}
+use Rattle.std.specs.List.{fold}
+use Rattle.std.specs.Simd.{first_chunks}
 use Rattle.md5_parts.specs.declared.words.Words.{Words}
 use Rattle.md5_parts.specs.declared.state.Md5.{Md5}
 use Rattle.md5_parts.specs.declared.state.Fed.{Fed}
-use Rattle.md5_parts.specs.declared.state.PartAnswer.TheVariants.{Taken, Refused}
+use Rattle.format.specs.declared.refusal.Reason.TheVariants.{FileTooLong}
 use Rattle.format.specs.Bytes.{Bytes}
 use Rattle.md5_parts.specs.Md5.{compressed, blocks, hashed, left, padding, digest_of}
 use Rattle.format.specs.File.{most_bytes}
-use Rattle.format.specs.Outcome.{refusal}
+use Rattle.format.specs.Outcome.{accepted, refused, refusal}
 use Rattle.format.specs.declared.refusal.Refusal.{Refusal}
 use Rattle.format.specs.declared.refusal.Reason.TheVariants.{FileTooLong}
 use Rattle.md5_parts.specs.State.{in_block, held, next, taken, fed, digest}
-use Rattle.format.proofs.PartLaws.{part_all}
-use Rattle.md5_parts.proofs.BlockLaws.{hashed_append, left_append}
+use Rattle.md5_parts.proofs.BlockLaws.{compressed_take, hashed_append, left_append}
 use Rattle.md5_parts.proofs.PaddingLaws.{full}
 
--- The first `k` bytes of the block `p`, which a state holds, and the part `t` after them.
-module _ (p t : Bytes) (k : ℕ) where
+-- Blocks that are cut off are hashed one after another.
+chunks_fold : (n : ℕ) (w : Words) (t : Bytes) → 64 * n ≤ length t → fold compressed w (first_chunks 64 n t) ≡ blocks n w t
+unfolding blocks
+chunks_fold zero w t h = refl
+chunks_fold (suc n) w t h =
+    let one : compressed w (take 64 t) ≡ compressed w t = compressed_take w t (omega arith) in
+    ap (λ (v : Words). fold compressed v (first_chunks 64 n (drop 64 t))) one ∙ chunks_fold n (compressed w t) (drop 64 t) (simp length-drop (omega arith))
+
+-- A part `t` that is added to the state `st`.
+module _ (st : Md5) (t : Bytes) where
   abbrev all : Bytes
-  all = take k p ++ t
+  all = held st ++ t
 
-  -- Case: together they are less than a block.
-  module _ (q : length t < 64 - k) where
-    no_block : length all / 64 ≡ 0
-    no_block = omega (arith, length-append (take k p) t, length-take k p)
+  -- Case: together with what is held it is less than a block.
+  pub add_short : length t < 64 - length (held st) → (p : Bytes) → p ≡ in_block all
+      → ◌≡◌ {A = Md5} (record { words = st.words; pending = p; count = st.count + length t }) (next st t)
+  unfolding next blocks
+  add_short q p e =
+      let none : length all / 64 ≡ 0 = omega (arith, length-append (held st) t) in
+      rw (e, none)
 
-    pub on_short : (w : Words) → w ≡ hashed w all
-    unfolding blocks
-    on_short w = rw no_block
-
-    pub rest_short : (r : Bytes) → r ≡ in_block all → r ≡ in_block (left all)
-    rest_short r e =
-        let none : 64 * (length all / 64) ≡ 0 = omega (arith, no_block) in
-        let whole : left all ≡ all = rw none in
-        rw (e, whole)
-
-  -- Case: they begin with a block.
-  module _ (size : length p ≡ 64) (few : k < 64) (room : ℕ) (er : room ≡ 64 - k) (q : room ≤ length t) where
+  -- Case: they begin with a block. `room` bytes of the part fill it, and the others are cut into blocks and what is left.
+  module _ (few : length (held st) < 64) (room : ℕ) (er : room ≡ 64 - length (held st)) (q : room ≤ length t) where
     abbrev first : Bytes
-    first = take k p ++ take room t
+    first = held st ++ take room t
 
     first_size : length first ≡ 64 * 1
-    first_size = omega (arith, length-append (take k p) (take room t), length-take-le k p (omega arith), length-take-le room t q)
+    first_size = omega (arith, length-append (held st) (take room t), length-take-le room t q)
 
     whole : first ++ drop room t ≡ all
     whole = rw (append_assoc, take-append-drop)
 
-    pub on_long : (w : Words) (b : Bytes) → b ≡ in_block first → (v : Words) → v ≡ compressed w (drop 0 b)
-        → (r : Words) → r ≡ hashed v (take (length t - room) (drop room t)) → r ≡ hashed w all
-    unfolding blocks
-    on_long w b eb v ev r e =
-        let is : b ≡ first = eb ∙ full first (omega (arith, first_size)) in
-        let rest : take (length t - room) (drop room t) ≡ drop room t = part_all t room in
-        let on = hashed_append 1 first (drop room t) first_size w in
-        rw (e, rest, ev, is) (sym on ∙ ap (hashed w) whole)
-
-    pub rest_long : (from : ℕ) → from ≡ length t - (length t - room) % 64 → (r : Bytes) → r ≡ in_block (take 0 t ++ take (length t - from) (drop from t))
-        → r ≡ in_block (left all)
-    rest_long from ef r e =
-        let on = left_append 1 first (drop room t) first_size in
-        let size : room + 64 * (length (drop room t) / 64) ≡ from = simp length-drop (omega arith) in
-        let same : left all ≡ drop from t = ap left (sym whole) ∙ on ∙ drop-drop (64 * (length (drop room t) / 64)) room t ∙ ap (λ (n : ℕ). drop n t) size in
-        rw (e, part_all t from, same)
+    pub add_long : (h f u : Bytes) → h ≡ held st → f ≡ take room t → u ≡ drop room t → (b : Bytes) → b ≡ in_block (h ++ f) → (v : Words) → v ≡ compressed st.words b
+        → (cut : List Bytes) → cut ≡ first_chunks 64 (length u / 64) u → (r : Words) → r ≡ fold compressed v cut
+        → (l : Bytes) → l ≡ drop (length u / 64 * 64) u → (p : Bytes) → p ≡ in_block (l ++ [])
+        → ◌≡◌ {A = Md5} (record { words = r; pending = p; count = st.count + length t }) (next st t)
+    unfolding next blocks
+    add_long h f u eh ef eu b eb v ev cut ec r e l el p ep =
+        let is : b ≡ first = (rw (eh, ef) at eb) ∙ full first (omega (arith, first_size)) in
+        let hashed-on : hashed st.words all ≡ hashed (compressed st.words first) (drop room t) = sym (ap (hashed st.words) whole) ∙ hashed_append 1 first (drop room t) first_size st.words in
+        let words : r ≡ hashed st.words all = rw (e, ec, eu, ev, is) (chunks_fold (length (drop room t) / 64) (compressed st.words first) (drop room t) (omega arith) ∙ sym hashed-on) in
+        let order : length (drop room t) / 64 * 64 ≡ 64 * (length (drop room t) / 64) = omega arith in
+        let rest : l ≡ left all = rw (el, eu, order) (sym (sym (ap left whole) ∙ left_append 1 first (drop room t) first_size)) in
+        rw (words, ep, append-nil, rest)
 
 -- A part that is refused, and one that is taken.
 module _ (st : Md5) (t : Bytes) where
-  pub part_long : most_bytes < st.count + length t → (r : Refusal) → r ≡ refusal FileTooLong 0 → ◌≡◌ {A = Fed} (record { state = st; answer = Refused r }) (fed st t)
+  pub part_long : most_bytes < st.count + length t → (r : Refusal) → r ≡ refusal FileTooLong 0
+      → ◌≡◌ {A = Fed} (record { state = st; answer = refused r }) (fed st t)
   unfolding fed taken
   part_long q r e = rw (lt-leb (st.count + length t) most_bytes q, fed, taken, e)
 
-  pub part_taken : st.count + length t ≤ most_bytes → (w : Words) (p : Bytes) → w ≡ hashed st.words (held st ++ t) → p ≡ in_block (left (held st ++ t))
-      → ◌≡◌ {A = Fed} (record { state = record { words = w; pending = p; count = st.count + length t }; answer = Taken }) (fed st t)
-  unfolding fed taken next
-  part_taken q w p ew ep = rw (le-leb (st.count + length t) most_bytes q, fed, taken, ew, ep)
+  pub part_taken : st.count + length t ≤ most_bytes → (n : Md5) → n ≡ next st t → ◌≡◌ {A = Fed} (record { state = n; answer = accepted tt }) (fed st t)
+  unfolding fed taken
+  part_taken q n e = rw (le-leb (st.count + length t) most_bytes q, fed, taken, e)
 
 -- The digest of a state.
-pub digest_made : (st : Md5) (v : Words) (d : Bytes) → v ≡ hashed st.words (held st ++ padding st.count) → d ≡ digest_of v → d ≡ digest st
+pub digest_made : (st : Md5) (h : Bytes) → h ≡ held st → (v : Words) (d : Bytes) → v ≡ hashed st.words (h ++ padding st.count) → d ≡ digest_of v → d ≡ digest st
 unfolding digest
-digest_made st v d ev ed = ed ∙ ap digest_of ev
+digest_made st h eh v d ev ed = rw (ed, ev, eh)

@@ -2,11 +2,11 @@
 use Rattle.std.proofs.Common.{◌≡◌, ℕ, ◌+◌, ◌%◌, ◌≤◌, Bool, true, false, leb, List, [], ◌∷◌, ◌++◌, length, refl, ap, ◌∙◌, append_assoc, append-nil, arith, length-append, take_at, le-leb}
 use Rattle.md5_parts.specs.declared.state.Md5.{Md5}
 use Rattle.md5_parts.specs.declared.state.Fed.{Fed}
-use Rattle.md5_parts.specs.declared.state.PartAnswer.TheVariants.{Taken, Refused}
+use Rattle.format.specs.declared.refusal.Reason.TheVariants.{FileTooLong}
 use Rattle.format.specs.Bytes.{Bytes}
 use Rattle.md5_parts.specs.Md5.{blocks, start, hashed, left, padding, md5}
 use Rattle.format.specs.File.{most_bytes}
-use Rattle.format.specs.Outcome.{refusal}
+use Rattle.format.specs.Outcome.{accepted, refused, refusal}
 use Rattle.md5_parts.specs.State.{held, starting, next, fits, taken, fed, digest, fed_all, AllTaken, joined_all, taken_of, CutsAgree}
 use Rattle.md5_parts.proofs.BlockLaws.{left_size, hashed_on, left_on}
 use Rattle.format.specs.declared.refusal.Reason.TheVariants.{FileTooLong}
@@ -34,11 +34,11 @@ next_holds st s t h =
     }
 
 -- What comes back for a part that fits, and for one that does not.
-pub fed_fits : (st : Md5) (t : Bytes) → fits st t ≡ true → ◌≡◌ {A = Fed} (fed st t) (record { state = next st t; answer = Taken })
+pub fed_fits : (st : Md5) (t : Bytes) → fits st t ≡ true → ◌≡◌ {A = Fed} (fed st t) (record { state = next st t; answer = accepted tt })
 unfolding fed taken
 fed_fits st t e = rw (fed, taken, e)
 
-pub fed_long : (st : Md5) (t : Bytes) → fits st t ≡ false → ◌≡◌ {A = Fed} (fed st t) (record { state = st; answer = Refused (refusal FileTooLong 0) })
+pub fed_long : (st : Md5) (t : Bytes) → fits st t ≡ false → ◌≡◌ {A = Fed} (fed st t) (record { state = st; answer = refused (refusal FileTooLong 0) })
 unfolding fed taken
 fed_long st t e = rw (fed, taken, e)
 

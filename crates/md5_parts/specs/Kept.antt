@@ -7,8 +7,7 @@ use Rattle.format.specs.Fields.{number_bytes}
 use Rattle.format.specs.Lent.{leaves}
 use Rattle.format.specs.Promise.{Returned}
 use Rattle.md5_parts.specs.declared.state.Md5.{Md5}
-use Rattle.md5_parts.specs.declared.state.PartAnswer.{PartAnswer}
-use Rattle.md5_parts.specs.declared.state.PartAnswer.TheVariants.{Taken, Refused}
+use Rattle.format.specs.declared.refusal.Reason.TheVariants.{BufferTooShort}
 use Rattle.md5_parts.specs.declared.words.Words.{Words}
 use Rattle.md5_parts.specs.Md5.{md5}
 use Rattle.md5_parts.specs.State.{starting, taken, digest, joined_all, taken_of}
@@ -53,14 +52,9 @@ digest_bytes b = do
   need (nat_le state_bytes (length b)) BufferTooShort 0
   accepted (digest (decode_state b))
 
--- What the answer to a part says. If it is taken, there is no value to give.
-unfoldable pub part_answer : PartAnswer → Outcome (Unit {0})
-part_answer Taken = accepted tt
-part_answer (Refused r) = refused r
-
 -- `r` is the answer if the part `t` is given to the state in `b`, and `after` is what these bytes are then.
-pub record PartKept (b t after : Bytes) (r : PartAnswer) : Type 0 where
-  pub answer : part_answer r ≡ ◌>>◌ (part_bytes b t) (accepted tt)
+pub record PartKept (b t after : Bytes) (r : Outcome (Unit {0})) : Type 0 where
+  pub answer : r ≡ ◌>>◌ (part_bytes b t) (accepted tt)
   pub bytes : after ≡ leaves (part_bytes b t) b
 
 -- The same for the returned number, which is 0 if the part is taken.

@@ -1,6 +1,8 @@
 -- MD5 as RFC 1321 defines it: words of 32 bits, the four rounds of a block, the padding and the digest.
-use Rattle.std.specs.Prelude.{ℕ, zero, suc, ◌+◌, ◌-◌, ◌*◌, ◌/◌, ◌%◌, ◌^◌, List, [], ◌∷◌, ◌++◌, length, take, drop, replicate, bit_and, bit_or, bit_xor, slice_index}
+use Rattle.std.specs.Prelude.{ℕ, Bool, true, ◌&&◌, nat_lt, zero, suc, ◌+◌, ◌-◌, ◌*◌, ◌/◌, ◌%◌, ◌^◌, List, [], ◌∷◌, ◌++◌, length, take, drop, replicate, bit_and, bit_or, bit_xor, slice_index}
+use Rattle.std.specs.Int.{w32, w64, from_le_bytes, to_le_bytes}
 use Rattle.format.specs.Bytes.{Bytes}
+use Rattle.md5_parts.specs.declared.rounds.Operation.{Operation}
 use Rattle.md5_parts.specs.declared.words.Words.{Words}
 
 -- The sum of two words. What exceeds 32 bits is lost.
@@ -40,13 +42,7 @@ stepped a b mix x s t = word_sum b (rotated s ((a + mix + x + t) % 2 ^ 32))
 unfoldable pub operation : (ℕ → ℕ → ℕ → ℕ) → ℕ → ℕ → ℕ → Words → Words
 operation mix x s t w = record { a = w.d; b = stepped w.a w.b (mix w.b w.c w.d) x s t; c = w.b; d = w.c }
 
--- Which word of the block an operation takes, by how many bits it rotates, and its constant: the whole part of 2^32
--- times the sine, without its sign, of the operation's number from 1 to 64.
-pub record Operation : Type 0 where
-  pub word : ℕ
-  pub bits : ℕ
-  pub sine : ℕ
-
+-- The record of an operation, in the order in which the RFC writes it.
 abbrev op : ℕ → ℕ → ℕ → Operation
 op k s t = record { word = k; bits = s; sine = t }
 
@@ -88,20 +84,15 @@ fourth_round =
     ∷ op 4 6 0xf7537e82 ∷ op 11 10 0xbd3af235 ∷ op 2 15 0x2ad7d2bb ∷ op 9 21 0xeb86d391
     ∷ []
 
--- The number that these bytes give; the first byte is the least significant.
-abbrev pub little_endian : Bytes → ℕ
-little_endian [] = 0
-little_endian (b ∷ s) = b + 256 * little_endian s
+-- Whether each of these operations takes one of the sixteen words, and rotates by 1 to 31 bits.
+abbrev pub all_fit : List Operation → Bool
+all_fit [] = true
+all_fit (o ∷ os) = nat_lt o.word 16 && (nat_lt 0 o.bits && (nat_lt o.bits 32 && all_fit os))
 
--- The lowest `w` bytes of the number `x`, the least significant first.
-abbrev pub from_little : ℕ → ℕ → Bytes
-from_little zero x = []
-from_little (suc w) x = x % 256 ∷ from_little w (x / 256)
-
--- The first `n` words of `t`, of four bytes each.
+-- The first `n` words of `t`, of four bytes each, the least significant byte first.
 unfoldable pub words_of : ℕ → Bytes → List ℕ
 words_of zero t = []
-words_of (suc n) t = little_endian (take 4 t) ∷ words_of n (drop 4 t)
+words_of (suc n) t = from_le_bytes w32 (take 4 t) ∷ words_of n (drop 4 t)
 
 -- The sums of the words in the same places.
 unfoldable pub added : Words → Words → Words
@@ -135,18 +126,12 @@ start = record { a = 0x67452301; b = 0xefcdab89; c = 0x98badcfe; d = 0x10325476 
 -- What follows a message of `n` bytes: a bit that is set, zeros up to eight bytes before the end of a block, and the
 -- number of bits in the message, of which the lowest 64 bits count.
 unfoldable pub padding : ℕ → Bytes
-padding n = 128 ∷ (replicate ((119 - n % 64) % 64) 0 ++ from_little 8 (8 * n % 2 ^ 64))
+padding n = 128 ∷ (replicate ((119 - n % 64) % 64) 0 ++ to_le_bytes w64 (8 * n % 2 ^ 64))
 
--- The sixteen bytes of four words.
+-- The sixteen bytes of four words, the least significant byte of each first.
 unfoldable pub digest_of : Words → Bytes
-digest_of w = from_little 4 w.a ++ (from_little 4 w.b ++ (from_little 4 w.c ++ from_little 4 w.d))
+digest_of w = to_le_bytes w32 w.a ++ (to_le_bytes w32 w.b ++ (to_le_bytes w32 w.c ++ to_le_bytes w32 w.d))
 
 -- The MD5 of a message.
 unfoldable pub md5 : Bytes → Bytes
 md5 s = digest_of (hashed start (s ++ padding (length s)))
-
--- Four operations, after which each word is in its own place again. The code takes the rounds in such steps.
-unfoldable pub four_of : (ℕ → ℕ → ℕ → ℕ) → ℕ → ℕ → ℕ → ℕ → List ℕ → List ℕ → Words → Words
-four_of mix p q r s x t w =
-    operation mix (slice_index x 3) s (slice_index t 3)
-    (operation mix (slice_index x 2) r (slice_index t 2) (operation mix (slice_index x 1) q (slice_index t 1) (operation mix (slice_index x 0) p (slice_index t 0) w)))

@@ -6,7 +6,7 @@ use Rattle.format.specs.Outcome.{Outcome, accepted, refused, need, ◌>>◌}
 use Rattle.format.specs.File.{most_bytes}
 use Rattle.md5_parts.specs.declared.state.Md5.{Md5}
 use Rattle.md5_parts.specs.declared.state.Fed.{Fed}
-use Rattle.md5_parts.specs.declared.state.PartAnswer.TheVariants.{Taken, Refused}
+use Rattle.format.specs.declared.refusal.Reason.TheVariants.{FileTooLong}
 use Rattle.md5_parts.specs.Md5.{start, hashed, left, padding, digest_of, md5}
 use Rattle.format.specs.declared.refusal.Reason.TheVariants.{FileTooLong}
 
@@ -30,7 +30,7 @@ next st t = record { words = hashed st.words (held st ++ t); pending = in_block 
 abbrev pub fits : Md5 → Bytes → Bool
 fits st t = nat_le (st.count + length t) most_bytes
 
--- What comes of the part `t`: the next state, or refusal 1.
+-- What comes of the part `t`: the next state, or a refusal.
 unfoldable pub taken : Md5 → Bytes → Outcome Md5
 taken st t = do
   need (fits st t) FileTooLong 0
@@ -38,8 +38,8 @@ taken st t = do
 
 -- The state that comes back, and the answer beside it. After a refusal it is the state before the part.
 abbrev pub fed_by : Md5 → Outcome Md5 → Fed
-fed_by st (accepted n) = record { state = n; answer = Taken }
-fed_by st (refused r) = record { state = st; answer = Refused r }
+fed_by st (accepted n) = record { state = n; answer = accepted tt }
+fed_by st (refused r) = record { state = st; answer = refused r }
 
 -- The same for the part `t`.
 unfoldable pub fed : Md5 → Bytes → Fed
@@ -57,7 +57,7 @@ fed_all st (p ∷ ps) = fed_all (fed st p).state ps
 -- Each of these parts is taken.
 abbrev pub AllTaken : Md5 → List Bytes → Type 0
 AllTaken st [] = Unit {0}
-AllTaken st (p ∷ ps) = ((fed st p).answer ≡ Taken) × AllTaken (fed st p).state ps
+AllTaken st (p ∷ ps) = ((fed st p).answer ≡ accepted tt) × AllTaken (fed st p).state ps
 
 -- All bytes of these parts.
 unfoldable pub joined_all : List Bytes → Bytes

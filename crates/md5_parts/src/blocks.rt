@@ -1,19 +1,14 @@
-// Whole blocks, read where they are.
+// Blocks, read where they are.
 ghost use Rattle.std.specs.Prelude.{◌≡◌};
-ghost use Rattle.md5_parts.specs.Md5.{hashed};
+ghost use Rattle.std.specs.List.{fold};
+ghost use Rattle.md5_parts.specs.Md5.{compressed};
 
 use crate::rounds::compress;
 use crate::words::Words;
 
-// The words `w` after all whole blocks of `s`.
-pub(crate) fn blocks(w: Words, s: &[u8]) -> Words
-    ensures { result ≡ hashed w s.now }
+// The words `w` after these blocks.
+pub(crate) fn blocks(w: Words, blocks: &[[u8; 64]]) -> Words
+    ensures { result ≡ fold compressed w blocks.now }
 {
-    let mut v = w;
-    let mut at: usize = 0;
-    while 64 <= s.len() - at {
-        v = compress(v, s, at);
-        at += 64;
-    }
-    v
+    blocks.iter().fold(w, compress)
 }

@@ -1,197 +1,153 @@
-// The four rounds over one block. Each constant stands where RFC 1321 lists it.
-ghost use Rattle.std.specs.Prelude.{◌≡◌, ◌+◌, ◌<◌, ◌≤◌, length, drop};
-ghost use Rattle.md5_parts.specs.Md5.{word_sum, rotated, stepped, mix_f, mix_g, mix_h, mix_i, operation, round, rounds, first_round, second_round, third_round, fourth_round, four_of, added as Md5·added, compressed as Md5·compressed};
+// The four rounds over one block. Each operation stands where RFC 1321 lists it.
+ghost use Rattle.std.specs.Prelude.{◌≡◌, ℕ, ◌<◌, List, length, map, true, refl};
+ghost use Rattle.std.specs.Int.{w32, from_le_bytes};
+ghost use Rattle.md5_parts.specs.Md5.{mix_f, mix_g, mix_h, mix_i, operation, round, first_round, second_round, third_round, fourth_round, all_fit, added as Md5·added, compressed as Md5·compressed};
 
-use crate::words::{Words, words_of};
+use crate::words::Words;
 
-// The sum of two words. What exceeds 32 bits is lost.
-fn add(a: u32, b: u32) -> u32
-    ensures { result ≡ word_sum a b }
-{
-    std::num::wrapping_add_u32(a, b)
+// Which word of the block an operation takes, by how many bits it rotates, and its constant: the whole part of 2^32
+// times the sine, without its sign, of the operation's number from 1 to 64.
+#[derive(Clone, Copy, Debug, PartialEq, Eq)]
+pub(crate) struct Operation {
+    word: usize,
+    bits: u32,
+    sine: u32,
 }
 
-// The word `x` rotated to the left by `s` bits.
-fn rotate(x: u32, s: u32) -> u32
+// The operations of a round, four to a line as the RFC lists them.
+macro_rules! operations {
+    ($($word:literal $bits:literal $sine:literal,)*) => {
+        [$(Operation { word: $word, bits: $bits, sine: $sine }),*]
+    };
+}
+
+// A round: how it mixes three words, and its operations. `mix` is written so that little is left to do when `x`, which
+// the operation before works out, is known. This is what the speed depends on.
+trait Round {
+    ghost use Rattle.md5_parts.specs.declared.rounds.Operation.{Operation};
+
+    ghost mixed: { ℕ → ℕ → ℕ → ℕ };
+
+    ghost OPERATIONS: { List Operation };
+
+    const OPERATIONS: [Operation; 16];
+
+    fn mix(x: u32, y: u32, z: u32) -> u32
+        ensures { result ≡ mixed x y z };
+
+    // Each operation takes one of the sixteen words, and rotates by 1 to 31 bits.
+    ghost fits: { all_fit OPERATIONS ≡ true };
+}
+
+struct First;
+
+impl Round for First {
+    ghost mixed = { mix_f };
+
+    ghost OPERATIONS = { first_round };
+
+    const OPERATIONS: [Operation; 16] = operations![
+        0 7 0xd76aa478, 1 12 0xe8c7b756, 2 17 0x242070db, 3 22 0xc1bdceee,
+        4 7 0xf57c0faf, 5 12 0x4787c62a, 6 17 0xa8304613, 7 22 0xfd469501,
+        8 7 0x698098d8, 9 12 0x8b44f7af, 10 17 0xffff5bb1, 11 22 0x895cd7be,
+        12 7 0x6b901122, 13 12 0xfd987193, 14 17 0xa679438e, 15 22 0x49b40821,
+    ];
+
+    fn mix(x: u32, y: u32, z: u32) -> u32 {
+        z ^ (x & (y ^ z))
+    }
+
+    ghost fits = { refl };
+}
+
+struct Second;
+
+impl Round for Second {
+    ghost mixed = { mix_g };
+
+    ghost OPERATIONS = { second_round };
+
+    const OPERATIONS: [Operation; 16] = operations![
+        1 5 0xf61e2562, 6 9 0xc040b340, 11 14 0x265e5a51, 0 20 0xe9b6c7aa,
+        5 5 0xd62f105d, 10 9 0x02441453, 15 14 0xd8a1e681, 4 20 0xe7d3fbc8,
+        9 5 0x21e1cde6, 14 9 0xc33707d6, 3 14 0xf4d50d87, 8 20 0x455a14ed,
+        13 5 0xa9e3e905, 2 9 0xfcefa3f8, 7 14 0x676f02d9, 12 20 0x8d2a4c8a,
+    ];
+
+    fn mix(x: u32, y: u32, z: u32) -> u32 {
+        (x & z).wrapping_add(y & !z)
+    }
+
+    ghost fits = { refl };
+}
+
+struct Third;
+
+impl Round for Third {
+    ghost mixed = { mix_h };
+
+    ghost OPERATIONS = { third_round };
+
+    const OPERATIONS: [Operation; 16] = operations![
+        5 4 0xfffa3942, 8 11 0x8771f681, 11 16 0x6d9d6122, 14 23 0xfde5380c,
+        1 4 0xa4beea44, 4 11 0x4bdecfa9, 7 16 0xf6bb4b60, 10 23 0xbebfbc70,
+        13 4 0x289b7ec6, 0 11 0xeaa127fa, 3 16 0xd4ef3085, 6 23 0x04881d05,
+        9 4 0xd9d4d039, 12 11 0xe6db99e5, 15 16 0x1fa27cf8, 2 23 0xc4ac5665,
+    ];
+
+    fn mix(x: u32, y: u32, z: u32) -> u32 {
+        x ^ y ^ z
+    }
+
+    ghost fits = { refl };
+}
+
+struct Fourth;
+
+impl Round for Fourth {
+    ghost mixed = { mix_i };
+
+    ghost OPERATIONS = { fourth_round };
+
+    const OPERATIONS: [Operation; 16] = operations![
+        0 6 0xf4292244, 7 10 0x432aff97, 14 15 0xab9423a7, 5 21 0xfc93a039,
+        12 6 0x655b59c3, 3 10 0x8f0ccc92, 10 15 0xffeff47d, 1 21 0x85845dd1,
+        8 6 0x6fa87e4f, 15 10 0xfe2ce6e0, 6 15 0xa3014314, 13 21 0x4e0811a1,
+        4 6 0xf7537e82, 11 10 0xbd3af235, 2 15 0x2ad7d2bb, 9 21 0xeb86d391,
+    ];
+
+    fn mix(x: u32, y: u32, z: u32) -> u32 {
+        y ^ (x | !z)
+    }
+
+    ghost fits = { refl };
+}
+
+// One operation. The sum begins with what is known early.
+fn after_operation<R: Round>(w: Words, x: u32, s: u32, t: u32) -> Words
     requires { (0 < s) × (s < 32) }
-    ensures { result ≡ rotated s x }
+    ensures { result ≡ operation R.mixed x s t w }
 {
-    (x << s) | (x >> (32 - s))
+    let mix = R::mix(w.b, w.c, w.d);
+    let sum = x.wrapping_add(t).wrapping_add(w.a).wrapping_add(mix);
+    Words {
+        a: w.d,
+        b: w.b.wrapping_add(sum.rotate_left(s)),
+        c: w.b,
+        d: w.c,
+    }
 }
 
-// The functions of the four rounds. `f` and `g` are written so that little is left to do when `x`, which the operation
-// before works out, is known. This is what the speed depends on.
-fn f(x: u32, y: u32, z: u32) -> u32
-    ensures { result ≡ mix_f x y z }
+// The words `w` after a round over the words of a block, of four bytes each.
+fn after_round<R: Round>(w: Words, block: &[[u8; 4]]) -> Words
+    requires { length block.now ≡ 16 }
+    ensures { result ≡ round R.mixed R.OPERATIONS (map (from_le_bytes w32) block.now) w }
 {
-    z ^ (x & (y ^ z))
-}
-
-fn g(x: u32, y: u32, z: u32) -> u32
-    ensures { result ≡ mix_g x y z }
-{
-    add(x & z, y & !z)
-}
-
-fn h(x: u32, y: u32, z: u32) -> u32
-    ensures { result ≡ mix_h x y z }
-{
-    x ^ y ^ z
-}
-
-fn i(x: u32, y: u32, z: u32) -> u32
-    ensures { result ≡ mix_i x y z }
-{
-    y ^ (x | !z)
-}
-
-// The word that one operation works out. The sum begins with what is known early.
-fn step(a: u32, b: u32, mix: u32, x: u32, s: u32, t: u32) -> u32
-    requires { (0 < s) × (s < 32) }
-    ensures { result ≡ stepped a b mix x s t }
-{
-    add(b, rotate(add(add(add(x, t), a), mix), s))
-}
-
-// Four operations of the first round, with these words of the block and these constants.
-fn four_f(w: Words, x: [u32; 4], t: [u32; 4]) -> Words
-    ensures { result ≡ four_of mix_f 7 12 17 22 x t w }
-{
-    let a = step(w.a, w.b, f(w.b, w.c, w.d), x[0], 7, t[0]);
-    let d = step(w.d, a, f(a, w.b, w.c), x[1], 12, t[1]);
-    let c = step(w.c, d, f(d, a, w.b), x[2], 17, t[2]);
-    let b = step(w.b, c, f(c, d, a), x[3], 22, t[3]);
-    Words { a, b, c, d }
-}
-
-fn four_g(w: Words, x: [u32; 4], t: [u32; 4]) -> Words
-    ensures { result ≡ four_of mix_g 5 9 14 20 x t w }
-{
-    let a = step(w.a, w.b, g(w.b, w.c, w.d), x[0], 5, t[0]);
-    let d = step(w.d, a, g(a, w.b, w.c), x[1], 9, t[1]);
-    let c = step(w.c, d, g(d, a, w.b), x[2], 14, t[2]);
-    let b = step(w.b, c, g(c, d, a), x[3], 20, t[3]);
-    Words { a, b, c, d }
-}
-
-fn four_h(w: Words, x: [u32; 4], t: [u32; 4]) -> Words
-    ensures { result ≡ four_of mix_h 4 11 16 23 x t w }
-{
-    let a = step(w.a, w.b, h(w.b, w.c, w.d), x[0], 4, t[0]);
-    let d = step(w.d, a, h(a, w.b, w.c), x[1], 11, t[1]);
-    let c = step(w.c, d, h(d, a, w.b), x[2], 16, t[2]);
-    let b = step(w.b, c, h(c, d, a), x[3], 23, t[3]);
-    Words { a, b, c, d }
-}
-
-fn four_i(w: Words, x: [u32; 4], t: [u32; 4]) -> Words
-    ensures { result ≡ four_of mix_i 6 10 15 21 x t w }
-{
-    let a = step(w.a, w.b, i(w.b, w.c, w.d), x[0], 6, t[0]);
-    let d = step(w.d, a, i(a, w.b, w.c), x[1], 10, t[1]);
-    let c = step(w.c, d, i(d, a, w.b), x[2], 15, t[2]);
-    let b = step(w.b, c, i(c, d, a), x[3], 21, t[3]);
-    Words { a, b, c, d }
-}
-
-fn first_round(w: Words, x: [u32; 16]) -> Words
-    ensures { result ≡ round mix_f first_round x w }
-{
-    let w1 = four_f(
-        w,
-        [x[0], x[1], x[2], x[3]],
-        [0xd76aa478, 0xe8c7b756, 0x242070db, 0xc1bdceee],
-    );
-    let w2 = four_f(
-        w1,
-        [x[4], x[5], x[6], x[7]],
-        [0xf57c0faf, 0x4787c62a, 0xa8304613, 0xfd469501],
-    );
-    let w3 = four_f(
-        w2,
-        [x[8], x[9], x[10], x[11]],
-        [0x698098d8, 0x8b44f7af, 0xffff5bb1, 0x895cd7be],
-    );
-    four_f(
-        w3,
-        [x[12], x[13], x[14], x[15]],
-        [0x6b901122, 0xfd987193, 0xa679438e, 0x49b40821],
-    )
-}
-
-fn second_round(w: Words, x: [u32; 16]) -> Words
-    ensures { result ≡ round mix_g second_round x w }
-{
-    let w1 = four_g(
-        w,
-        [x[1], x[6], x[11], x[0]],
-        [0xf61e2562, 0xc040b340, 0x265e5a51, 0xe9b6c7aa],
-    );
-    let w2 = four_g(
-        w1,
-        [x[5], x[10], x[15], x[4]],
-        [0xd62f105d, 0x02441453, 0xd8a1e681, 0xe7d3fbc8],
-    );
-    let w3 = four_g(
-        w2,
-        [x[9], x[14], x[3], x[8]],
-        [0x21e1cde6, 0xc33707d6, 0xf4d50d87, 0x455a14ed],
-    );
-    four_g(
-        w3,
-        [x[13], x[2], x[7], x[12]],
-        [0xa9e3e905, 0xfcefa3f8, 0x676f02d9, 0x8d2a4c8a],
-    )
-}
-
-fn third_round(w: Words, x: [u32; 16]) -> Words
-    ensures { result ≡ round mix_h third_round x w }
-{
-    let w1 = four_h(
-        w,
-        [x[5], x[8], x[11], x[14]],
-        [0xfffa3942, 0x8771f681, 0x6d9d6122, 0xfde5380c],
-    );
-    let w2 = four_h(
-        w1,
-        [x[1], x[4], x[7], x[10]],
-        [0xa4beea44, 0x4bdecfa9, 0xf6bb4b60, 0xbebfbc70],
-    );
-    let w3 = four_h(
-        w2,
-        [x[13], x[0], x[3], x[6]],
-        [0x289b7ec6, 0xeaa127fa, 0xd4ef3085, 0x04881d05],
-    );
-    four_h(
-        w3,
-        [x[9], x[12], x[15], x[2]],
-        [0xd9d4d039, 0xe6db99e5, 0x1fa27cf8, 0xc4ac5665],
-    )
-}
-
-fn fourth_round(w: Words, x: [u32; 16]) -> Words
-    ensures { result ≡ round mix_i fourth_round x w }
-{
-    let w1 = four_i(
-        w,
-        [x[0], x[7], x[14], x[5]],
-        [0xf4292244, 0x432aff97, 0xab9423a7, 0xfc93a039],
-    );
-    let w2 = four_i(
-        w1,
-        [x[12], x[3], x[10], x[1]],
-        [0x655b59c3, 0x8f0ccc92, 0xffeff47d, 0x85845dd1],
-    );
-    let w3 = four_i(
-        w2,
-        [x[8], x[15], x[6], x[13]],
-        [0x6fa87e4f, 0xfe2ce6e0, 0xa3014314, 0x4e0811a1],
-    );
-    four_i(
-        w3,
-        [x[4], x[11], x[2], x[9]],
-        [0xf7537e82, 0xbd3af235, 0x2ad7d2bb, 0xeb86d391],
-    )
+    let mut v = w;
+    for o in &R::OPERATIONS {
+        v = after_operation::<R>(v, u32::from_le_bytes(block[o.word]), o.bits, o.sine);
+    }
+    v
 }
 
 // The sums of the words in the same places.
@@ -199,21 +155,20 @@ fn added(v: Words, w: Words) -> Words
     ensures { result ≡ Md5·added v w }
 {
     Words {
-        a: add(v.a, w.a),
-        b: add(v.b, w.b),
-        c: add(v.c, w.c),
-        d: add(v.d, w.d),
+        a: v.a.wrapping_add(w.a),
+        b: v.b.wrapping_add(w.b),
+        c: v.c.wrapping_add(w.c),
+        d: v.d.wrapping_add(w.d),
     }
 }
 
-// The words `w` after the block at an offset.
-pub(crate) fn compress(w: Words, s: &[u8], at: usize) -> Words
-    requires { at + 64 ≤ length s.now }
-    ensures { result ≡ Md5·compressed w (drop at s.now) }
+// The words `w` after a block.
+pub(crate) fn compress(w: Words, block: &[u8; 64]) -> Words
+    ensures { result ≡ Md5·compressed w block.now }
 {
-    let x = words_of(s, at);
-    added(
-        w,
-        fourth_round(third_round(second_round(first_round(w, x), x), x), x),
-    )
+    let (fours, _) = block.as_chunks::<4>();
+    let v = after_round::<First>(w, fours);
+    let v = after_round::<Second>(v, fours);
+    let v = after_round::<Third>(v, fours);
+    added(w, after_round::<Fourth>(v, fours))
 }

@@ -1,7 +1,7 @@
 // The running state of a digest whose bytes come in parts.
-ghost use Rattle.std.specs.Prelude.{◌≡◌, ◌<◌, ◌++◌, take};
-ghost use Rattle.md5_parts.specs.Md5.{hashed, left};
-ghost use Rattle.md5_parts.specs.State.{starting, fed, in_block, digest as State·digest};
+ghost use Rattle.std.specs.Prelude.{◌≡◌, ◌+◌, ◌≤◌, length};
+ghost use Rattle.format.specs.File.{most_bytes};
+ghost use Rattle.md5_parts.specs.State.{starting, held, next, fed, digest as State·digest};
 
 use crate::blocks::blocks;
 use crate::padding::{digest_of, finish, joined};
@@ -12,25 +12,19 @@ use format::refusal::{Reason, Refusal};
 
 // The words after all whole blocks so far, the bytes after these blocks, at the start of `pending`, and how many bytes
 // there were in all.
-#[derive(Clone, Copy)]
+#[derive(Clone, Copy, Debug, PartialEq, Eq)]
 pub struct Md5 {
     pub words: Words,
     pub pending: [u8; 64],
     pub count: u64,
 }
 
-// The answer to a part.
-#[derive(Clone, Copy)]
-pub enum PartAnswer {
-    Taken,
-    Refused(Refusal),
-}
-
-// The state that comes back, and the answer.
+// The state that comes back, and the answer to the part. The two stand side by side, and not in one `Result`, since the
+// state comes back after a refusal too.
 #[derive(Clone, Copy)]
 pub struct Fed {
     pub state: Md5,
-    pub answer: PartAnswer,
+    pub answer: Result<(), Refusal>,
 }
 
 impl Md5 {
@@ -38,16 +32,14 @@ impl Md5 {
     pub fn new() -> Md5
         ensures { result ≡ starting }
     {
-        let words = Words {
-            a: 0x67452301,
-            b: 0xefcdab89,
-            c: 0x98badcfe,
-            d: 0x10325476,
-        };
-        let pending = [0u8; 64];
         Md5 {
-            words,
-            pending,
+            words: Words {
+                a: 0x67452301,
+                b: 0xefcdab89,
+                c: 0x98badcfe,
+                d: 0x10325476,
+            },
+            pending: [0; 64],
             count: 0,
         }
     }
@@ -56,30 +48,16 @@ impl Md5 {
     pub fn part(mut self, bytes: &[u8]) -> Fed
         ensures { result ≡ fed self bytes.now }
     {
-        let count = self.count;
-        if count > MOST_BYTES as u64 {
+        if self.count.saturating_add(bytes.len() as u64) > MOST_BYTES as u64 {
             return Fed {
                 state: self,
-                answer: PartAnswer::Refused(Refusal::new(Reason::FileTooLong, 0)),
+                answer: Err(Refusal::new(Reason::FileTooLong, 0)),
             };
         }
-        if MOST_BYTES as u64 - count < bytes.len() as u64 {
-            return Fed {
-                state: self,
-                answer: PartAnswer::Refused(Refusal::new(Reason::FileTooLong, 0)),
-            };
-        }
-        let held = (count % 64) as usize;
-        let words = self.words;
-        let pending = self.pending;
-        let hashed = hash_on(words, pending, held, bytes);
-        let rest = rest_of(pending, held, bytes);
-        self.words = hashed;
-        self.pending = rest;
-        self.count = count + bytes.len() as u64;
+        self.add(bytes);
         Fed {
             state: self,
-            answer: PartAnswer::Taken,
+            answer: Ok(()),
         }
     }
 
@@ -87,35 +65,31 @@ impl Md5 {
     pub fn digest(self) -> [u8; 16]
         ensures { result ≡ State·digest self }
     {
-        let count = self.count;
-        let words = self.words;
-        let pending = self.pending;
-        digest_of(finish(words, pending, count))
+        digest_of(finish(self.words, self.held(), self.count))
     }
-}
 
-// The words `w` after all whole blocks of the first `held` bytes of `pending` and a part after them.
-fn hash_on(w: Words, pending: [u8; 64], held: usize, bytes: &[u8]) -> Words
-    requires { held < 64 }
-    ensures { result ≡ hashed w (take held pending ++ bytes.now) }
-{
-    let room = 64 - held;
-    if bytes.len() < room {
-        return w;
+    // The bytes after the last whole block.
+    fn held(&self) -> &[u8]
+        ensures { result.now ≡ held self.now }
+    {
+        &self.pending[..(self.count % 64) as usize]
     }
-    let first = joined(&pending[..held], &bytes[..room]);
-    blocks(compress(w, &first, 0), &bytes[room..])
-}
 
-// What is left of both after the whole blocks, with zeros after it.
-fn rest_of(pending: [u8; 64], held: usize, bytes: &[u8]) -> [u8; 64]
-    requires { held < 64 }
-    ensures { result ≡ in_block (left (take held pending ++ bytes.now)) }
-{
-    let room = 64 - held;
-    if bytes.len() < room {
-        return joined(&pending[..held], bytes);
+    // Adds a part.
+    fn add(&mut self, bytes: &[u8])
+        requires { self.old.count + length bytes.now ≤ most_bytes }
+        ensures { self.new ≡ next self.old bytes.now }
+    {
+        let room = 64 - self.held().len();
+        if bytes.len() < room {
+            self.pending = joined(self.held(), bytes);
+        } else {
+            let (front, rest) = bytes.split_at(room);
+            let first = joined(self.held(), front);
+            let (whole, left) = rest.as_chunks::<64>();
+            self.words = blocks(compress(self.words, &first), whole);
+            self.pending = joined(left, &[]);
+        }
+        self.count += bytes.len() as u64;
     }
-    let from = bytes.len() - (bytes.len() - room) % 64;
-    joined(&bytes[..0], &bytes[from..])
 }

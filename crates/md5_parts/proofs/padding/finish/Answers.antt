@@ -4,17 +4,11 @@ use Rattle.md5_parts.proofs.JoinLaws.{prefix_count}
 use Rattle.md5_parts.proofs.PaddingLaws.{one_last, two_last}
 use Rattle.md5_parts.proofs.padding.finish.Goals as goal
 
-pub slice_bounds-joined-end : goal.slice_bounds-joined-end
-slice_bounds-joined-end c = prefix_count _ _ (search rules)
-
-pub joined-block-requires : goal.joined-block-requires
-joined-block-requires c = simp length-take (omega arith)
-
 pub slice_bounds-joined-end-then-held-lt56 : goal.slice_bounds-joined-end-then-held-lt56
 slice_bounds-joined-end-then-held-lt56 c = prefix_count 56 c.joined-block.result (search rules)
 
-pub joined-last-requires : goal.joined-last-requires
-joined-last-requires c = simp length-take (omega arith)
+pub joined-requires : goal.joined-requires
+joined-requires c = simp length-take (omega arith)
 
 pub returns-then-held-lt56 : goal.returns-then-held-lt56
 returns-then-held-lt56 c = search (one_last, rules)
