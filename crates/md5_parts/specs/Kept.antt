@@ -38,19 +38,25 @@ decode_state b =
       count = number 32 8 b;
     }
 
+-- The same, unless the bytes are too short for a state.
+unfoldable pub stored_state : Bytes → Outcome Md5
+stored_state b = do
+  need (nat_le state_bytes (length b)) BufferTooShort 0
+  accepted (decode_state b)
+
 -- The bytes of the next state, if the state in `b` takes the part `t`. Bytes that are too short for a state are refused
 -- first.
 unfoldable pub part_bytes : Bytes → Bytes → Outcome Bytes
 part_bytes b t = do
-  need (nat_le state_bytes (length b)) BufferTooShort 0
-  st ← taken (decode_state b) t
-  accepted (encode_state st)
+  st ← stored_state b
+  next ← taken st t
+  accepted (encode_state next)
 
 -- The digest that the state in `b` gives.
 unfoldable pub digest_bytes : Bytes → Outcome Bytes
 digest_bytes b = do
-  need (nat_le state_bytes (length b)) BufferTooShort 0
-  accepted (digest (decode_state b))
+  st ← stored_state b
+  accepted (digest st)
 
 -- `r` is the answer if the part `t` is given to the state in `b`, and `after` is what these bytes are then.
 pub record PartKept (b t after : Bytes) (r : Outcome (Unit {0})) : Type 0 where

@@ -13,11 +13,10 @@ use Rattle.format.specs.File.{most_bytes}
 use Rattle.format.specs.Lent.{placed, leaves}
 use Rattle.format.specs.Outcome.{accepted, refused, refusal, ◌>>=◌, ◌>>◌}
 use Rattle.md5_parts.specs.declared.state.Md5.{Md5}
-use Rattle.md5_parts.specs.declared.state.PartAnswer.TheVariants.{Taken}
 use Rattle.md5_parts.specs.declared.words.Words.{Words}
 use Rattle.md5_parts.specs.Md5.{added, compressed, blocks, left}
 use Rattle.md5_parts.specs.State.{in_block, held, starting, next, fits, taken, fed, digest, fed_all, AllTaken}
-use Rattle.md5_parts.specs.Kept.{state_bytes, encode_state, decode_state, part_bytes, digest_bytes, started_in, kept_all, AllKept, KeptCutsAgree}
+use Rattle.md5_parts.specs.Kept.{state_bytes, encode_state, decode_state, stored_state, part_bytes, digest_bytes, started_in, kept_all, AllKept, KeptCutsAgree}
 use Rattle.md5_parts.proofs.BlockLaws.{left_size}
 use Rattle.md5_parts.proofs.StateLaws.{fed_fits, fed_long, cuts_agree}
 use Rattle.running.proofs.StateBytes.{Sound, decode_encode, encode_size}
@@ -93,8 +92,8 @@ module _ (b : Bytes) (st : Md5) (h : Keeps b st) where
       (omega (arith, ap length h.is, length-append (encode_state st) h.rest, encode_size st h.sound.size))
 
   part_kept : (t : Bytes) → part_bytes b t ≡ ◌>>=◌ (taken st t) (λ n. accepted (encode_state n))
-  unfolding part_bytes
-  part_kept t = rw (part_bytes, kept_long, kept_state)
+  unfolding part_bytes stored_state
+  part_kept t = rw (part_bytes, stored_state, kept_long, kept_state)
 
   -- After a part, the bytes begin with the state that comes back.
   fed_kept : (t : Bytes) (q : Bool) → fits st t ≡ q → Keeps (leaves (part_bytes b t) b) (fed st t).state
@@ -113,14 +112,14 @@ module _ (b : Bytes) (st : Md5) (h : Keeps b st) where
       rw (fed_long st t e, out) h
 
   -- If the state takes a part, so do the bytes.
-  taken_kept : (t : Bytes) (q : Bool) → fits st t ≡ q → (fed st t).answer ≡ Taken → ◌>>◌ (part_bytes b t) (accepted (tt {0})) ≡ accepted tt
+  taken_kept : (t : Bytes) (q : Bool) → fits st t ≡ q → (fed st t).answer ≡ accepted tt → ◌>>◌ (part_bytes b t) (accepted (tt {0})) ≡ accepted tt
   unfolding taken
   taken_kept t true e a = rw (part_kept t, taken, e)
   taken_kept t false e a = let clash = rw (fed_long st t e) at a in let z : ◌≡◌ {A = ℕ} 0 1 = cc in absurd (omega arith)
 
   digest_kept : digest_bytes b ≡ accepted (digest st)
-  unfolding digest_bytes
-  digest_kept = rw (digest_bytes, kept_long, kept_state)
+  unfolding digest_bytes stored_state
+  digest_kept = rw (digest_bytes, stored_state, kept_long, kept_state)
 
 -- After all parts, the bytes begin with the state after these parts.
 all_kept : (ps : List Bytes) (b : Bytes) (st : Md5) → Keeps b st → Keeps (kept_all b ps) (fed_all st ps)

@@ -1,9 +1,12 @@
-use Rattle.std.proofs.Common.{rules}
-use Rattle.running.proofs.ReturnLaws.{digest_short, digest_written}
+use Rattle.std.proofs.Common.{◌≡◌, rules}
+use Rattle.format.specs.Outcome.{refused}
+use Rattle.running.proofs.ReturnLaws.{digest_none, digest_written}
 use Rattle.running.proofs.digest.Goals as goal
 
-pub returns-then-state-lt-STATE_BYTES : goal.returns-then-state-lt-STATE_BYTES
-returns-then-state-lt-STATE_BYTES c = search (digest_short, rules)
+pub returns-in_err-decode : goal.returns-in_err-decode
+returns-in_err-decode c =
+    let is : c.from_residual.result ≡ refused c.in_err-decode.field-0.0 = search rules in
+    digest_none _ _ c.decode.ensures _ c.in_err-decode.was _ is _
 
 pub returns : goal.returns
-returns c = search (digest_written, rules)
+returns c = digest_written _ _ c.decode.ensures _ c.in_ok-decode.was _ c.digest.ensures _ _ _ c.write_text.ensures
