@@ -1,7 +1,6 @@
 -- Two parts of a block put into a block of zeros.
-use Rattle.std.proofs.Common.{◌≡◌, ℕ, zero, suc, ◌+◌, ◌-◌, ◌≤◌, [], ◌∷◌, ◌++◌, length, take, drop, replicate, sym, ap, ◌∙◌, append_assoc, append-nil, arith, length-append, drop_of_length-le, length-take-le, take_all}
-use lib.ListN.{length-replicate}
-use lib.Seq.{take-length, take-append_seam, drop-append_seam}
+use Rattle.std.proofs.Common.{◌≡◌, ℕ, zero, suc, ◌+◌, ◌-◌, ◌≤◌, ◌∷◌, ◌++◌, length, take, drop, replicate, sym, ap, ◌∙◌, append_assoc, arith, length-append, length-take-le}
+use lib.Seq.{take-append_seam, drop-append_seam}
 use borrow.Rule.Slice.PartMut.{put_mid}
 use Rattle.format.specs.Bytes.{Bytes}
 use Rattle.md5_parts.specs.State.{in_block}

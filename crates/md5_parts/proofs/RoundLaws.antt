@@ -1,12 +1,12 @@
 -- The rounds of a block, one operation after another.
-use Rattle.std.proofs.Common.{◌≡◌, ℕ, zero, suc, ◌+◌, ◌-◌, ◌/◌, ◌%◌, ◌^◌, ◌<◌, ◌≤◌, Bool, true, List, [], ◌∷◌, length, get_or, take, drop, map, refl, sym, ap, ◌∙◌, arith, drop-cons, drop_of_length-le}
+use Rattle.std.proofs.Common.{◌≡◌, ℕ, zero, suc, ◌+◌, ◌-◌, ◌/◌, ◌%◌, ◌^◌, ◌<◌, ◌≤◌, true, List, ◌∷◌, length, get_or, take, drop, map, refl, ap, arith, drop-cons, drop_of_length-le}
 use Rattle.std.proofs.lemmas.Bool.Decides.{nat_tests}
 use Rattle.std.specs.Int.{w32, rotate_left, from_le_bytes}
 use Rattle.std.specs.Simd.{first_chunks}
 use Rattle.format.specs.Bytes.{Bytes}
 use Rattle.md5_parts.specs.declared.rounds.Operation.{Operation}
 use Rattle.md5_parts.specs.declared.words.Words.{Words}
-use Rattle.md5_parts.specs.Md5.{word_sum, rotated, stepped, operation, rounds, round, first_round, second_round, third_round, fourth_round, mix_f, mix_g, mix_h, mix_i, all_fit, words_of, added, compressed}
+use Rattle.md5_parts.specs.Md5.{rotated, stepped, operation, rounds, round, first_round, second_round, third_round, fourth_round, mix_f, mix_g, mix_h, mix_i, all_fit, words_of, added, compressed}
 
 -- The library's rotation is that of the definition.
 rotate_is : (s x : ℕ) → 0 < s → s < 32 → rotate_left w32 x s ≡ rotated s x

@@ -1,7 +1,7 @@
 -- The running state as bytes that a caller keeps between its parts.
 use Rattle.std.specs.Prelude.{◌≡◌, ℕ, ◌+◌, ◌%◌, ◌^◌, ◌≤◌, List, [], ◌∷◌, ◌++◌, length, take, drop, nat_le}
 use Rattle.format.specs.Bytes.{Bytes, number}
-use Rattle.format.specs.Outcome.{Outcome, accepted, refused, need, ◌>>=◌, ◌>>◌}
+use Rattle.format.specs.Outcome.{Outcome, accepted, need, ◌>>=◌, ◌>>◌}
 use Rattle.format.specs.File.{most_bytes}
 use Rattle.format.specs.Fields.{number_bytes}
 use Rattle.format.specs.Lent.{leaves}

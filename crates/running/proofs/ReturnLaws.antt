@@ -1,5 +1,5 @@
 -- The functions over a caller's bytes: how a state is read and put, and one law for each way in which a part is answered.
-use Rattle.std.proofs.Common.{◌≡◌, List, drop_of_length-le, length-take-le, Bool, true, false, leb, ℕ, zero, suc, ◌+◌, ◌*◌, ◌-◌, ◌/◌, ◌%◌, ◌^◌, ◌<◌, ◌≤◌, [], ◌∷◌, ◌++◌, length, get_or, take, drop, replicate, refl, sym, ap, ◌∙◌, append-nil, arith, length-append, length-drop, drop-drop, le-leb}
+use Rattle.std.proofs.Common.{◌≡◌, List, drop_of_length-le, length-take-le, Bool, true, false, leb, ℕ, zero, suc, ◌+◌, ◌*◌, ◌/◌, ◌%◌, ◌^◌, ◌<◌, ◌≤◌, [], ◌∷◌, ◌++◌, length, get_or, take, drop, replicate, refl, sym, ap, ◌∙◌, append-nil, arith, length-append, length-drop, drop-drop, le-leb}
 use borrow.Author.Tests.{lt-leb}
 use Rattle.std.specs.Int.{w64, from_be_bytes}
 use Rattle.std.specs.Simd.{first_chunks}
@@ -8,11 +8,10 @@ use Rattle.format.specs.declared.refusal.Reason.TheVariants.{BufferTooShort}
 use Rattle.format.specs.Bytes.{Bytes, big_endian, number}
 use Rattle.format.specs.Fields.{number_bytes}
 use Rattle.format.specs.Lent.{placed, writes, leaves}
-use Rattle.format.specs.Outcome.{Outcome, accepted, refused, refusal, ◌>>=◌, ◌>>◌}
+use Rattle.format.specs.Outcome.{Outcome, accepted, refused, refusal, ◌>>=◌}
 use Rattle.format.specs.Promise.{Written}
 use Rattle.md5_parts.specs.declared.state.Md5.{Md5}
 use Rattle.md5_parts.specs.declared.state.Fed.{Fed}
-use Rattle.md5_parts.specs.declared.words.Words.{Words}
 use Rattle.md5_parts.specs.State.{taken, fed, digest}
 use Rattle.md5_parts.specs.Kept.{state_bytes, state_of, encode_state, decode_state, stored_state, part_bytes, digest_bytes, PartKept}
 use Rattle.put.specs.Put.{PutWhole}

@@ -1,4 +1,4 @@
-use Rattle.std.proofs.Common.{◌≡◌, ◌^◌, ◌%◌, ℕ, ap, ◌∙◌, arith}
+use Rattle.std.proofs.Common.{◌^◌, ◌%◌, ap, ◌∙◌, arith}
 use Rattle.format.specs.Bytes.{big_endian}
 use Rattle.running.proofs.ReturnLaws.{stored_none, stored_read, eight_is, number_is}
 use Rattle.running.proofs.decode.Goals as goal
