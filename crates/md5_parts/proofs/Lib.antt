@@ -6,3 +6,4 @@ pub mod JoinLaws
 pub mod PaddingLaws
 pub mod PartLaws
 pub mod StateLaws
+pub mod NumberLaws
