@@ -6,4 +6,3 @@ pub mod JoinLaws
 pub mod PaddingLaws
 pub mod PartLaws
 pub mod StateLaws
-pub mod NumberLaws

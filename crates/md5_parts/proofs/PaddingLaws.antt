@@ -1,5 +1,6 @@
 -- Laws about the padding: with what is held of the message it is one block or two.
 use Rattle.std.proofs.Common.{◌≡◌, ℕ, ◌+◌, ◌-◌, ◌*◌, ◌/◌, ◌%◌, ◌^◌, ◌<◌, ◌≤◌, [], ◌∷◌, ◌++◌, length, take, sym, ap, ◌∙◌, append_assoc, append-nil, arith, length-append}
+use Rattle.std.proofs.lemmas.List.{replicate-append-replicate}
 use lib.ListN.{length-replicate}
 use lib.Seq.{take-append_seam}
 use Rattle.std.specs.Int.{w64, to_le_bytes}
@@ -8,7 +9,7 @@ use Rattle.md5_parts.specs.declared.words.Words.{Words}
 use Rattle.md5_parts.specs.Md5.{compressed, blocks, hashed, padding}
 use Rattle.md5_parts.specs.State.{in_block}
 use Rattle.md5_parts.proofs.BlockLaws.{hashed_append}
-use Rattle.md5_parts.proofs.JoinLaws.{zeros, zeros_append}
+use Rattle.md5_parts.proofs.JoinLaws.{zeros}
 
 -- A block that is full has no zeros after it.
 pub full : (t : Bytes) → length t ≡ 64 → in_block t ≡ t
@@ -60,7 +61,7 @@ module _ (w : Words) (h : Bytes) (n : ℕ) (held : length h ≡ n % 64) (block s
     front_is : take 56 block ≡ front
     front_is =
         let more : zeros (63 - n % 64) ≡ zeros (55 - n % 64) ++ zeros 8 =
-        let e : 63 - n % 64 ≡ 55 - n % 64 + 8 = omega arith in ap zeros e ∙ sym (zeros_append (55 - n % 64) 8) in
+        let e : 63 - n % 64 ≡ 55 - n % 64 + 8 = omega arith in ap zeros e ∙ sym (replicate-append-replicate (55 - n % 64) 8 0) in
         let whole : block ≡ front ++ zeros 8 =
         block_is ∙ ap (λ (t : Bytes). marked ++ t) more ∙ sym (append_assoc marked (zeros (55 - n % 64)) (zeros 8)) in
         ap (take 56) whole ∙ ap (λ (k : ℕ). take k (front ++ zeros 8)) (sym front_size) ∙ take-append_seam front (zeros 8)
@@ -87,7 +88,7 @@ module _ (w : Words) (h : Bytes) (n : ℕ) (held : length h ≡ n % 64) (block s
         let is : last ≡ zeros 56 ++ size = el ∙ full (zeros 56 ++ size) whole in
         let e : 63 - n % 64 + 56 ≡ (119 - n % 64) % 64 = omega arith in
         let more : zeros (63 - n % 64) ++ (zeros 56 ++ size) ≡ zeros ((119 - n % 64) % 64) ++ size =
-        sym (append_assoc (zeros (63 - n % 64)) (zeros 56) size) ∙ ap (λ (t : Bytes). t ++ size) (zeros_append (63 - n % 64) 56 ∙ ap zeros e) in
+        sym (append_assoc (zeros (63 - n % 64)) (zeros 56) size) ∙ ap (λ (t : Bytes). t ++ size) (replicate-append-replicate (63 - n % 64) 56 0 ∙ ap zeros e) in
         let all : block ++ (zeros 56 ++ size) ≡ h ++ padding n =
         ap (λ (t : Bytes). t ++ (zeros 56 ++ size)) block_is ∙ append_assoc marked (zeros (63 - n % 64)) (zeros 56 ++ size)
         ∙ ap (λ (t : Bytes). marked ++ t) more ∙ sym ending in

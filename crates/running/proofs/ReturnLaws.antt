@@ -1,6 +1,7 @@
 -- The functions over a caller's bytes: how a state is read and put, and one law for each way in which a part is answered.
-use Rattle.std.proofs.Common.{◌≡◌, List, drop_of_length-le, length-take-le, Bool, true, false, leb, ℕ, ◌+◌, ◌*◌, ◌/◌, ◌%◌, ◌^◌, ◌<◌, ◌≤◌, [], ◌∷◌, ◌++◌, length, get_or, take, drop, replicate, refl, sym, ap, ◌∙◌, append-nil, arith, length-append, length-drop, le-leb}
+use Rattle.std.proofs.Common.{zero, suc, refl, drop-drop, ◌≡◌, List, drop_of_length-le, length-take-le, Bool, true, false, leb, ℕ, ◌+◌, ◌*◌, ◌/◌, ◌%◌, ◌^◌, ◌<◌, ◌≤◌, [], ◌∷◌, ◌++◌, length, get_or, take, drop, replicate, sym, ap, ◌∙◌, append-nil, arith, length-append, length-drop, le-leb}
 use borrow.Author.Tests.{lt-leb}
+use Rattle.std.proofs.lemmas.Grind.{common_steps}
 use Rattle.std.specs.Int.{w64, from_be_bytes}
 use Rattle.std.specs.Simd.{first_chunks}
 use Rattle.format.specs.declared.refusal.Refusal.{Refusal}
@@ -14,7 +15,6 @@ use Rattle.md5_parts.specs.declared.state.Md5.{Md5}
 use Rattle.md5_parts.specs.declared.state.Fed.{Fed}
 use Rattle.md5_parts.specs.State.{taken, fed, digest}
 use Rattle.md5_parts.specs.Kept.{state_bytes, state_of, encode_state, decode_state, stored_state, part_bytes, digest_bytes, PartKept}
-use Rattle.md5_parts.proofs.NumberLaws.{from_be_is, chunk_is}
 use Rattle.put.specs.Put.{PutWhole}
 use Rattle.put.proofs.PutLaws.{placed_after}
 use Rattle.put.proofs.WrittenLaws.{written_refused}
@@ -41,6 +41,18 @@ state_put st mid after most r size a b c d ea eb ec ed first put =
     let whole : length (numbers ++ p) ≡ 104 = length-append numbers p ∙ omega (arith, numbers_size w.a w.b w.c w.d n, size) in
     let all = placed_after (replicate 104 0) mid after 0 40 numbers p begun (numbers_size w.a w.b w.c w.d n) put.buffer (omega arith) in
     all ∙ placed_all (replicate 104 0) (numbers ++ p) whole
+
+-- The library's reading of eight bytes is that of the definition.
+from_be_is : (t : Bytes) → length t ≡ 8 → from_be_bytes w64 t ≡ big_endian t
+from_be_is t h = grind (arith, common_steps)
+
+-- The `k`th eight bytes.
+chunk_is : (n k : ℕ) (t : Bytes) → k < n → get_or (first_chunks 8 n t) k [] ≡ take 8 (drop (8 * k) t)
+chunk_is zero k t h = absurd (omega arith)
+chunk_is (suc n) zero t h = refl
+chunk_is (suc n) (suc k) t h =
+    let e : 8 + 8 * k ≡ 8 * suc k = omega arith in
+    chunk_is n k (drop 8 t) (omega arith) ∙ ap (take 8) (drop-drop (8 * k) 8 t ∙ ap (λ (m : ℕ). drop m t) e)
 
 -- The numbers of a state are read from its first five times eight bytes.
 module _ (s : Bytes) (room : state_bytes ≤ length s) (cut : List Bytes) (e : cut ≡ first_chunks 8 (length s / 8) s) (k : ℕ) (few : k < 5) where
