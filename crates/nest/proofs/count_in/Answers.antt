@@ -4,4 +4,4 @@ use Rattle.nest.proofs.EntryLaws.{counted}
 use Rattle.nest.proofs.count_in.Goals as goal
 
 pub returns : goal.returns
-returns c = search (counted, rules)
+returns c = search (counted c.args.file.kept, rules)

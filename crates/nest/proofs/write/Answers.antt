@@ -5,13 +5,13 @@ use Rattle.visit.proofs.SinkLaws.{delivered_length}
 use Rattle.nest.proofs.write.Goals as goal
 
 pub nonzero_div-out : goal.nonzero_div-out
-nonzero_div-out c = search (each_some, rules)
+nonzero_div-out c = search (each_some c.args.file.kept, rules)
 
 pub overflow_mul-result : goal.overflow_mul-result
-overflow_mul-result c = search (told_fits, rules)
+overflow_mul-result c = search (told_fits c.args.file.kept, rules)
 
 pub shape_of-out : goal.shape_of-out
 shape_of-out c = search (delivered_length, rules)
 
 pub returns : goal.returns
-returns c = search (sure_put, rules)
+returns c = search (sure_put c.args.file.kept, rules)

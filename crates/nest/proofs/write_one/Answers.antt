@@ -8,16 +8,16 @@ pub shape_of-out-then-n-wanted : goal.shape_of-out-then-n-wanted
 shape_of-out-then-n-wanted c = search (delivered_length, rules)
 
 pub returns-then-n-wanted : goal.returns-then-n-wanted
-returns-then-n-wanted c = search (one_none, rules)
+returns-then-n-wanted c = search (one_none c.args.file.kept, rules)
 
 pub shape_of-out-then-out-lt-RECORD_BYTES : goal.shape_of-out-then-out-lt-RECORD_BYTES
 shape_of-out-then-out-lt-RECORD_BYTES c = search (delivered_length, rules)
 
 pub returns-then-out-lt-RECORD_BYTES : goal.returns-then-out-lt-RECORD_BYTES
-returns-then-out-lt-RECORD_BYTES c = search (one_short, rules)
+returns-then-out-lt-RECORD_BYTES c = search (one_short c.args.file.kept, rules)
 
 pub shape_of-out : goal.shape_of-out
 shape_of-out c = search (delivered_length, rules)
 
 pub returns : goal.returns
-returns c = search (one_written, rules)
+returns c = search (one_written c.args.file.kept, rules)

@@ -5,10 +5,10 @@ use Rattle.visit.proofs.SinkLaws.{delivered_length}
 use Rattle.nest.proofs.walk.walk_all.Goals as goal
 
 pub walk_blocks-requires : goal.walk_blocks-requires
-walk_blocks-requires c = search (walk_room, rules)
+walk_blocks-requires c = search (walk_room c.args.file.kept, rules)
 
 pub shape_of-out : goal.shape_of-out
 shape_of-out c = search (delivered_length, rules)
 
 pub returns : goal.returns
-returns c = search (walk_whole, rules)
+returns c = search (walk_whole c.args.file.kept, rules)
