@@ -1,7 +1,7 @@
 -- Laws about a block index: its text, and the verdict on it.
 pub mod TextLaws
-pub mod TrimLaws
+pub mod StripLaws
+pub mod SpaceLaws
 pub mod ListLaws
-pub mod BracketLaws
+pub mod FormLaws
 pub mod DashLaws
-pub mod IndexLaws

@@ -1,78 +1,58 @@
 // The form of an index: the text around its list.
-ghost use Rattle.std.specs.Prelude.{◌-◌, ◌≤◌, length, take, drop};
+ghost use Rattle.std.specs.Prelude.{◌≡◌, drop};
 ghost use Rattle.format.specs.Line.{lines};
-ghost use Rattle.format.specs.Index.{indexed, styled, listed, in_brackets};
-ghost use Rattle.index.specs.Verdict.{ListRead, EndRead};
+ghost use Rattle.format.specs.Index.{indexed, styled, in_brackets};
+ghost use Rattle.index.specs.Verdict.{numbers_in, bytes_in, EndRead};
 
-use scan::line::{Exact, Line};
 use scan::{line, text};
 
-// Where the list of an index is.
+// Where the numbers of an index are.
 #[derive(Clone, Copy)]
-pub enum ListStep {
-    // The list is between brackets, from `from` to `to`.
-    Between { from: usize, to: usize },
-    // The list is on the lines from here, each number after a dash. The end line is not looked for yet.
-    Dashes(usize),
-    Nowhere,
+pub enum Numbers<'a> {
+    // In this list between brackets.
+    InBrackets(&'a [u8]),
+    // On these lines, each number after a dash. The end line is not looked for yet.
+    AfterDashes(&'a [u8]),
 }
 
-// Finds the list in a tail that has the form of an index around it.
-pub(crate) fn index_list(t: &[u8]) -> ListStep
-    ensures { ListRead t.now (indexed (lines t.now)) result }
+// Finds the numbers in a tail that has the form of an index around them.
+pub(crate) fn find_numbers(t: &[u8]) -> Option<Numbers<'_>>
+    ensures { numbers_in result ≡ indexed (lines t.now) }
 {
-    let Exact::After(second, _) = line::exact_line(t, 0, b"#ASDF BLOCK INDEX") else {
-        return ListStep::Nowhere;
-    };
-    let Exact::After(third, _) = line::exact_line(t, second, b"%YAML 1.1") else {
-        return ListStep::Nowhere;
-    };
-    styled_list(t, third)
+    let (second, _) = line::exact_line(t, 0, b"#ASDF BLOCK INDEX")?;
+    let (third, _) = line::exact_line(t, second, b"%YAML 1.1")?;
+    styled_numbers(t, third)
 }
 
-// Finds the list whose start line begins at an offset. That line determines the style.
-fn styled_list(t: &[u8], at: usize) -> ListStep
-    ensures { ListRead t.now (styled (lines (drop at t.now))) result }
+// Finds the numbers whose start line begins at an offset. That line determines the style.
+fn styled_numbers(t: &[u8], at: usize) -> Option<Numbers<'_>>
+    ensures { numbers_in result ≡ styled (lines (drop at t.now)) }
 {
-    let Line::Ended { text_end, next, .. } = line::line_at(t, at) else {
-        return ListStep::Nowhere;
-    };
-    if text::is(&t[at..text_end], b"---") {
-        return ListStep::Dashes(next);
+    let line = line::line_at(t, at)?;
+    let start = &t[at..line.text_end];
+    if text::is(start, b"---") {
+        return Some(Numbers::AfterDashes(&t[line.next..]));
     }
-    if !ends_at(t, next) {
-        return ListStep::Nowhere;
+    if !ends_at(t, line.next) {
+        return None;
     }
-    in_brackets(t, at, text_end)
+    let list = in_brackets(start)?;
+    Some(Numbers::InBrackets(list))
 }
 
 // Whether an index ends at an offset: with the end line, and only zeros after it.
 fn ends_at(t: &[u8], at: usize) -> bool
     ensures { EndRead t.now at result }
 {
-    let Exact::After(end, _) = line::exact_line(t, at, b"...") else {
+    let Some((end, _)) = line::exact_line(t, at, b"...") else {
         return false;
     };
     text::only_zeros(&t[end..])
 }
 
-// Finds the list between `--- [` and the `]` at the end of a line.
-fn in_brackets(t: &[u8], from: usize, to: usize) -> ListStep
-    requires { (from ≤ to) × (to ≤ length t.now) }
-    ensures { ListRead t.now (listed (in_brackets (take (to - from) (drop from t.now)))) result }
+// Returns what is between `--- [` and the `]` at the end of a line.
+fn in_brackets(t: &[u8]) -> Option<&[u8]>
+    ensures { bytes_in result ≡ in_brackets t.now }
 {
-    let n = to - from;
-    if n < 6 {
-        return ListStep::Nowhere;
-    }
-    if !text::begins_at(t, from, b"--- [") {
-        return ListStep::Nowhere;
-    }
-    if t[to - 1] != b']' {
-        return ListStep::Nowhere;
-    }
-    ListStep::Between {
-        from: from + 5,
-        to: to - 1,
-    }
+    t.strip_prefix(b"--- [")?.strip_suffix(b"]")
 }

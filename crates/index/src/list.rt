@@ -1,58 +1,38 @@
 // Compares the numbers of an index with the offsets where the blocks begin.
-ghost use Rattle.std.specs.Prelude.{◌≡◌, ◌&&◌, length, eqb};
-ghost use Rattle.std.proofs.Math.Option.{some};
-ghost use Rattle.format.specs.Index.{judged, listed};
-ghost use Rattle.index.specs.Verdict.{agrees_at, good_if};
+ghost use Rattle.std.specs.Prelude.{◌≡◌, ℕ, List, [], ◌∷◌, Some};
+ghost use Rattle.format.specs.Index.{listed};
+ghost use Rattle.index.specs.Verdict.{agree, compared};
 
 use crate::spaces;
-use format::layout::Verdict;
 use scan::number;
-use scan::number::Number;
 
-// Judges the numbers in a list. All of them are read, even after one that does not agree, because the form comes first.
-pub(crate) fn judge_list(list: &[u8], offsets: &[u64]) -> Verdict
-    ensures { result ≡ judged offsets.now (listed (some list.now)) }
+// Whether the numbers in a list are these offsets, if it is a list of numbers. All of them are read, even after one that
+// does not agree, because the form comes first.
+pub(crate) fn compare(list: &[u8], offsets: &[u64]) -> Option<bool>
+    ensures { result ≡ compared offsets.now (listed (Some list.now)) }
 {
-    let n = list.len();
-    let mut at = 0;
-    let mut k = 0;
-    let mut equal = true;
-    loop {
-        let end = octets::find(list, at, n, b',');
-        let Number::Value(x) = number::numeral(spaces::trim(&list[at..end]), 10) else {
-            return Verdict::IgnoredForm;
-        };
-        equal = agrees(equal, offsets, k, x);
-        k += 1;
-        if end == n {
-            return all_agree(equal, offsets, k);
-        }
-        at = end + 1;
+    let mut left = Some(offsets);
+    for part in list.split(|b| *b == b',') {
+        let x = number::numeral(spaces::trim(part), 10)?;
+        left = after(left, x);
     }
+    Some(is_done(left))
 }
 
-// Whether the numbers so far agree with the offsets, and `x` agrees with offset `k`.
-pub(crate) fn agrees(agree: bool, offsets: &[u64], k: usize, x: u64) -> bool
-    ensures { result ≡ agrees_at agree offsets.now k x }
+// Returns the offsets that are left after one more number, `x`. Once a number is not the next offset, there are none.
+pub(crate) fn after(left: Option<&[u64]>, x: u64) -> Option<&[u64]>
+    ensures { (ns : List ℕ) → agree result ns ≡ agree left.entry (x ∷ ns) }
 {
-    if !agree {
-        return false;
+    let (next, others) = left?.split_first()?;
+    if *next != x {
+        return None;
     }
-    if offsets.len() <= k {
-        return false;
-    }
-    x == offsets[k]
+    Some(others)
 }
 
-// Returns the verdict on `k` numbers. `equal` states whether they agree with the offsets.
-pub(crate) fn all_agree(equal: bool, offsets: &[u64], k: usize) -> Verdict
-    ensures { result ≡ good_if (equal && eqb (length offsets.now) k) }
+// Whether each offset was met, and none is left.
+pub(crate) fn is_done(left: Option<&[u64]>) -> bool
+    ensures { result ≡ agree left.entry [] }
 {
-    if !equal {
-        return Verdict::IgnoredList;
-    }
-    if offsets.len() != k {
-        return Verdict::IgnoredList;
-    }
-    Verdict::Good
+    left.is_some_and(|left| left.is_empty())
 }

@@ -2,8 +2,9 @@
 ghost use Rattle.std.specs.Prelude.{◌≡◌};
 ghost use Rattle.format.specs.Line.{lines};
 ghost use Rattle.format.specs.Index.{judged, indexed};
+ghost use Rattle.index.specs.Verdict.{compared};
 
-use crate::form::ListStep;
+use crate::form::Numbers;
 use crate::{dashes, form, list};
 use format::layout::Verdict;
 
@@ -12,9 +13,19 @@ use format::layout::Verdict;
 pub fn judge(t: &[u8], offsets: &[u64]) -> Verdict
     ensures { result ≡ judged offsets.now (indexed (lines t.now)) }
 {
-    match form::index_list(t) {
-        ListStep::Nowhere => Verdict::IgnoredForm,
-        ListStep::Between { from, to } => list::judge_list(&t[from..to], offsets),
-        ListStep::Dashes(from) => dashes::judge_lines(&t[from..], offsets),
+    match compare(t, offsets) {
+        None => Verdict::IgnoredForm,
+        Some(true) => Verdict::Good,
+        Some(false) => Verdict::IgnoredList,
+    }
+}
+
+// Whether the numbers of an index are these offsets, if the tail `t` has the form of an index.
+fn compare(t: &[u8], offsets: &[u64]) -> Option<bool>
+    ensures { result ≡ compared offsets.now (indexed (lines t.now)) }
+{
+    match form::find_numbers(t)? {
+        Numbers::InBrackets(list) => list::compare(list, offsets),
+        Numbers::AfterDashes(lines) => dashes::compare(lines, offsets),
     }
 }

@@ -1,6 +1,6 @@
 -- One law for each return.
 use Rattle.std.proofs.Common.{rules}
-use Rattle.index.proofs.IndexLaws.{after_inside, end_other, end_zeros}
+use Rattle.index.proofs.FormLaws.{after_inside, end_other, end_zeros}
 use Rattle.index.proofs.form.ends_at.Goals as goal
 
 pub returns-in_default : goal.returns-in_default

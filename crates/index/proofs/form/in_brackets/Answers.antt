@@ -1,16 +1,12 @@
--- One law for each return: a line that lacks a bracket has no list.
-use Rattle.std.proofs.Common.{rules}
-use Rattle.index.proofs.BracketLaws.{brackets_short, brackets_other, brackets_open, brackets_found}
+-- What is in brackets is there if both brackets are.
+use Rattle.index.proofs.StripLaws.{stripped, stripped_last}
+use Rattle.index.proofs.FormLaws.{unopened, opened}
 use Rattle.index.proofs.form.in_brackets.Goals as goal
 
-pub returns-then-n-lt6 : goal.returns-then-n-lt6
-returns-then-n-lt6 c = search (brackets_short, rules)
-
-pub returns-then-not-begins_at : goal.returns-then-not-begins_at
-returns-then-not-begins_at c = search (brackets_other, rules)
-
-pub returns-then-t-to-ne93 : goal.returns-then-t-to-ne93
-returns-then-t-to-ne93 c = search (brackets_open, rules)
+pub returns-in_err-strip_prefix : goal.returns-in_err-strip_prefix
+returns-in_err-strip_prefix c =
+    unopened c.args.t.now _ (stripped _ c.args.t.now _ c.strip_prefix.ensures.cases) c.in_err-strip_prefix.was _ c.from_residual.ensures
 
 pub returns : goal.returns
-returns c = search (brackets_found, rules)
+returns c =
+    opened c.args.t.now _ (stripped _ c.args.t.now _ c.strip_prefix.ensures.cases) _ c.in_ok-strip_prefix.was _ (stripped_last 93 c.in_ok-strip_prefix.field-0.now _ c.strip_suffix.ensures.cases)
