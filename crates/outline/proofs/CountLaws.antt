@@ -1,17 +1,20 @@
 -- Laws about the rules of stored rows and about counting them. The invariant of the count: continuing it at any row
 -- gives the count of the whole outline.
-use Prim.Native.Nat.{ℕ, suc, ◌+◌, ◌-◌, ◌/◌, ◌%◌, ◌≤◌, ◌<◌}
+use Prim.Native.Nat.{ℕ, suc, ◌+◌, ◌*◌, ◌-◌, ◌/◌, ◌%◌, ◌≤◌, ◌<◌}
 use native.Mathlib.Nat.{zero-add, mod-lt}
 use native.Mathlib.Omega.{arith}
 use mathlib.Core.Path.{◌≡◌, refl, sym, ap, ◌∙◌}
-use mathlib.Core.Bool.{Bool, true, false, not, and-false}
-use mathlib.Core.List.{List, ◌∷◌}
-use lib.ListN.{length, take, drop}
+use mathlib.Core.Bool.{Bool, true, false, and-false}
+use Rattle.std.specs.Prelude.{◌==◌}
+use Rattle.std.specs.Simd.{first_chunks}
+use mathlib.Core.List.{List, [], ◌∷◌}
+use lib.ListN.{length, drop, get_or}
 use lib.Seq.{drop-drop}
 use lib.Dec.{leb}
 use mir.Syntax.{w8}
 use mir.Val.{Fits}
-use borrow.Author.Tests.{le-leb, lt-leb, eq-eqb, ne_eqb, not-true, not-false}
+use borrow.Author.Tests.{le-leb, lt-leb}
+use Rattle.format.specs.declared.refusal.Refusal.{Refusal}
 use Rattle.format.specs.declared.row.Row.{Row}
 use Rattle.format.specs.declared.refusal.Reason.TheVariants.{OutlineLength, OutlineRow}
 use Rattle.format.specs.Bytes.{Bytes}
@@ -19,6 +22,7 @@ use Rattle.format.specs.Block.{least_header}
 use Rattle.format.specs.Chain.{most_blocks}
 use Rattle.format.specs.Outcome.{Outcome, accepted, refused, refusal, need, ◌>>=◌, ◌>>◌}
 use Rattle.format.specs.Outline.{row_bytes, row_from, unpacked, decode_row, is_row, stored_from, stored, stored_count}
+use Rattle.outline.proofs.StoredLaws.{chunk_is}
 
 module _ (r : Row) (most : ℕ) where
   -- If the ordinal is too high, then the row breaks the rules.
@@ -58,36 +62,29 @@ counted_from n o = do
   rs ← o
   accepted (n + length rs)
 
--- The invariant of the count: the rows before offset `at` are accepted, and continuing the count there gives the count
--- of the whole outline.
-pub record Counting (b : Bytes) (at most : ℕ) : Type 0 where
-  pub whole : length b % row_bytes ≡ 0
-  pub begin : at % row_bytes ≡ 0
-  pub inside : at ≤ length b
-  pub left : counted_from (at / row_bytes) (stored_from ((length b - at) / row_bytes) at most (drop at b)) ≡ stored_count b
-
--- If the bytes are not a whole number of rows, then the count is refused with number 23 at place 0.
-pub count_parts : (b : Bytes) (a : Outcome ℕ) → a ≡ refused (refusal OutlineLength 0) → (length b % row_bytes ≡ 0 → ⊥) → a ≡ stored_count b
-unfolding stored_count stored
-count_parts b a e h = rw (e, ne_eqb (length b % row_bytes) 0 h)
+-- The invariant of the count: the first `k` rows are accepted, and continuing the count after them gives the count of the
+-- whole outline.
+pub record Counting (b : Bytes) (k most : ℕ) : Type 0 where
+  pub left : counted_from k (stored_from (length b / row_bytes - k) (k * row_bytes) most (drop (k * row_bytes) b)) ≡ stored_count b
 
 -- If no rows were counted before, then the count is the number of rows in `o`.
 counted_alone : (o : Outcome (List Row)) → counted_from 0 o ≡ ◌>>=◌ o (λ rs. accepted (length rs))
 counted_alone (accepted rs) = ap accepted (zero-add (length rs))
 counted_alone (refused r) = refl
 
--- If the bytes are a whole number of rows, then the invariant holds at offset 0, where no row is read yet.
-pub count_start : (b : Bytes) → length b % row_bytes ≡ 0 → Counting b 0 0
-unfolding stored_count stored
-count_start b h =
-    let all : length b - 0 ≡ length b = omega arith in
-    let rows = stored_from (length b / row_bytes) 0 0 b in
-    record {
-      whole = h;
-      begin = refl;
-      inside = omega arith;
-      left = rw (all, stored_count, stored, eq-eqb (length b % row_bytes) 0 h) (counted_alone rows);
-    }
+-- `rest` are the bytes after the last whole row, and `x` says whether there are none.
+module _ (b rest : Bytes) (x : Bool) (size : length rest ≡ length b % row_bytes) (test : x ≡ length rest == 0) where
+  -- If there are some, then the count is refused with number 23 at place 0.
+  pub count_parts : x ≡ false → (r : Refusal) → r ≡ refusal OutlineLength 0 → refused r ≡ stored_count b
+  unfolding stored_count stored
+  count_parts e r f = rw (f, stored_count, stored, ← size, ← test, e)
+
+  -- If there are none, then the invariant holds where no row is read yet.
+  pub count_start : x ≡ true → Counting b 0 0
+  unfolding stored_count stored
+  count_start e =
+      let all : length b / row_bytes - 0 ≡ length b / row_bytes = omega arith in
+      record { left = rw (all, stored_count, stored, ← size, ← test, e) (counted_alone (stored_from (length b / row_bytes) 0 0 b)) }
 
 -- The row `r` and the rows after it. If the test `x` on `r` fails, the refusal is number 24 at place `at`.
 abbrev row_and : Bool → ℕ → Row → Outcome (List Row) → Outcome (List Row)
@@ -101,36 +98,31 @@ counted_next : (n at : ℕ) (r : Row) (others : Outcome (List Row)) → counted_
 counted_next n at r (accepted rs) = ap accepted (omega arith)
 counted_next n at r (refused e) = refl
 
-module _ (b : Bytes) (at most : ℕ) (h : Counting b at most) (p : at < length b) where
-  module _ (r : Row) (is : r ≡ decode_row (take row_bytes (drop at b))) (x : Bool) (test : x ≡ is_row most r) where
-    -- Continuing the count with the next row and the rows after it gives the count of the whole outline.
-    next_row : counted_from (at / row_bytes) (row_and x at r (stored_from ((length b - (at + row_bytes)) / row_bytes) (at + row_bytes) (r.depth + 1) (drop (at + row_bytes) b)))
+module _ (b : Bytes) (rows : List Bytes) (split : rows ≡ first_chunks row_bytes (length b / row_bytes) b) (size : length rows ≡ length b / row_bytes)
+    (k most : ℕ) (h : Counting b k most) where
+  module _ (p : k < length rows) (r : Row) (is : r ≡ decode_row (get_or rows k [])) (x : Bool) (test : x ≡ is_row most r) where
+    -- Continuing the count with row `k` and the rows after it gives the count of the whole outline.
+    next_row : counted_from k (row_and x (k * row_bytes) r (stored_from (length b / row_bytes - (k + 1)) ((k + 1) * row_bytes) (r.depth + 1) (drop ((k + 1) * row_bytes) b)))
         ≡ stored_count b
     unfolding stored_from
     next_row =
-        let more : (length b - at) / row_bytes ≡ suc ((length b - (at + row_bytes)) / row_bytes) = omega arith in
-        rw (test, is, ← drop-drop row_bytes at b) (rw more at h.left)
+        let more : length b / row_bytes - k ≡ suc (length b / row_bytes - (k + 1)) = omega arith in
+        let next : (k + 1) * row_bytes ≡ k * row_bytes + row_bytes = omega arith in
+        let chunk = chunk_is (length b / row_bytes) k b [] (omega arith) in
+        rw (test, is, split, chunk, next, ← drop-drop row_bytes (k * row_bytes) b) (rw more at h.left)
 
-    -- If the next row breaks the rules, then the count is refused with number 24 at the offset of that row.
-    pub count_bad : not x ≡ true → (a : Outcome ℕ) → a ≡ refused (refusal OutlineRow at) → a ≡ stored_count b
-    unfolding count_answer
-    count_bad e a f = rw f (rw (not-true x e) at next_row)
+    -- If it breaks the rules, then the count is refused with number 24 at the offset of that row.
+    pub count_bad : x ≡ false → (f : Refusal) → f ≡ refusal OutlineRow (k * row_bytes) → refused f ≡ stored_count b
+    count_bad e f g = rw g (rw e at next_row)
 
-    -- If the next row keeps the rules, then the invariant also holds at the end of that row.
-    pub count_step : not x ≡ false → Counting b (at + row_bytes) (r.depth + 1)
-    count_step e =
-        let more : at / row_bytes + 1 ≡ (at + row_bytes) / row_bytes = omega arith in
-        record {
-          whole = h.whole;
-          begin = omega arith;
-          inside = omega arith;
-          left = rw (← more, ← counted_next (at / row_bytes) at r _) (rw (not-false x e) at next_row);
-        }
+    -- If it keeps the rules, then the invariant also holds after that row.
+    pub count_step : x ≡ true → Counting b (k + 1) (r.depth + 1)
+    count_step e = record { left = rw (← counted_next k (k * row_bytes) r _) (rw e at next_row) }
 
--- If all rows are read, then the count is the number of rows in the bytes.
-pub count_done : (b : Bytes) (at most : ℕ) → Counting b at most → length b ≤ at → (accepted (length b / row_bytes)) ≡ stored_count b
-unfolding stored_from
-count_done b at most h p =
-    let none : (length b - at) / row_bytes ≡ 0 = omega arith in
-    let all : at / row_bytes + 0 ≡ length b / row_bytes = omega arith in
-    ap accepted (sym all) ∙ rw none at h.left
+  -- If all rows are read, then the count is the number of rows.
+  pub count_done : k ≤ length rows → length rows ≤ k → accepted (length rows) ≡ stored_count b
+  unfolding stored_from
+  count_done p q =
+      let none : length b / row_bytes - k ≡ 0 = omega arith in
+      let all : k + 0 ≡ length rows = omega arith in
+      ap accepted (sym all) ∙ rw none at h.left

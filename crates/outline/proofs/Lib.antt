@@ -1,5 +1,5 @@
 -- Laws about rows and stored outlines.
 pub mod RowLaws
-pub mod CountLaws
 pub mod StoredLaws
+pub mod CountLaws
 pub mod WriteLaws

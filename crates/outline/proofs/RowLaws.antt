@@ -1,27 +1,27 @@
 -- Laws about rows. The sixteen bytes of a row are four parts of four bytes each.
 use Prim.Native.Nat.{ℕ, ◌+◌, ◌*◌, ◌-◌, ◌/◌, ◌%◌, ◌^◌, ◌≤◌, ◌<◌}
-use Rattle.std.specs.Prelude.{Some}
-use Rattle.std.specs.Prelude.{None}
+use Rattle.std.specs.Prelude.{None, Some}
 use native.Mathlib.Nat.{add-zero, add_assoc, mul-one, div-one, mod-mod, mod-eq_of_lt}
 use native.Mathlib.Omega.{arith}
 use mathlib.Core.Path.{◌≡◌, refl, sym, ap, ◌∙◌}
 use mathlib.Core.List.{List, [], ◌∷◌, ◌++◌, append-nil}
-use lib.ListN.{length, take, drop, get_or, length-append, length-take, length-drop}
+use lib.ListN.{length, take, drop, length-append, length-take, length-drop}
 use lib.Seq.{take-add, drop-drop}
+use Rattle.std.specs.Array.{IsFirstChunk}
+use Rattle.std.specs.List.{slice_range}
+use Rattle.std.proofs.Common.{take_all}
 use lib.Pow.{pow-add}
 use lib.Dec.{eqb}
-use mir.Syntax.{w8}
-use mir.Val.{Fits}
 use borrow.Author.Tests.{le-leb, lt-leb}
 use Rattle.format.specs.declared.offset.OutermostOffset.{OutermostOffset}
+use Rattle.format.specs.declared.block.InnerKind.{InnerKind}
 use Rattle.format.specs.declared.row.Row.{Row}
 use Rattle.format.specs.Bytes.{Bytes, IsBytes, big_endian, to_bytes, wrapped, bit}
 use Rattle.format.specs.Lent.{placed}
-use Rattle.format.specs.Outcome.{accepted}
-use Rattle.format.specs.Outline.{fields_of, sum, packed, unpacked, encode_row, decode_row}
+use Rattle.format.specs.Outline.{kind_number, kind_with, fields_of, sum, packed, unpacked, encode_row, decode_row}
 use Rattle.format.proofs.PackLaws.{is_bytes_append, is_bytes_take, is_bytes_drop, big_endian_append, big_endian_to_bytes}
 use Rattle.format.proofs.PackLaws.{to_bytes_length, to_bytes_are_bytes, to_bytes_big_endian, packed_lt, packed_unpacked}
-use Rattle.format.proofs.RowLaws.{RowFits, encoded_length, bit_lt, bit_of_flag, decode_encode}
+use Rattle.format.proofs.RowLaws.{RowFits, encoded_length, bit_lt, bit_of_flag, kind_lt, number_of_kind, decode_encode}
 use Rattle.scan.specs.Number.{BigEndian}
 use Rattle.scan.proofs.NumberLaws.{big_endian_number, big_endian_below}
 use Rattle.put.proofs.PutLaws.{placed_after, placed_long}
@@ -48,15 +48,16 @@ packed_bytes a b w x ws fs others e f g =
 -- The first seven fields of a row are its first part.
 packed_front : (r : Row) (ws fs : List ℕ)
     → packed (3 ∷ 1 ∷ 1 ∷ 1 ∷ 2 ∷ 8 ∷ 16 ∷ ws)
-    (r.depth ∷ bit r.streamed ∷ bit r.compressed ∷ bit r.checksum ∷ r.inner ∷ r.ordinal ∷ r.header_size ∷ fs)
+    (r.depth ∷ bit r.streamed ∷ bit r.compressed ∷ bit r.checksum ∷ kind_number r.inner ∷ r.ordinal ∷ r.header_size ∷ fs)
     ≡ packed (32 ∷ ws) (front_of r ∷ fs)
 unfolding packed sum
 packed_front r ws fs =
     let s = bit_lt r.streamed in
     let c = bit_lt r.compressed in
     let k = bit_lt r.checksum in
+    let i = kind_lt r.inner in
     let whole : front_of r % 2 ^ 32 ≡ front_of r = omega arith in
-    simp (pow-add, whole, mod-eq_of_lt s, mod-eq_of_lt c, mod-eq_of_lt k) (omega arith)
+    simp (pow-add, whole, mod-eq_of_lt s, mod-eq_of_lt c, mod-eq_of_lt k, mod-eq_of_lt i) (omega arith)
 
 -- The bytes of a row are the bytes of its four parts.
 encode_parts : (r : Row) → encode_row r ≡ to_bytes 4 (front_of r) ++ (to_bytes 4 r.at.0 ++ (to_bytes 4 r.allocated ++ to_bytes 4 r.used))
@@ -98,14 +99,10 @@ module _ (s : Bytes) (n w : ℕ) where
   pub part_length : n + w ≤ length s → length (take w (drop n s)) ≡ w
   part_length h = rw (length-take, length-drop) (omega arith)
 
-  -- If `s` consists of bytes, then so does every part of it.
-  pub part_bytes : ((i : ℕ) → Fits w8 (get_or s i 0)) → IsBytes (take w (drop n s))
-  part_bytes known = is_bytes_take w (drop n s) (is_bytes_drop n s (λ i. (known i).fits))
-
-module _ (s : Bytes) (known : (i : ℕ) → Fits w8 (get_or s i 0)) where
+module _ (s : Bytes) (known : IsBytes s) where
   -- If a number was read from `w` bytes inside `s`, then it is written as these bytes.
   field_bytes : (n w x : ℕ) → Field s n w x → n + w ≤ length s → to_bytes w x ≡ take w (drop n s)
-  field_bytes n w x h inside = rw h.is (rw (part_length s n w inside) at (to_bytes_big_endian (take w (drop n s)) (part_bytes s n w known)))
+  field_bytes n w x h inside = rw h.is (rw (part_length s n w inside) at (to_bytes_big_endian (take w (drop n s)) (is_bytes_take w (drop n s) (is_bytes_drop n s known))))
 
   -- If the bytes `others` follow such a number in `s`, then the number, written before them, gives the `w + m` bytes
   -- from offset `n`.
@@ -113,15 +110,15 @@ module _ (s : Bytes) (known : (i : ℕ) → Fits w8 (get_or s i 0)) where
       → to_bytes w x ++ others ≡ take (w + m) (drop n s)
   field_front n w k m x others h inside next e = rw (take-add w m (drop n s), drop-drop w n s, next, field_bytes n w x h inside, e)
 
--- The row with these four parts.
-abbrev row_with : ℕ → OutermostOffset → ℕ → ℕ → Row
-row_with front place allocated used =
+-- The row with these four parts. The kind of its inner state is in the first.
+abbrev row_with : ℕ → InnerKind → OutermostOffset → ℕ → ℕ → Row
+row_with front kind place allocated used =
     record {
       depth = front / 16777216 / 32;
       streamed = eqb (front / 16777216 / 16 % 2) 1;
       compressed = eqb (front / 16777216 / 8 % 2) 1;
       checksum = eqb (front / 16777216 / 4 % 2) 1;
-      inner = front / 16777216 % 4;
+      inner = kind;
       ordinal = front / 65536 % 256;
       header_size = front % 65536;
       at = place;
@@ -130,50 +127,56 @@ row_with front place allocated used =
     }
 
 -- The state that is read from a byte, written again, is that byte.
-state_same : (x : ℕ) → x < 256 → x / 32 % 8 * 32 + x / 16 % 2 * 16 + x / 8 % 2 * 8 + x / 4 % 2 * 4 + x % 4 % 4 ≡ x
+state_same : (x : ℕ) → x < 256 → x / 32 % 8 * 32 + x / 16 % 2 * 16 + x / 8 % 2 * 8 + x / 4 % 2 * 4 + x % 4 ≡ x
 unfolding packed unpacked sum
 state_same x h =
-    simp (mod-mod, add_assoc)
+    simp add_assoc
     (simp (mod-mod, div-one, mul-one, add-zero, mod-eq_of_lt h) at (packed_unpacked (3 ∷ 1 ∷ 1 ∷ 1 ∷ 2 ∷ []) x))
 
 -- If `front` fits into four bytes, then it is the first part of the row that is made with it.
-front_same : (front : ℕ) (place : OutermostOffset) (allocated used : ℕ) → front < 256 ^ 4 → front_of (row_with front place allocated used) ≡ front
-front_same front place allocated used h = simp (bit_of_flag, state_same (front / 16777216) (omega arith)) (omega arith)
+front_same : (front : ℕ) (kind : InnerKind) (place : OutermostOffset) (allocated used : ℕ) → front < 256 ^ 4 → kind ≡ kind_with (front / 16777216 % 4)
+    → front_of (row_with front kind place allocated used) ≡ front
+front_same front kind place allocated used h e = simp (e, bit_of_flag, number_of_kind, state_same (front / 16777216) (omega arith)) (omega arith)
 
 -- If the four parts are read from sixteen bytes, then the row with these parts is the row in these bytes. This is so
 -- because it is written as the same bytes.
-pub row_read : (s : Bytes) (at front p a u : ℕ) (start place : OutermostOffset) → ((i : ℕ) → Fits w8 (get_or s i 0)) → at + 16 ≤ length s
-    → Field s at 4 front
-    → Field s (at + 4) 4 p
+pub row_read : (s : Bytes) (front p a u : ℕ) (kind : InnerKind) (start place : OutermostOffset) → IsBytes s → length s ≡ 16
+    → Field s 0 4 front
+    → Field s 4 4 p
     → start.0 ≡ 0
     → place.0 ≡ wrapped start.0 p
-    → Field s (at + 8) 4 a
-    → Field s (at + 12) 4 u
-    → row_with front place a u ≡ decode_row (take 16 (drop at s))
-row_read s at front p a u start place known room hf hp is-start is-place ha hu =
-    let r = row_with front place a u in
+    → Field s 8 4 a
+    → Field s 12 4 u
+    → kind ≡ kind_with (front / 16777216 % 4)
+    → row_with front kind place a u ≡ decode_row s
+row_read s front p a u kind start place known room hf hp is-start is-place ha hu is-kind =
+    let r = row_with front kind place a u in
     let same_place : place.0 ≡ p = omega (arith, hp.small) in
     let fits : RowFits r = omega (arith, hf.small, hp.small, ha.small, hu.small) in
-    let one = field_bytes s known (at + 12) 4 u hu (omega arith) in
-    let two = field_front s known (at + 8) 4 (at + 12) 4 a _ ha (omega arith) (omega arith) one in
-    let three = field_front s known (at + 4) 4 (at + 8) 8 p _ hp (omega arith) (omega arith) two in
-    let four = field_front s known at 4 (at + 4) 12 front _ hf (omega arith) (omega arith) three in
-    let same : encode_row r ≡ take 16 (drop at s) = encode_parts r ∙ rw (front_same front place a u hf.small, same_place) four in
+    let one = field_bytes s known 12 4 u hu (omega arith) in
+    let two = field_front s known 8 4 12 4 a _ ha (omega arith) refl one in
+    let three = field_front s known 4 4 8 8 p _ hp (omega arith) refl two in
+    let four = field_front s known 0 4 4 12 front _ hf (omega arith) refl three in
+    let same : encode_row r ≡ s = encode_parts r ∙ rw (front_same front kind place a u hf.small is-kind, same_place) four ∙ take_all 16 s (omega arith) in
     sym (decode_encode r fits) ∙ ap decode_row same
 
 module _ (s : Bytes) (at : ℕ) where
   -- If there are fewer than sixteen bytes at the offset, then there is no such row.
-  none_there : length s < at + 16 → accepted None ≡ accepted (row_at s at)
+  none_there : length s < at + 16 → None ≡ row_at s at
   unfolding row_at
   none_there h = rw (row_at, lt-leb (at + 16) (length s) h)
 
-  pub row_outside : length s < at → accepted None ≡ accepted (row_at s at)
+  pub row_outside : length s < at → None ≡ row_at s at
   row_outside h = none_there (omega arith)
 
-  pub row_cut : length s - at < 16 → accepted None ≡ accepted (row_at s at)
-  row_cut h = none_there (omega arith)
+  pub row_cut : (after : Bytes) → length after + at ≡ length s → length after < 16 → None ≡ row_at s at
+  row_cut after e h = none_there (omega arith)
 
   -- If there are sixteen bytes at the offset, then the row in them is found.
-  pub row_there : at ≤ length s → 16 ≤ length s - at → (r : Row) → r ≡ decode_row (take 16 (drop at s)) → (accepted (Some r)) ≡ accepted (row_at s at)
+  pub row_there : (after bytes : Bytes) → at ≤ length s → after ≡ slice_range s at (length s) → length after + at ≡ length s
+      → IsFirstChunk after bytes 16
+      → (r : Row) → r ≡ decode_row bytes → Some r ≡ row_at s at
   unfolding row_at
-  row_there h g r e = rw (row_at, le-leb (at + 16) (length s) (omega arith), e)
+  row_there after bytes h f l first r e =
+      let all = take_all (length s - at) (drop at s) (omega (arith, length-drop at s)) in
+      rw (row_at, le-leb (at + 16) (length s) (omega (arith, first.enough)), e, first.same, f, all)

@@ -1,19 +1,22 @@
 -- Laws about counted outlines: if the rows of a stored outline are counted, then they are the rows in its bytes,
 -- sixteen bytes for each.
-use Prim.Native.Nat.{ℕ, zero, suc, ◌+◌, ◌*◌, ◌/◌, ◌%◌, ◌^◌, ◌≤◌, ◌<◌}
+use Prim.Native.Nat.{ℕ, zero, suc, ◌+◌, ◌*◌, ◌/◌, ◌%◌, ◌≤◌, ◌<◌}
 use native.Mathlib.Omega.{arith}
 use mathlib.Core.Path.{◌≡◌, refl, ap, ◌∙◌}
 use mathlib.Core.Bool.{true}
-use Rattle.std.specs.Prelude.{None, Some}
+use Rattle.std.specs.Prelude.{Option, None, Some, MatchOption}
+use Rattle.std.specs.Option.{IfSome, IsSomeAnd}
+use Rattle.std.specs.List.{HoldsAt}
+use Rattle.std.proofs.Common.{Bor}
 use mathlib.Core.List.{List, ◌∷◌}
-use lib.ListN.{length, take, drop, length-drop}
+use lib.ListN.{length, take, drop, get_or, length-drop}
 use Rattle.std.specs.Prelude.{slice_get}
 use lib.Seq.{drop-drop}
 use lib.Dec.{eqb}
-use mir.Syntax.{w64}
-use mir.Val.{Fits}
+use Rattle.std.specs.Simd.{first_chunks}
 use borrow.Author.Tests.{eqb-true}
 use Rattle.format.specs.declared.refusal.Refusal.{Refusal}
+use Rattle.format.specs.declared.refusal.Reason.TheVariants.{OutlineLength}
 use Rattle.format.specs.declared.row.Row.{Row}
 use Rattle.format.specs.Bytes.{Bytes}
 use Rattle.format.specs.Outcome.{Outcome, accepted, refused, ◌>>=◌}
@@ -49,7 +52,7 @@ read_from (suc k) n most b h =
 pub read_stored : (b : Bytes) → Accepts (Read b) (stored b)
 unfolding stored
 read_stored b =
-    accepts_need _ _ 23 0 _
+    accepts_need _ _ OutlineLength 0 _
     λ (e : eqb (length b % row_bytes) 0 ≡ true). read_from (length b / row_bytes) 0 0 b (omega (arith, eqb-true (length b % row_bytes) 0 e))
 
 -- `b` is an outline of `n` rows, which are the rows in its bytes.
@@ -58,32 +61,38 @@ pub record HasRows (b : Bytes) (n : ℕ) : Type 0 where
   pub is : stored b ≡ accepted (rows_in n b)
 
 -- If `n` rows are counted, then the outline has these `n` rows.
-pub has_rows : (b : Bytes) (a : Outcome ℕ) (n : ℕ) → a ≡ stored_count b → a ≡ accepted n → HasRows b n
+pub has_rows : (b : Bytes) (n : ℕ) → accepted n ≡ stored_count b → HasRows b n
 unfolding stored_count
-has_rows b a n h e = go (stored b) refl (read_stored b) (rw e at h)
+has_rows b n h = go (stored b) refl (read_stored b) h
   where
     go : (o : Outcome (List Row)) → stored b ≡ o → Accepts (Read b) o → accepted n ≡ ◌>>=◌ o (λ rs. accepted (length rs)) → HasRows b n
     go (accepted rs) q read c =
         let l : n ≡ length rs = cc in
         record { size = rw l read.size; is = rw l (q ∙ ap accepted read.rows) }
-    go (refused r) q read c = let z : ◌≡◌ {A = ℕ} 0 1 = cc in absurd (omega arith)
+    go (refused r) q read c = cc
 
 -- If the count is refused, then the outline is refused in the same way.
-pub no_rows : (b : Bytes) (a : Outcome ℕ) (r : Refusal) → a ≡ stored_count b → a ≡ refused r → stored b ≡ refused r
+pub no_rows : (b : Bytes) (r : Refusal) → refused r ≡ stored_count b → stored b ≡ refused r
 unfolding stored_count
-no_rows b a r h e = go (stored b) refl (rw e at h)
+no_rows b r h = go (stored b) refl h
   where
     go : (o : Outcome (List Row)) → stored b ≡ o → refused r ≡ ◌>>=◌ o (λ rs. accepted (length rs)) → stored b ≡ refused r
     go (accepted rs) q c = cc
     go (refused t) q c = cc
 
--- If `k` is below `n`, then row `k` is the row in its own sixteen bytes.
-row_in : (n k : ℕ) (b : Bytes) → k < n → slice_get (rows_in n b) k ≡ Some (decode_row (take row_bytes (drop (k * row_bytes) b)))
-row_in zero k b h = absurd (omega arith)
-row_in (suc n) zero b h = refl
-row_in (suc n) (suc k) b h =
+-- If `k` is below `n`, then part `k` of the `n` parts with which `b` begins are its own sixteen bytes.
+pub chunk_is : (n k : ℕ) (b d : Bytes) → k < n → get_or (first_chunks row_bytes n b) k d ≡ take row_bytes (drop (k * row_bytes) b)
+chunk_is zero k b d h = absurd (omega arith)
+chunk_is (suc n) zero b d h = refl
+chunk_is (suc n) (suc k) b d h =
     let e : suc k * row_bytes ≡ row_bytes + k * row_bytes = omega arith in
-    rw (row_in n k (drop row_bytes b) (omega arith), drop-drop (k * row_bytes) row_bytes b, e)
+    rw (chunk_is n k (drop row_bytes b) d (omega arith), drop-drop (k * row_bytes) row_bytes b, e)
+
+-- Then row `k` is the row in that part.
+row_in : (n k : ℕ) (b d : Bytes) → k < n → slice_get (rows_in n b) k ≡ Some (decode_row (get_or (first_chunks row_bytes n b) k d))
+row_in zero k b d h = absurd (omega arith)
+row_in (suc n) zero b d h = refl
+row_in (suc n) (suc k) b d h = row_in n k (drop row_bytes b) d (omega arith)
 
 -- If `k` is not below `n`, then there is no row `k`.
 row_out : (n k : ℕ) (b : Bytes) → n ≤ k → slice_get (rows_in n b) k ≡ None
@@ -92,26 +101,22 @@ row_out (suc n) zero b h = absurd (omega arith)
 row_out (suc n) (suc k) b h = row_out n k (drop row_bytes b) (omega arith)
 
 -- If the count is refused, then reading row `k` is refused in the same way.
-pub row_refused : (b : Bytes) (k : ℕ) (a : Outcome ℕ) (r : Refusal) → a ≡ stored_count b → a ≡ refused r
-    → (refused r) ≡ stored_at b k
+pub row_refused : (b : Bytes) (k : ℕ) (r : Refusal) → refused r ≡ stored_count b → refused r ≡ stored_at b k
 unfolding stored_at
-row_refused b k a r h e = rw (stored_at, no_rows b a r h e)
+row_refused b k r h = rw (stored_at, no_rows b r h)
 
-module _ (b : Bytes) (k : ℕ) (a : Outcome ℕ) (n : ℕ) (h : a ≡ stored_count b) (e : a ≡ accepted n) where
-  -- If `k` is not below the count, then there is no such row.
-  pub row_none : n ≤ k → accepted None ≡ stored_at b k
+-- If the outline is counted and its bytes are cut into rows of sixteen bytes, then the row in part `k`, if there is
+-- such a part, is the one asked for.
+module _ (b : Bytes) (k n : ℕ) (h : accepted n ≡ stored_count b) (rows : List Bytes) (split : rows ≡ first_chunks row_bytes (length b / row_bytes) b)
+    (size : length rows ≡ length b / row_bytes) where
+  pub row_found : (part : Option (Bor Bytes)) (row : Option Row) → MatchOption part (length rows ≤ k) (λ x. (k < length rows) × HoldsAt {X = Bytes} (λ y. x.now ≡ y) rows k)
+      → IfSome part (λ x. x.now ≡ get_or rows k x.now)
+      → MatchOption part (row ≡ None) (λ x. IsSomeAnd row (λ r. r ≡ decode_row x.now))
+      → accepted row ≡ stored_at b k
   unfolding stored_at
-  row_none p = rw (stored_at, (has_rows b a n h e).is, row_out n k b p)
-
-  -- If `k` is below the count, then row `k` is inside the bytes.
-  pub row_inside : k < n → k * row_bytes + row_bytes ≤ length b
-  row_inside p = omega (arith, (has_rows b a n h e).size)
-
-  -- Hence its offset fits into 64 bits.
-  pub row_fits : k < n → length b < 2 ^ 64 → Fits w64 (k * row_bytes)
-  row_fits p f = omega (arith, row_inside p)
-
-  -- If `k` is below the count, then the row in the sixteen bytes of row `k` is the one asked for.
-  pub row_found : (r : Row) → k < n → r ≡ decode_row (take row_bytes (drop (k * row_bytes) b)) → (accepted (Some r)) ≡ stored_at b k
-  unfolding stored_at
-  row_found r p f = rw (stored_at, (has_rows b a n h e).is, row_in n k b p, f)
+  row_found None row p q e = let counted = has_rows b n h in rw (e, stored_at, counted.is, row_out n k b (omega (arith, counted.size)))
+  row_found (Some x) None p q e = absurd e
+  row_found (Some x) (Some r) p q e =
+      let counted = has_rows b n h in
+      let all : length b / row_bytes ≡ n = omega (arith, counted.size) in
+      rw (stored_at, counted.is, row_in n k b x.now (omega (arith, p.0)), e, ← all, ← split, ← q)

@@ -3,11 +3,11 @@ use Rattle.std.specs.Prelude.{ℕ, zero, suc, ◌+◌, ◌*◌, ◌%◌, ◌^◌
 use Rattle.std.specs.Prelude.{Option, None, Some}
 use Rattle.format.specs.declared.row.Row.{Row}
 use Rattle.format.specs.Bytes.{Bytes, bit, number}
-use Rattle.format.specs.Outline.{row_bytes, decode_row}
+use Rattle.format.specs.Outline.{row_bytes, decode_row, kind_number}
 
 -- The first byte of a row: depth in 3 bits, streamed, compressed and checksum in 1 bit each, inner state in 2 bits.
 abbrev pub state_of : Row → ℕ
-state_of r = r.depth % 8 * 32 + bit r.streamed * 16 + bit r.compressed * 8 + bit r.checksum * 4 + r.inner % 4
+state_of r = r.depth % 8 * 32 + bit r.streamed * 16 + bit r.compressed * 8 + bit r.checksum * 4 + kind_number r.inner
 
 -- The first four bytes of a row: its first byte, ordinal in 8 bits, header size in 16 bits.
 abbrev pub front_of : Row → ℕ

@@ -1,15 +1,12 @@
 use Rattle.std.proofs.Common.{rules}
-use Rattle.outline.proofs.WriteLaws.{rows_start, next_fits, rows_step, rows_done}
+use Rattle.outline.proofs.WriteLaws.{rows_start, rows_step, rows_done}
 use Rattle.outline.proofs.stored.put_rows.Goals as goal
 
-pub loop-from-init : goal.loop-from-init
-loop-from-init c = search (rows_start, rules)
+pub loop-k-init : goal.loop-k-init
+loop-k-init g c = search (rows_start, rules)
 
-pub overflow_add-to : goal.overflow_add-to
-overflow_add-to c = search (next_fits, rules)
-
-pub loop-from-preserved : goal.loop-from-preserved
-loop-from-preserved c = search (rows_step _ _ _ _ _ _ c.loop-from.invariant, rules)
+pub loop-k-preserved : goal.loop-k-preserved
+loop-k-preserved g c = search (rows_step _ _ g.met.F.RowForm.all_long, rules)
 
 pub returns : goal.returns
-returns c = search (rows_done, rules)
+returns g c = search (rows_done _ _ g.met.F.RowForm.all_long, rules)
