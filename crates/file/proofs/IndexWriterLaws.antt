@@ -4,7 +4,7 @@ use native.Mathlib.Omega.{arith}
 use mathlib.Core.Path.{◌≡◌, refl, sym, ap, ◌∙◌}
 use mathlib.Core.Bool.{Bool, true, false, not}
 use mathlib.Core.List.{List, [], ◌∷◌}
-use Rattle.std.specs.Prelude.{Some}
+use Rattle.std.specs.Prelude.{None, Some}
 use lib.ListN.{length, take, drop, get_or}
 use Rattle.std.specs.Prelude.{slice_get}
 use lib.Seq.{take-length}
@@ -47,6 +47,17 @@ last_decides (a ∷ []) (suc j) b n h = absurd (omega arith)
 last_decides (a ∷ c ∷ bs) zero b n h = absurd (omega arith)
 last_decides (a ∷ c ∷ bs) (suc j) b n h = last_decides (c ∷ bs) j b (omega arith) h
 
+-- An element that is found is at that position, and one that is not found is after the end.
+found_at : (l : List ℕ) (i n : ℕ) → Some n ≡ slice_get l i → (i < length l) × (n ≡ get_or l i 0)
+found_at [] i n h = cc
+found_at (x ∷ l) zero n h = let same : n ≡ x = cc in (omega arith, same)
+found_at (x ∷ l) (suc i) n h = let (less, same) = found_at l i n h in (omega arith, same)
+
+not_found : (l : List ℕ) (i : ℕ) → None ≡ slice_get l i → length l ≤ i
+not_found [] i h = omega arith
+not_found (x ∷ l) zero h = cc
+not_found (x ∷ l) (suc i) h = let less = not_found l i h in omega arith
+
 module _ (s : Bytes) (out : List ℕ) (is_open : file_offsets s ≡ accepted out) where
   -- What is kept of an open file.
   h : Kept s out (length out)
@@ -65,9 +76,9 @@ module _ (s : Bytes) (out : List ℕ) (is_open : file_offsets s ≡ accepted out
   same_ending l told = cc (rw (h.is, layout) at told)
 
   -- If the file has no block, the index is refused with 22.
-  pub no_block : length out ≡ 0 → (before : Bytes) (x : Outcome ℕ) → x ≡ refused (refusal NoIndexPossible 0) → Written (index_for s) before before x
+  pub no_block : None ≡ slice_get out (length out - 1) → (before : Bytes) (x : Outcome ℕ) → x ≡ refused (refusal NoIndexPossible 0) → Written (index_for s) before before x
   unfolding may_have_index
-  no_block p before = written_refused (index_for s) before (refusal NoIndexPossible 0) (index_is false (none_may h.f.blocks (h.count ∙ p)))
+  no_block p before = written_refused (index_for s) before (refusal NoIndexPossible 0) (index_is false (none_may h.f.blocks (omega (arith, h.count, not_found out (length out - 1) p))))
     where
       none_may : (bs : List Block) → length bs ≡ 0 → may_have_index bs ≡ false
       none_may [] q = refl
@@ -80,10 +91,13 @@ module _ (s : Bytes) (out : List ℕ) (is_open : file_offsets s ≡ accepted out
       let few = blocks_few most_blocks 0 (blocks_start h.f) _ (drop (blocks_start h.f) s) (file_parts s h.f h.is).chain_read in
       rw (offsets_index, le-leb (length out) most_blocks (omega (arith, h.count)))
 
-  module _ (n : ℕ) (p : 0 < length out) (last : n ≡ get_or out (length out - 1) 0) where
+  module _ (n : ℕ) (last : Some n ≡ slice_get out (length out - 1)) where
+    there : length out - 1 < length out
+    there = (found_at out (length out - 1) n last).0
+
     -- The table keeps where the last block begins.
     last_each : Each s h.f.blocks (length out - 1) n
-    last_each = rw last (kept_each h (omega arith))
+    last_each = rw (found_at out (length out - 1) n last).1 (kept_each h there)
 
     -- The last block begins inside the file.
     pub last_inside : n ≤ length s
@@ -95,7 +109,7 @@ module _ (s : Bytes) (out : List ℕ) (is_open : file_offsets s ≡ accepted out
       last_may t q =
           let told : x ≡ is_streamed last_each.b.flags
           = rw (read, part_all) (sound_streamed _ last_each.is.sound) ∙ ap is_streamed (sym last_each.is.same_flags) in
-          last_decides h.f.blocks (length out - 1) last_each.b (omega (arith, h.count)) last_each.found ∙ ap not (sym told) ∙ q
+          last_decides h.f.blocks (length out - 1) last_each.b (omega (arith, h.count, there)) last_each.found ∙ ap not (sym told) ∙ q
 
       -- If the last block is streamed, the index is refused with 22.
       pub last_streamed : x ≡ true → (before : Bytes) (y : Outcome ℕ) → y ≡ refused (refusal NoIndexPossible 0) → Written (index_for s) before before y

@@ -13,7 +13,6 @@ use Rattle.format.specs.declared.layout.Tree.{Tree}
 use Rattle.format.specs.declared.layout.Layout.{Layout}
 use Rattle.format.specs.declared.layout.Verdict.{Verdict}
 use Rattle.format.specs.declared.layout.Verdict.TheVariants.{Absent}
-use Rattle.format.specs.declared.offset.Offset.{Offset}
 use Rattle.format.specs.declared.refusal.Refusal.{Refusal}
 use Rattle.format.specs.declared.refusal.Reason.TheVariants.{FileTooLong, NeitherTreeNorBlock}
 use Rattle.format.specs.Bytes.{Bytes, begins}
@@ -61,7 +60,7 @@ file_long s h r e before out = refused_judged (file s) before out r (rw (lt-leb 
 module _ (s : Bytes) (few : length s ≤ most_bytes) (before out : List ℕ) where
   -- If the header is refused, the file is refused in the same way.
   pub header_refused : (x : Outcome Header) → x ≡ header s → (r : Refusal) → x ≡ refused r → (y : Outcome Layout) → y ≡ refused r
-        → Judged (file s) before out y
+      → Judged (file s) before out y
   unfolding file body
   header_refused x read r e y told =
       let is : header s ≡ refused r = sym read ∙ e in
@@ -123,7 +122,7 @@ module _ (s : Bytes) (h : Header) (n : ℕ) (t : Option Tree) (front : FrontRead
         (walked : Walked s (chain most_blocks 0 first (drop first s)) before out x) where
       -- If the chain is refused, so is the file.
       pub chain_refused : (r : Refusal) → x ≡ refused r → (y : Outcome Layout) → y ≡ refused r
-        → Judged (file s) before out y
+          → Judged (file s) before out y
       chain_refused r e y told =
           let w : WalkRefused (chain most_blocks 0 first (drop first s)) out r = rw e at walked in
           refused_judged (file s) before out r (file_chain (refused r) (rw (← first_is) w.is)) y told
@@ -292,3 +291,15 @@ open_few s out h =
 pub block_refused : (s : Bytes) (j : ℕ) (r : Refusal) → layout s ≡ refused r → refused r ≡ block_at s j
 unfolding block_at
 block_refused s j r e = rw (file_refused s (layout s) refl r e, block_at)
+
+-- The verdict on what follows the chain: nothing does (this law), or an index is judged (the next law).
+pub verdict_absent : (s : Bytes) (out : List ℕ) (c : ChainFound) → c.tail ≡ None → Absent ≡ chain_verdict s out c
+verdict_absent s out c e = rw e
+
+pub verdict_tail : (s : Bytes) (out : List ℕ) (c : ChainFound) (n : ℕ) → c.tail ≡ Some n → (v : Verdict)
+    → v ≡ judged (take c.blocks out) (indexed (lines (take (length s - n) (drop n s)))) → v ≡ chain_verdict s out c
+verdict_tail s out c n e v h = rw (e, h, part_all s n)
+
+-- Where the tail begins is inside the file.
+pub tail_inside : (s : Bytes) (out : List ℕ) (c : ChainFound) (n : ℕ) → ChainInside s out c → c.tail ≡ Some n → n ≤ length s
+tail_inside s out c n known e = rw e at known.tail

@@ -8,7 +8,7 @@ use Rattle.format.specs.declared.layout.Layout.{Layout}
 use Rattle.format.specs.declared.layout.Verdict.TheVariants.{Absent}
 use Rattle.blocks.specs.declared.step.ChainFound.{ChainFound}
 use Rattle.format.specs.Bytes.{Bytes}
-use Rattle.format.specs.Outcome.{Outcome, accepted, refused, ◌>>=◌}
+use Rattle.format.specs.Outcome.{Outcome, accepted, ◌>>=◌}
 use Rattle.format.specs.Line.{lines}
 use Rattle.format.specs.Header.{header}
 use Rattle.format.specs.Comments.{comments}

@@ -39,7 +39,10 @@ pub fn read_into(s: &[u8], offsets: &mut [u64; MOST_BLOCKS]) -> Result<Layout, R
 }
 
 // Reads a file and opens it: its blocks can then be found without reading it again. The table keeps where they begin.
-pub fn open<'a>(s: &'a [u8], table: &'a mut [u64; MOST_BLOCKS]) -> Result<(Layout, OpenFile<'a>), Refusal>
+pub fn open<'a>(
+    s: &'a [u8],
+    table: &'a mut [u64; MOST_BLOCKS],
+) -> Result<(Layout, OpenFile<'a>), Refusal>
     ensures { OpensAs s.now result }
 {
     let layout = read_into(s, table)?;
@@ -93,13 +96,7 @@ fn judge(s: &[u8], offsets: &mut [u64; MOST_BLOCKS]) -> Result<Layout, Refusal>
     let first = first_block(comments_end, tree);
     let chain = chain::walk(s, first, offsets)?;
     let verdict = chain_verdict(s, offsets, chain);
-    Ok(layout_with(
-        header,
-        comments_end,
-        tree,
-        chain.blocks,
-        verdict,
-    ))
+    Ok(layout_with(header, comments_end, tree, chain.blocks, verdict))
 }
 
 // Whether the file may go on at offset `at`, where its comments end: with this tree, at its end, or with a block.
