@@ -12,7 +12,8 @@ use Rattle.format.specs.File.{file, offset_table, layout}
 use Rattle.format.specs.Nest.{deepest, Inside, closed, opened, walk, walk_file, records_from}
 use Rattle.file.specs.Layout.{Kept}
 use Rattle.file.proofs.LayoutLaws.{file_refused, blocks_kept}
-use Rattle.visit.specs.Content.{reads_for, reads, inside_of, records_left, file_records, content_table, ContentIs}
+use Rattle.visit.specs.declared.content.Found.{Found}
+use Rattle.visit.specs.Content.{closed_found, reads_for, reads, inside_of, records_left, file_records, content_table, ContentIs}
 
 -- The records of a file at a depth are found by a walk that reads inner files for `levels` more levels.
 from_file : (levels depth start : ℕ) (s : Bytes) → records_from levels depth start s ≡ walk_file (reads_for levels depth) depth start s
@@ -46,23 +47,23 @@ one_level depth start t h = let e : deepest - depth ≡ suc (deepest - (depth + 
 -- If content is closed with the inner state `inner`, it is found with that state and with no blocks to walk.
 closed_is : (depth : ℕ) (compressed : Bool) (t : Bytes) (before after : List ℕ) (inner : Inner)
     → ((start : ℕ) → inside_of depth start compressed t ≡ closed inner) → after ≡ content_table depth compressed t before
-    → ContentIs depth compressed t before after (record { inner = inner; blocks = 0 })
-closed_is depth compressed t before after inner h table = record {
+    → (found : Found) → found ≡ closed_found inner → ContentIs depth compressed t before after found
+closed_is depth compressed t before after inner h table found is = rw is (record {
   state = λ start. ap (λ (i : Inside). i.state) (h start);
   none = λ e start. ap (λ (i : Inside). i.records) (h start);
   some = λ e. absurd (e refl);
   table = table;
-}
+})
 
 module _ (depth : ℕ) (compressed : Bool) (t : Bytes) (before : List ℕ) where
   -- The content of a compressed block is plain.
-  pub content_compressed : compressed ≡ true → ContentIs depth compressed t before before (record { inner = Plain; blocks = 0 })
+  pub content_compressed : compressed ≡ true → (found : Found) → found ≡ closed_found Plain → ContentIs depth compressed t before before found
   unfolding inside_of content_table
   content_compressed h = closed_is depth compressed t before before Plain (λ start. rw (inside_of, h)) (rw (content_table, h))
 
   module _ (plain : compressed ≡ false) (x : Bool) (is : x ≡ begins token (drop 0 t)) where
     -- Content that does not begin like a file is plain.
-    pub content_plain : not x ≡ true → ContentIs depth compressed t before before (record { inner = Plain; blocks = 0 })
+    pub content_plain : not x ≡ true → (found : Found) → found ≡ closed_found Plain → ContentIs depth compressed t before before found
     unfolding inside_of content_table
     content_plain h =
         let e = sym is ∙ not-true x h in
@@ -75,7 +76,7 @@ module _ (depth : ℕ) (compressed : Bool) (t : Bytes) (before : List ℕ) where
       like_file start = let e = sym is ∙ not-false x starts in rw (inside_of, plain, e)
 
       -- If no level is left, the content is too deep.
-      pub content_deep : deepest ≤ depth → ContentIs depth compressed t before before (record { inner = TooDeep; blocks = 0 })
+      pub content_deep : deepest ≤ depth → (found : Found) → found ≡ closed_found TooDeep → ContentIs depth compressed t before before found
       unfolding reads_for content_table
       content_deep h =
           let e : deepest - depth ≡ 0 = omega arith in
@@ -90,8 +91,8 @@ module _ (depth : ℕ) (compressed : Bool) (t : Bytes) (before : List ℕ) where
         table_read = let e = sym is ∙ not-false x starts in kept-so ∙ rw (content_table, plain, e, lt-leb deepest depth high)
 
         -- If the inner file is refused, the inner state is that refusal.
-        pub content_refused : (r : Refusal) → a ≡ refused r
-            → ContentIs depth compressed t before after (record { inner = Refused r; blocks = 0 })
+        pub content_refused : (r : Refusal) → a ≡ refused r → (found : Found) → found ≡ closed_found (Refused r)
+            → ContentIs depth compressed t before after found
         unfolding opened
         content_refused r e =
             closed_is depth compressed t before after (Refused r)

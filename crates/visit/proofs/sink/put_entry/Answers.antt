@@ -6,8 +6,8 @@ use Rattle.visit.proofs.sink.put_entry.Goals as goal
 pub returns-in-None : goal.returns-in-None
 returns-in-None c = search (put_nowhere, rules)
 
-pub returns-in-Row : goal.returns-in-Row
-returns-in-Row c = search (put_row, rules)
+pub returns-in-Some-Row : goal.returns-in-Some-Row
+returns-in-Some-Row c = search (put_row, rules)
 
-pub returns-in-Numbers : goal.returns-in-Numbers
-returns-in-Numbers c = search (put_numbers, rules)
+pub returns-in-Some-Numbers : goal.returns-in-Some-Numbers
+returns-in-Some-Numbers c = search (put_numbers, rules)
