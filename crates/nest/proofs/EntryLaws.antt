@@ -14,7 +14,6 @@ use borrow.Author.Tests.{leb-true, eqb-true, eqb-false, ne_eqb}
 use mir.Syntax.{w8, w64}
 use mir.Val.{Fits}
 use Rattle.format.specs.declared.block.Record.{Record}
-use Rattle.format.specs.declared.layout.Layout.{Layout}
 use Rattle.format.specs.declared.offset.OutermostOffset.{OutermostOffset}
 use Rattle.format.specs.declared.refusal.Refusal.{Refusal}
 use Rattle.format.specs.declared.refusal.Reason.TheVariants.{BufferTooShort}
@@ -35,7 +34,6 @@ use Rattle.format.proofs.RowLaws.{encoded_length}
 use Rattle.put.proofs.PutLaws.{placed_nothing, placed_none, placed_length, placed_append}
 use Rattle.put.proofs.WrittenLaws.{written_refused, written_short, written_placed, written_taken}
 use Rattle.file.specs.declared.open.OpenFile.{OpenFile}
-use Rattle.file.specs.Open.{file_offsets}
 use Rattle.file.specs.Layout.{Kept}
 use Rattle.file.proofs.LayoutLaws.{file_refused, open_is_kept}
 use Rattle.visit.specs.declared.sink.Form.{Form}
@@ -46,11 +44,7 @@ use Rattle.visit.proofs.ContentLaws.{refused_records, accepted_records}
 use Rattle.visit.proofs.SinkLaws.{record_length, delivered_length}
 use Rattle.nest.specs.Walk.{all_records}
 
-module _ {s : Bytes} {offsets : List ℕ} (is_open : file_offsets s ≡ accepted offsets) where
-  -- What is kept of an open file.
-  kept : Kept s offsets (length offsets)
-  kept = open_is_kept s offsets is_open
-
+module _ {s : Bytes} {offsets : List ℕ} {blocks : ℕ} (kept : Kept s offsets blocks) where
   -- The records of an accepted file are the records that the walk finds at depth 0, from offset 0 on.
   all_are : records s ≡ accepted (file_records 0 0 s)
   unfolding records
@@ -126,12 +120,12 @@ record_there [] k h = absurd (omega arith)
 record_there (r ∷ rs) zero h = record_length r
 record_there (r ∷ rs) (suc k) h = record_there rs k (omega arith)
 
-module _ {s : Bytes} {offsets : List ℕ} (is_open : file_offsets s ≡ accepted offsets) (out after : Bytes) (x : ℕ) where
+module _ {s : Bytes} {offsets : List ℕ} {blocks : ℕ} (kept : Kept s offsets blocks) (out after : Bytes) (x : ℕ) where
   -- A walk counts the records of an accepted file.
   pub counted : (form : Form) → Delivered form 0 out (all_records s) after x → x ≡ length (all_records s)
   counted form h =
-      let few = all_few is_open in
-      h.next ∙ number_after_lem 0 (all_records s) (omega (arith, short is_open)) ∙ omega arith
+      let few = all_few kept in
+      h.next ∙ number_after_lem 0 (all_records s) (omega (arith, short kept)) ∙ omega arith
 
   -- Case: one record is wanted.
   module _ (w : ℕ) (d : Delivered (One w) 0 out (all_records s) after x) where
@@ -140,12 +134,12 @@ module _ {s : Bytes} {offsets : List ℕ} (is_open : file_offsets s ≡ accepted
 
     one_is : found_bytes record_fields (record_at s w) ≡ accepted (found_numbers record_fields found)
     unfolding found_bytes record_at
-    one_is = rw (found_bytes, record_at, accepted_all is_open)
+    one_is = rw (found_bytes, record_at, accepted_all kept)
 
     one_put : after ≡ placed out 0 (found_numbers record_fields found)
     one_put =
-        let few = all_few is_open in
-        d.buffer ∙ put_one w 0 out (all_records s) (omega (arith, short is_open)) (omega arith) ∙ rw (sub-zero w)
+        let few = all_few kept in
+        d.buffer ∙ put_one w 0 out (all_records s) (omega (arith, short kept)) (omega arith) ∙ rw (sub-zero w)
 
     -- If there is no such record, nothing is written.
     pub one_none : x ≤ w → Written (found_bytes record_fields (record_at s w)) out after (accepted 0)
@@ -218,12 +212,12 @@ fits_width Rows n h = omega arith
 fits_width Table n h = omega arith
 fits_width (One w) n h = rw (zero-mul n) (omega arith)
 
-pub told_fits : {s : Bytes} {offsets : List ℕ} → file_offsets s ≡ accepted offsets → {form : Form} {each n : ℕ} {out after : Bytes}
+pub told_fits : {s : Bytes} {offsets : List ℕ} {blocks : ℕ} → Kept s offsets blocks → {form : Form} {each n : ℕ} {out after : Bytes}
     → Delivered form 0 out (all_records s) after n → each ≡ width form → Fits w64 (each * n)
-told_fits is_open {form} {each} {n} {out} {after} d e =
-    rw e (fits_width form n (omega (arith, counted is_open out after n form d, all_few is_open, short is_open)))
+told_fits kept {form} {each} {n} {out} {after} d e =
+    rw e (fits_width form n (omega (arith, counted kept out after n form d, all_few kept, short kept)))
 
-module _ {s : Bytes} {offsets : List ℕ} (is_open : file_offsets s ≡ accepted offsets) (form : Form) (wide : 1 ≤ width form) {each : ℕ} (width_is : each ≡ width form) where
+module _ {s : Bytes} {offsets : List ℕ} {blocks : ℕ} (kept : Kept s offsets blocks) (form : Form) (wide : 1 ≤ width form) {each : ℕ} (width_is : each ≡ width form) where
   pub each_some : 0 < each
   each_some = omega arith
 
@@ -239,16 +233,16 @@ module _ {s : Bytes} {offsets : List ℕ} (is_open : file_offsets s ≡ accepted
     all_put : Written (accepted (all_encoded form (all_records s))) out after (accepted (each * n))
     all_put =
         let rs = all_records s in
-        let few = all_few is_open in
+        let few = all_few kept in
         let fit : (0 + length rs) * width form ≤ length out = rw (zero-add (length rs), ← width_is) all_room in
-        let put = put_encoded form 0 out rs wide (omega (arith, short is_open)) fit in
+        let put = put_encoded form 0 out rs wide (omega (arith, short kept)) fit in
         written_placed _ out (all_encoded form rs) refl (rw all_bytes all_room) after (d.buffer ∙ put ∙ rw (zero-mul (width form))) (each * n)
-        (mul_comm each n ∙ ap (λ (m : ℕ). m * each) (counted is_open out after n form d) ∙ sym all_bytes)
+        (mul_comm each n ∙ ap (λ (m : ℕ). m * each) (counted kept out after n form d) ∙ sym all_bytes)
 
   -- Case: the buffer has places for as many blocks as the file can have, so it is long enough.
   module _ {out after : Bytes} {n : ℕ} (d : Delivered form 0 out (all_records s) after n) (h : length s / least_block ≤ length out / each) where
     sure : length (all_records s) ≤ length out / each
-    sure = let few = all_few is_open in omega arith
+    sure = let few = all_few kept in omega arith
 
     pub sure_put : Written (accepted (all_encoded form (all_records s))) out after (accepted (each * n))
     sure_put = all_put d sure
@@ -263,18 +257,18 @@ module _ {s : Bytes} {offsets : List ℕ} (is_open : file_offsets s ≡ accepted
     pub measured_short : length out / each < n → (a : Outcome ℕ) → a ≡ refused (refusal BufferTooShort 0)
         → Written (accepted (all_encoded form (all_records s))) out out a
     measured_short h =
-        let many : length out < length (all_records s) * each = (div-lt_iff_lt-mul each_some).0 (rw (counted is_open own made n form d) at h) in
+        let many : length out < length (all_records s) * each = (div-lt_iff_lt-mul each_some).0 (rw (counted kept own made n form d) at h) in
         written_short _ out (all_encoded form (all_records s)) refl (rw all_bytes many)
 
     module _ (h : n ≤ length out / each) where
       enough : length (all_records s) ≤ length out / each
-      enough = rw (counted is_open own made n form d) at h
+      enough = rw (counted kept own made n form d) at h
 
       -- If the records fit, a second walk puts them.
       pub measured_put : {after : Bytes} {x : ℕ} → Delivered form 0 out (all_records s) after x
           → Written (accepted (all_encoded form (all_records s))) out after (accepted (each * n))
       measured_put {after} {x} g =
-          let same : x ≡ n = counted is_open out after x form g ∙ sym (counted is_open own made n form d) in
+          let same : x ≡ n = counted kept out after x form g ∙ sym (counted kept own made n form d) in
           rw (← same) (all_put g enough)
 
       -- Case: all records are in the function's own buffer, so no second walk is needed.
@@ -285,7 +279,7 @@ module _ {s : Bytes} {offsets : List ℕ} (is_open : file_offsets s ≡ accepted
         pub own_put : {after : Bytes} {r : Outcome ℕ} → Written (accepted (take (each * n) made)) out after r
             → Written (accepted (all_encoded form (all_records s))) out after r
         own_put w =
-            let mine = all_put d (rw (counted is_open own made n form d) at g) in
+            let mine = all_put d (rw (counted kept own made n form d) at g) in
             rw (written_taken _ own made (each * n) mine).is w
 
 -- The outline has a row for each record.
@@ -327,12 +321,12 @@ module _ (s : Bytes) (r : Refusal) (e : layout s ≡ refused r) where
 
 -- The answers of the public functions, for a file that is open.
 module _ (s : Bytes) (file : OpenFile) (same : file.bytes.now ≡ s) where
-  opened_here : file_offsets s ≡ accepted file.offsets.now
-  opened_here = rw same at file.kept
+  kept_here : Kept s file.offsets.now (length file.offsets.now)
+  kept_here = open_is_kept s file.offsets.now (rw same at file.kept)
 
   pub count_accepted : (n : ℕ) → n ≡ length (all_records file.bytes.now) → accepted n ≡ record_count s
   unfolding record_count
-  count_accepted n c = rw (record_count, accepted_all opened_here, c, same)
+  count_accepted n c = rw (record_count, accepted_all kept_here, c, same)
 
   pub record_written : (w : ℕ) (out after : Bytes) (x : Outcome ℕ) → Written (found_bytes record_fields (record_at file.bytes.now w)) out after x
       → Written (found_bytes record_fields (record_at s w)) out after x
@@ -342,12 +336,12 @@ module _ (s : Bytes) (file : OpenFile) (same : file.bytes.now ≡ s) where
       → Written (accepted (all_encoded Rows (all_records file.bytes.now))) out after x → OutlineWritten s out after x
   unfolding outline rows all_encoded
   outline_written known out after x w =
-      back s known out after x (rw (outline, rows, accepted_all opened_here, rows_encoded (all_records s)) (rw same at w))
+      back s known out after x (rw (outline, rows, accepted_all kept_here, rows_encoded (all_records s)) (rw same at w))
 
   pub table_written : (out after : Bytes) (x : Outcome ℕ) → Written (accepted (all_encoded Table (all_records file.bytes.now))) out after x
       → Written (record_table s) out after x
   unfolding record_table all_encoded
-  table_written out after x w = rw (record_table, accepted_all opened_here) (rw same at w)
+  table_written out after x w = rw (record_table, accepted_all kept_here) (rw same at w)
 
 -- If the first `size` bytes of a buffer are put at the start of another that has room for them, they are written there.
 pub handed_over : (own out : Bytes) (size : ℕ) → size ≤ length own → size ≤ length out → (after : Bytes) → after ≡ placed out 0 (take size (drop 0 own))

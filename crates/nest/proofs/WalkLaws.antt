@@ -23,10 +23,7 @@ use Rattle.format.specs.Nest.{deepest, content_at, Inside, inside, walked, walk}
 use Rattle.format.proofs.ChainLaws.{blocks_few}
 use Rattle.format.proofs.FileLaws.{blocks_start, file_parts}
 use Rattle.blocks.specs.declared.again.Content.{Content}
-use Rattle.format.specs.Outcome.{accepted}
-use Rattle.file.specs.Open.{file_offsets}
 use Rattle.file.specs.Layout.{Kept}
-use Rattle.file.proofs.LayoutLaws.{open_is_kept}
 use Rattle.blocks.specs.Again.{reported, content_again}
 use Rattle.format.proofs.PartLaws.{part_all}
 use Rattle.blocks.proofs.AgainLaws.{reported_left, reported_stored, block_again_lem}
@@ -89,11 +86,7 @@ pub walking_start : (depth start : ℕ) (s : Bytes) (blocks : ℕ) (form : Form)
 walking_start depth start s blocks form number before = record { few = omega arith; size = refl; onward = λ after x h. h }
 
 module _ {depth start : ℕ} {s : Bytes} {form : Form} {number : ℕ} {before out : Bytes} {k n : ℕ} {offsets : List ℕ}
-    (w : Walking depth start s (length offsets) form number before out k n) (is_open : file_offsets s ≡ accepted offsets) where
-  -- What is kept of an open file.
-  kept : Kept s offsets (length offsets)
-  kept = open_is_kept s offsets is_open
-
+    (w : Walking depth start s (length offsets) form number before out k n) (kept : Kept s offsets (length offsets)) where
   -- If no block is left, all records of the file are delivered.
   pub walking_done : length offsets ≤ k → Delivered form number before (file_records depth start s) out n
   walking_done h = w.onward out n (rw (nothing_left kept depth start k h) (delivered_none form n out))
@@ -110,7 +103,7 @@ module _ {depth start : ℕ} {s : Bytes} {form : Form} {number : ℕ} {before ou
     pub walking_sound : Sound (take (length s - get_or offsets k 0) (drop (get_or offsets k 0) s))
     walking_sound = rw part_all each.is.sound
 
-    pub walking_ordinal : Fits w8 (k + 1)
+    pub walking_ordinal : Fits w8 k
     walking_ordinal = omega (arith, kept_few kept)
 
     module _ (room : start + length s ≤ most_bytes) (here : OutermostOffset) (here-is : here.0 ≡ wrapped start (get_or offsets k 0)) where

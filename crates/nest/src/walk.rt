@@ -34,13 +34,13 @@ fn walk_blocks(
     out: &mut [u8],
 ) -> u64
     requires depth { depth ≤ deepest }
-    requires inside { start.0 + length file.entry.bytes.now ≤ most_bytes }
+    requires inside { start.0 + length file.bytes.now ≤ most_bytes }
     ensures { Delivered form number out.old (file_records depth start.0 file.entry.bytes.now) out.new result }
 {
     // One table serves all inner files, because each is finished before the next is opened.
     let mut inside = [0u64; MOST_BLOCKS];
     let mut n = number;
-    'blocks: for k in 0..file.offsets.len() {
+    for k in 0..file.offsets.len() {
         let at = file.offsets[k] as usize;
         let block = Reached {
             bytes: &file.bytes[at..],
@@ -64,9 +64,9 @@ fn walk_content(
     number: u64,
     out: &mut [u8],
 ) -> u64
-    requires sound { Sound block.entry.bytes.now }
-    requires depth { block.entry.depth ≤ deepest }
-    requires inside { block.entry.here.0 + length block.entry.bytes.now ≤ most_bytes }
+    requires sound { Sound block.bytes.now }
+    requires depth { block.depth ≤ deepest }
+    requires inside { block.here.0 + length block.bytes.now ≤ most_bytes }
     ensures { Delivered form number out.old (reached_records block.entry) out.new result }
 {
     let c = again::content_of(block.bytes);

@@ -11,5 +11,5 @@ decreases-walk_blocks l = 66 * (deepest - l.depth) + length l.file.offsets.now
 abbrev pub decreases-walk_content : goal.decreases-walk_content
 decreases-walk_content l = 66 * (deepest - l.block.depth)
 
-abbrev pub invariant-walk_blocks-blocks : goal.invariant-walk_blocks-blocks
-invariant-walk_blocks-blocks l = Walking l.depth l.start.0 l.file.bytes.now (length l.file.offsets.now) l.form l.number l.initial.out l.out l.k l.n
+abbrev pub invariant-walk_blocks-loop-k : goal.invariant-walk_blocks-loop-k
+invariant-walk_blocks-loop-k l = Walking l.depth l.start.0 l.file.bytes.now (length l.file.offsets.now) l.form l.number l.initial.out l.out l.k l.n
