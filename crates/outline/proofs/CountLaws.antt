@@ -7,7 +7,7 @@ use mathlib.Core.Path.{◌≡◌, refl, sym, ap, ◌∙◌}
 use mathlib.Core.Bool.{Bool, true, false, and-false}
 use Rattle.std.specs.Prelude.{◌==◌}
 use Rattle.std.specs.Simd.{first_chunks}
-use mathlib.Core.List.{List, [], ◌∷◌}
+use mathlib.Core.List.{List, [], ◌∷◌, map}
 use lib.ListN.{length, drop, get_or}
 use lib.Seq.{drop-drop}
 use lib.Dec.{leb}
@@ -22,7 +22,7 @@ use Rattle.format.specs.Block.{least_header}
 use Rattle.format.specs.Chain.{most_blocks}
 use Rattle.format.specs.Outcome.{Outcome, accepted, refused, refusal, need, ◌>>=◌, ◌>>◌}
 use Rattle.format.specs.Outline.{row_bytes, row_from, unpacked, decode_row, is_row, stored_from, stored, stored_count}
-use Rattle.outline.proofs.StoredLaws.{chunk_is}
+use Rattle.outline.proofs.StoredLaws.{chunk_is, no_rows, rows_judged}
 
 module _ (r : Row) (most : ℕ) where
   -- If the ordinal is too high, then the row breaks the rules.
@@ -74,10 +74,10 @@ counted_alone (refused r) = refl
 
 -- `rest` are the bytes after the last whole row, and `x` says whether there are none.
 module _ (b rest : Bytes) (x : Bool) (size : length rest ≡ length b % row_bytes) (test : x ≡ length rest == 0) where
-  -- If there are some, then the count is refused with number 23 at place 0.
-  pub count_parts : x ≡ false → (r : Refusal) → r ≡ refusal OutlineLength 0 → refused r ≡ stored_count b
-  unfolding stored_count stored
-  count_parts e r f = rw (f, stored_count, stored, ← size, ← test, e)
+  -- If there are some, then the outline is refused with number 23 at place 0.
+  pub count_parts : x ≡ false → (r : Refusal) → r ≡ refusal OutlineLength 0 → stored b ≡ refused r
+  unfolding stored
+  count_parts e r f = rw (f, stored, ← size, ← test, e)
 
   -- If there are none, then the invariant holds where no row is read yet.
   pub count_start : x ≡ true → Counting b 0 0
@@ -111,18 +111,18 @@ module _ (b : Bytes) (rows : List Bytes) (split : rows ≡ first_chunks row_byte
         let chunk = chunk_is (length b / row_bytes) k b [] (omega arith) in
         rw (test, is, split, chunk, next, ← drop-drop row_bytes (k * row_bytes) b) (rw more at h.left)
 
-    -- If it breaks the rules, then the count is refused with number 24 at the offset of that row.
-    pub count_bad : x ≡ false → (f : Refusal) → f ≡ refusal OutlineRow (k * row_bytes) → refused f ≡ stored_count b
-    count_bad e f g = rw g (rw e at next_row)
+    -- If it breaks the rules, then the outline is refused with number 24 at the offset of that row.
+    pub count_bad : x ≡ false → (f : Refusal) → f ≡ refusal OutlineRow (k * row_bytes) → stored b ≡ refused f
+    count_bad e f g = no_rows b f (rw g (rw e at next_row))
 
     -- If it keeps the rules, then the invariant also holds after that row.
     pub count_step : x ≡ true → Counting b (k + 1) (r.depth + 1)
     count_step e = record { left = rw (← counted_next k (k * row_bytes) r _) (rw e at next_row) }
 
-  -- If all rows are read, then the count is the number of rows.
-  pub count_done : k ≤ length rows → length rows ≤ k → accepted (length rows) ≡ stored_count b
+  -- If all rows are read, then they are the rows of the outline.
+  pub count_done : k ≤ length rows → length rows ≤ k → stored b ≡ accepted (map decode_row rows)
   unfolding stored_from
   count_done p q =
       let none : length b / row_bytes - k ≡ 0 = omega arith in
       let all : k + 0 ≡ length rows = omega arith in
-      ap accepted (sym all) ∙ rw none at h.left
+      rows_judged b rows split size (ap accepted (sym all) ∙ rw none at h.left)

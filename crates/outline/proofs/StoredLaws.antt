@@ -7,8 +7,11 @@ use mathlib.Core.Bool.{true}
 use Rattle.std.specs.Prelude.{Option, None, Some, MatchOption}
 use Rattle.std.specs.Option.{IfSome, IsSomeAnd}
 use Rattle.std.specs.List.{HoldsAt}
+use Rattle.std.specs.Result.{IsErrAnd}
+use Rattle.std.proofs.lemmas.List.{length-map}
+use Rattle.std.proofs.lemmas.Result.{err_from_is_err_and}
 use Rattle.std.proofs.Common.{Bor}
-use mathlib.Core.List.{List, ◌∷◌}
+use mathlib.Core.List.{List, [], ◌∷◌, map}
 use lib.ListN.{length, take, drop, get_or, length-drop}
 use Rattle.std.specs.Prelude.{slice_get}
 use lib.Seq.{drop-drop}
@@ -88,35 +91,53 @@ chunk_is (suc n) (suc k) b d h =
     let e : suc k * row_bytes ≡ row_bytes + k * row_bytes = omega arith in
     rw (chunk_is n k (drop row_bytes b) d (omega arith), drop-drop (k * row_bytes) row_bytes b, e)
 
--- Then row `k` is the row in that part.
-row_in : (n k : ℕ) (b d : Bytes) → k < n → slice_get (rows_in n b) k ≡ Some (decode_row (get_or (first_chunks row_bytes n b) k d))
-row_in zero k b d h = absurd (omega arith)
-row_in (suc n) zero b d h = refl
-row_in (suc n) (suc k) b d h = row_in n k (drop row_bytes b) d (omega arith)
+-- The rows with which `b` begins are in its parts of sixteen bytes.
+rows_parts : (n : ℕ) (b : Bytes) → rows_in n b ≡ map decode_row (first_chunks row_bytes n b)
+rows_parts zero b = refl
+rows_parts (suc n) b = ap (λ (rs : List Row). decode_row (take row_bytes b) ∷ rs) (rows_parts n (drop row_bytes b))
 
--- If `k` is not below `n`, then there is no row `k`.
-row_out : (n k : ℕ) (b : Bytes) → n ≤ k → slice_get (rows_in n b) k ≡ None
-row_out zero k b h = refl
-row_out (suc n) zero b h = absurd (omega arith)
-row_out (suc n) (suc k) b h = row_out n k (drop row_bytes b) (omega arith)
+-- If the parts are counted as rows, then the outline has the rows in them.
+pub rows_judged : (b : Bytes) (rows : List Bytes) → rows ≡ first_chunks row_bytes (length b / row_bytes) b → length rows ≡ length b / row_bytes
+    → accepted (length rows) ≡ stored_count b
+    → stored b ≡ accepted (map decode_row rows)
+rows_judged b rows split size h = (has_rows b (length rows) h).is ∙ ap accepted (rw (size, rows_parts (length b / row_bytes) b, split))
 
--- If the count is refused, then reading row `k` is refused in the same way.
-pub row_refused : (b : Bytes) (k : ℕ) (r : Refusal) → refused r ≡ stored_count b → refused r ≡ stored_at b k
-unfolding stored_at
-row_refused b k r h = rw (stored_at, no_rows b r h)
+-- An outline that is refused is refused in the same way when its rows are counted or one is read.
+module _ (b : Bytes) (r : Refusal) (h : stored b ≡ refused r) where
+  pub count_refused : (x : Outcome ℕ) → IsErrAnd x (λ e. e ≡ r) → x ≡ stored_count b
+  unfolding stored_count
+  count_refused x e = let same = err_from_is_err_and x e in rw (stored_count, h, same.1, same.2)
 
--- If the outline is counted and its bytes are cut into rows of sixteen bytes, then the row in part `k`, if there is
--- such a part, is the one asked for.
-module _ (b : Bytes) (k n : ℕ) (h : accepted n ≡ stored_count b) (rows : List Bytes) (split : rows ≡ first_chunks row_bytes (length b / row_bytes) b)
-    (size : length rows ≡ length b / row_bytes) where
-  pub row_found : (part : Option (Bor Bytes)) (row : Option Row) → MatchOption part (length rows ≤ k) (λ x. (k < length rows) × HoldsAt {X = Bytes} (λ y. x.now ≡ y) rows k)
+  pub row_refused : (k : ℕ) (x : Outcome (Option Row)) → IsErrAnd x (λ e. e ≡ r) → x ≡ stored_at b k
+  unfolding stored_at
+  row_refused k x e = let same = err_from_is_err_and x e in rw (stored_at, h, same.1, same.2)
+
+-- Row `k` of the rows in these parts is in part `k`.
+row_in : (rows : List Bytes) (k : ℕ) (d : Bytes) → k < length rows → slice_get (map decode_row rows) k ≡ Some (decode_row (get_or rows k d))
+row_in [] k d h = absurd (omega arith)
+row_in (b ∷ rows) zero d h = refl
+row_in (b ∷ rows) (suc k) d h = row_in rows k d (omega arith)
+
+-- If there is no such part, there is no such row.
+row_out : (rows : List Bytes) (k : ℕ) → length rows ≤ k → slice_get (map decode_row rows) k ≡ None
+row_out [] k h = refl
+row_out (b ∷ rows) zero h = absurd (omega arith)
+row_out (b ∷ rows) (suc k) h = row_out rows k (omega arith)
+
+-- An outline has the rows in these parts.
+module _ (b : Bytes) (rows : List Bytes) (h : stored b ≡ accepted (map decode_row rows)) where
+  -- They are counted.
+  pub count_rows : accepted (length rows) ≡ stored_count b
+  unfolding stored_count
+  count_rows = rw (stored_count, h, length-map)
+
+  -- If the row in part `k` is read, where there is such a part, then it is the one asked for.
+  pub row_found : (k : ℕ) (part : Option (Bor Bytes)) (row : Option Row)
+      → MatchOption part (length rows ≤ k) (λ x. (k < length rows) × HoldsAt {X = Bytes} (λ y. x.now ≡ y) rows k)
       → IfSome part (λ x. x.now ≡ get_or rows k x.now)
       → MatchOption part (row ≡ None) (λ x. IsSomeAnd row (λ r. r ≡ decode_row x.now))
       → accepted row ≡ stored_at b k
   unfolding stored_at
-  row_found None row p q e = let counted = has_rows b n h in rw (e, stored_at, counted.is, row_out n k b (omega (arith, counted.size)))
-  row_found (Some x) None p q e = absurd e
-  row_found (Some x) (Some r) p q e =
-      let counted = has_rows b n h in
-      let all : length b / row_bytes ≡ n = omega (arith, counted.size) in
-      rw (stored_at, counted.is, row_in n k b x.now (omega (arith, p.0)), e, ← all, ← split, ← q)
+  row_found k None row p q e = rw (stored_at, h, e, row_out rows k p)
+  row_found k (Some x) None p q e = absurd e
+  row_found k (Some x) (Some r) p q e = rw (stored_at, h, row_in rows k x.now p.0, e, ← q)

@@ -1,6 +1,6 @@
 -- Laws about writing the rows of a stored outline. They are put one after another in a form, and an accepted outline is
 -- written again as it was.
-use Prim.Native.Nat.{ℕ, zero, suc, ◌+◌, ◌*◌, ◌-◌, ◌/◌, ◌≤◌, ◌<◌}
+use Prim.Native.Nat.{ℕ, suc, ◌+◌, ◌*◌, ◌-◌, ◌/◌, ◌≤◌, ◌<◌}
 use native.Mathlib.Nat.{add_comm, suc-mul, div-lt_iff_lt-mul, le-div_iff_mul-le}
 use native.Mathlib.Omega.{arith}
 use mathlib.Core.Path.{◌≡◌, refl, sym, ap, ◌∙◌}
@@ -8,7 +8,6 @@ use mathlib.Core.List.{List, [], ◌∷◌, map, flat_map}
 use lib.ListN.{length, take, drop, get_or, length-append}
 use mir.Syntax.{w8}
 use mir.Val.{Fits}
-use Rattle.std.specs.Simd.{first_chunks}
 use Rattle.std.specs.Result.{IsErrAnd}
 use Rattle.std.proofs.lemmas.Result.{err_from_is_err_and}
 use Rattle.std.proofs.Common.{add-one, drop-cons, drop_of_length-le, length-drop}
@@ -18,14 +17,12 @@ use Rattle.format.specs.declared.refusal.Reason.TheVariants.{BufferTooShort}
 use Rattle.format.specs.Bytes.{Bytes}
 use Rattle.format.specs.Lent.{placed}
 use Rattle.format.specs.Outcome.{Outcome, accepted, refused, refusal, ◌>>=◌}
-use Rattle.format.specs.Outline.{row_bytes, encode_row, decode_row, outline_of, stored, stored_count, rewritten}
+use Rattle.format.specs.Outline.{encode_row, decode_row, outline_of, stored, rewritten}
 use Rattle.format.specs.Promise.{Written, WrittenAgain}
 use Rattle.format.proofs.OutlineLaws.{same_bytes}
 use Rattle.put.proofs.PutLaws.{placed_append, placed_nothing}
 use Rattle.put.proofs.WrittenLaws.{written_refused, written_short, written_placed, written_taken}
-use Rattle.outline.specs.Row.{rows_in}
 use Rattle.outline.specs.Form.{rows_in_form, stored_in}
-use Rattle.outline.proofs.StoredLaws.{has_rows, no_rows}
 
 -- Rows in a form, one after another. Each is in its own sixteen bytes.
 abbrev pub all_of : (Row → Bytes) → List Bytes → Bytes
@@ -73,27 +70,19 @@ module _ (form : Row → Bytes) (each : ℕ) (long : (r : Row) → length (form 
         let all : k ≡ length rows = omega arith in
         placed_nothing out (k * each) (rw (all, size) room) ∙ rw none at h.left
 
--- The rows with which `b` begins are in its parts of sixteen bytes.
-rows_parts : (n : ℕ) (b : Bytes) → rows_in n b ≡ map decode_row (first_chunks row_bytes n b)
-rows_parts zero b = refl
-rows_parts (suc n) b = ap (λ (rs : List Row). decode_row (take row_bytes b) ∷ rs) (rows_parts n (drop row_bytes b))
-
--- If the count is refused, then the writer gives the same refusal and leaves the buffer unchanged.
-pub write_refused : (form : Row → Bytes) (b out : Bytes) (r : Refusal) → refused r ≡ stored_count b → (x : Outcome ℕ) → IsErrAnd x (λ e. e ≡ r)
+-- If the outline is refused, then the writer gives the same refusal and leaves the buffer unchanged.
+pub write_refused : (form : Row → Bytes) (b out : Bytes) (r : Refusal) → stored b ≡ refused r → (x : Outcome ℕ) → IsErrAnd x (λ e. e ≡ r)
     → Written (stored_in form b) out out x
 unfolding stored_in
 write_refused form b out r h x e =
     let same = err_from_is_err_and x e in
-    written_refused (stored_in form b) out r (rw (stored_in, no_rows b r h)) x (same.1 ∙ ap refused same.2)
+    written_refused (stored_in form b) out r (rw (stored_in, h)) x (same.1 ∙ ap refused same.2)
 
-module _ (form : Row → Bytes) (each : ℕ) (long : (r : Row) → length (form r) ≡ each) (some : 0 < each) (b : Bytes) (m : ℕ) (h : accepted m ≡ stored_count b)
-    (rows : List Bytes) (split : rows ≡ first_chunks row_bytes (length b / row_bytes) b) where
+module _ (form : Row → Bytes) (each : ℕ) (long : (r : Row) → length (form r) ≡ each) (some : 0 < each) (b : Bytes) (rows : List Bytes)
+    (h : stored b ≡ accepted (map decode_row rows)) where
   are_rows : stored_in form b ≡ accepted (all_of form rows)
   unfolding stored_in
-  are_rows =
-      let counted = has_rows b m h in
-      let all : m ≡ length b / row_bytes = omega (arith, counted.size) in
-      rw (stored_in, counted.is, all, rows_parts (length b / row_bytes) b, split)
+  are_rows = rw (stored_in, h)
 
   module _ (out : Bytes) where
     -- If there is no room for the rows, then the writer refuses with number 21 at place 0 and leaves the buffer

@@ -1,10 +1,11 @@
 // Stored outlines: counts their rows, reads one of them, and writes them again.
-ghost use Rattle.std.specs.Prelude.{ℕ, ◌*◌, ◌≤◌, ◌<◌, ◌≡◌, length, map};
+ghost use Rattle.std.specs.Prelude.{ℕ, ◌*◌, ◌≤◌, ◌<◌, ◌≡◌, length, map, MatchResult};
 ghost use Rattle.format.specs.declared.row.Row.{Row};
 ghost use Rattle.format.specs.Bytes.{Bytes};
 ghost use Rattle.format.specs.Fields.{encode_stored_row, stored_rows, stored_row_bytes};
 ghost use Rattle.format.specs.Lent.{placed};
-ghost use Rattle.format.specs.Outline.{row_bytes, encode_row, decode_row, is_row, stored_count, stored_at};
+ghost use Rattle.format.specs.Outcome.{accepted, refused};
+ghost use Rattle.format.specs.Outline.{row_bytes, encode_row, decode_row, is_row, stored, stored_count, stored_at};
 ghost use Rattle.format.specs.Promise.{Written, WrittenAgain};
 ghost use Rattle.format.proofs.RowLaws.{encoded_length};
 ghost use Rattle.outline.specs.Form.{numbers_long, rows_in_form, stored_in};
@@ -19,6 +20,20 @@ use format::row::Row;
 pub fn count(b: &[u8]) -> Result<u64, Refusal>
     ensures { result ≡ stored_count b.now }
 {
+    Ok(judge(b)?.len() as u64)
+}
+
+// Reads row `k` of a stored outline. The answer is the row, that there is no such row, or the outline's refusal.
+pub fn row(b: &[u8], k: u64) -> Result<Option<Row>, Refusal>
+    ensures { result ≡ stored_at b.now k }
+{
+    Ok(judge(b)?.get(k as usize).map(row::decode))
+}
+
+// Judges a stored outline. Returns the bytes of each row, or the refusal.
+fn judge(b: &[u8]) -> Result<&[[u8; ROW_BYTES]], Refusal>
+    ensures { MatchResult result (λ rows. stored b.now ≡ accepted (map decode_row rows.now)) (λ r. stored b.now ≡ refused r) }
+{
     let (rows, rest) = b.as_chunks();
     if !rest.is_empty() {
         return Err(Refusal::new(Reason::OutlineLength, 0));
@@ -31,7 +46,7 @@ pub fn count(b: &[u8]) -> Result<u64, Refusal>
         }
         most = r.depth + 1;
     }
-    Ok(rows.len() as u64)
+    Ok(rows)
 }
 
 // Whether a row keeps the rules and is at most `most` deep.
@@ -42,15 +57,6 @@ fn is_row(r: Row, most: u8) -> bool
         && LEAST_HEADER <= r.header_size as u64
         && r.used <= r.allocated
         && r.depth <= most
-}
-
-// Reads row `k` of a stored outline. The answer is the row, that there is no such row, or the outline's refusal.
-pub fn row(b: &[u8], k: u64) -> Result<Option<Row>, Refusal>
-    ensures { result ≡ stored_at b.now k }
-{
-    count(b)?;
-    let (rows, _) = b.as_chunks();
-    Ok(rows.get(k as usize).map(row::decode))
 }
 
 // Reads a stored outline and writes its rows again.
@@ -129,8 +135,7 @@ impl RowForm for AsNumbers {
 fn write<F: RowForm>(b: &[u8], out: &mut [u8]) -> Result<u64, Refusal>
     ensures { Written (stored_in F.formed b.now) out.old out.new result }
 {
-    count(b)?;
-    let (rows, _) = b.as_chunks();
+    let rows = judge(b)?;
     if out.len() / F::BYTES < rows.len() {
         return Err(Refusal::new(Reason::BufferTooShort, 0));
     }
