@@ -9,21 +9,21 @@ ghost use Rattle.format.specs.Promise.{Written};
 
 use format::refusal::{Reason, Refusal};
 
+// The smallest number that is a refusal: one in the top byte.
+const LEAST_REFUSAL: u64 = 1 << 56;
+
 // Returns a refusal as one number: its number in the top byte, and its place in the bytes below.
 pub fn refused(r: Refusal) -> u64
     ensures { result ≡ word (Outcome·refused r) }
 {
-    r.number as u64 * 72057594037927936 + r.place.0 % 72057594037927936
+    r.reason.number() as u64 * LEAST_REFUSAL + r.place.0 % LEAST_REFUSAL
 }
 
 // Returns a count, or a refusal as one number.
 pub fn counted(a: Result<u64, Refusal>) -> u64
-    ensures { result ≡ word (count_answer a) }
+    ensures { result ≡ word a }
 {
-    match a {
-        Ok(n) => n,
-        Err(r) => refused(r),
-    }
+    a.unwrap_or_else(refused)
 }
 
 // Puts numbers at the start of the buffer, each in eight bytes, and returns how many bytes that is. If the buffer is
