@@ -4,6 +4,8 @@ use Prim.Native.Nat.{ℕ, ◌+◌, ◌<◌}
 use native.Mathlib.Omega.{arith}
 use mathlib.Core.Path.{◌≡◌, refl, sym, ap, ◌∙◌}
 use lib.ListN.{length}
+use Rattle.std.specs.Prelude.{MatchResult}
+use Rattle.std.specs.Result.{IsOkAnd}
 use Rattle.format.specs.declared.refusal.Refusal.{Refusal}
 use Rattle.format.specs.Bytes.{Bytes}
 use Rattle.format.specs.Outcome.{Outcome, accepted, refused, ◌>>◌}
@@ -16,22 +18,12 @@ use Rattle.format.specs.Export.{least_refusal, word}
 use Rattle.format.proofs.NumberedLaws.{Numbered, numbered_more, numbered_writes, numbered_done, numbered_outline, numbered_rewritten, numbered_index, numbered_edit}
 use Rattle.format.proofs.WordLaws.{word_large, Counts, returned, returned_writes}
 
--- An edit returns 0, or its refusal as one number.
-pub word_edited : (a : Outcome (Unit {0})) → a ≡ accepted tt → 0 ≡ word (◌>>◌ (a) (accepted 0))
-unfolding edit_answer
-word_edited a e = rw e
-
-pub word_unedited : (a : Outcome (Unit {0})) (r : Refusal) → a ≡ refused r → (w : ℕ) → w ≡ word (refused r)
-    → w ≡ word (◌>>◌ (a) (accepted 0))
-unfolding edit_answer
-word_unedited a r e w h = rw e h
-
 -- The returned number states the count that was asked for.
 pub returned_count : (a : Outcome ℕ) (count : Outcome ℕ) (lent : ℕ) → a ≡ count → Counts lent count → Numbered lent count
-    → (w : ℕ) → w ≡ word (a) → Returned count lent w
+    → (w : ℕ) → w ≡ word a → Returned count lent w
 returned_count a count lent h c n w e = returned count lent c n w (e ∙ ap word h)
 
-module _ (before after : Bytes) (a : Outcome ℕ) (w : ℕ) (e : w ≡ word (a)) where
+module _ (before after : Bytes) (a : Outcome ℕ) (w : ℕ) (e : w ≡ word a) where
   -- The promise of a writer carries over to the number that is returned.
   pub exported_written : (s : Bytes) (result : Outcome Bytes) → Numbered (length s) result → Written result before after a
       → Exported s result before after w
@@ -39,40 +31,34 @@ module _ (before after : Bytes) (a : Outcome ℕ) (w : ℕ) (e : w ≡ word (a))
       record { answer = returned_writes result before s n w (e ∙ ap word h.answer); buffer = h.buffer }
 
   -- If the returned number is below 2^56, the writer counted that many bytes.
-  small_counted : (s : Bytes) (result : Outcome Bytes) → Numbered (length s) result → Written result before after a → w < least_refusal
-      → a ≡ accepted w
-  unfolding count_answer
-  small_counted s result n h p = from a h.answer e
+  small_counted : w < least_refusal → a ≡ accepted w
+  small_counted p = from a e
     where
-      from : (x : Outcome ℕ) → x ≡ writes result before → w ≡ word (x) → x ≡ accepted w
-      from (accepted m) q f = ap accepted (sym f)
-      from (refused r) q f =
-          let large = word_large (length s) (writes result before) r (numbered_writes (length s) result before n) q in
-          absurd (omega arith)
+      from : (x : Outcome ℕ) → w ≡ word x → x ≡ accepted w
+      from (accepted m) f = ap accepted (sym f)
+      from (refused r) f = let large = word_large (refused r) r refl in absurd (omega arith)
 
   -- The outline that was written reads back to the rows of the file.
   pub exported_outline : (s : Bytes) → OutlineWritten s before after a → OutlineExported s before after w
   exported_outline s h = record {
     written = exported_written s (outline s) (numbered_outline s) h.written;
-    reads_back = λ p. h.reads_back w (small_counted s (outline s) (numbered_outline s) h.written p);
+    reads_back = λ p. h.reads_back w (small_counted p);
   }
 
   -- The stored outline that was written again is the same.
   pub exported_rewrite : (b : Bytes) → WrittenAgain b before after a → RewriteExported b before after w
   exported_rewrite b h = record {
     written = exported_written b (rewritten b) (numbered_rewritten b) h.written;
-    same = λ p. h.same w (small_counted b (rewritten b) (numbered_rewritten b) h.written p);
+    same = λ p. h.same w (small_counted p);
   }
 
   -- The index that was written is good and short.
   pub exported_index : (s : Bytes) → IndexWritten s before after a → IndexExported s before after w
-  exported_index s h =
-      let counted = small_counted s (index_for s) (numbered_index s) h.written in
-      record {
-        written = exported_written s (index_for s) (numbered_index s) h.written;
-        good = λ p. h.good w (counted p);
-        short = λ p. h.short w (counted p);
-      }
+  exported_index s h = record {
+    written = exported_written s (index_for s) (numbered_index s) h.written;
+    good = λ p. h.good w (small_counted p);
+    short = λ p. h.short w (small_counted p);
+  }
 
 -- If the value of an outcome is replaced twice, only the second value counts.
 done_again : {A B C : Type 0} (o : Outcome A) (b : B) (c : C) → ◌>>◌ (◌>>◌ o (accepted b)) (accepted c) ≡ ◌>>◌ o (accepted c)
@@ -84,8 +70,18 @@ done_none : {A : Type 0} (o : Outcome A) (lent : ℕ) → Counts lent (◌>>◌ 
 done_none (accepted a) lent = omega arith
 done_none (refused r) lent = tt
 
--- The edit of the file `s` to the text `t` was answered with `a`, and `w` is returned for `a`.
-module _ (s t after : Bytes) (a : Outcome (Unit {0})) (h : Done s t after a) (w : ℕ) (e : w ≡ word (◌>>◌ (a) (accepted 0))) where
+-- If an edit that is done is answered with 0, then its answer is `x`.
+edit_counted : (a : Outcome (Unit {0})) (x : Outcome ℕ) → MatchResult a (λ u. IsOkAnd x (λ n. n ≡ 0)) (λ r. x ≡ refused r) → x ≡ ◌>>◌ a (accepted 0)
+edit_counted (accepted tt) (accepted n) h = ap accepted h
+edit_counted (accepted tt) (refused r) h = absurd h
+edit_counted (refused r) x h = h
+
+-- The edit of the file `s` to the text `t` was answered with `a`, which counts as `x`, and `w` is returned for `x`.
+module _ (s t after : Bytes) (a : Outcome (Unit {0})) (h : Done s t after a) (x : Outcome ℕ)
+    (counted : MatchResult a (λ u. IsOkAnd x (λ n. n ≡ 0)) (λ r. x ≡ refused r)) (w : ℕ) (e : w ≡ word x) where
+  word_is : w ≡ word (◌>>◌ a (accepted 0))
+  word_is = e ∙ ap word (edit_counted a x counted)
+
   -- The returned number states the answer of the edit.
   edit_answer_lem : Returned (◌>>◌ (edit s t) (accepted 0)) (length s + length t) w
   edit_answer_lem =
@@ -94,22 +90,19 @@ module _ (s t after : Bytes) (a : Outcome (Unit {0})) (h : Done s t after a) (w 
       returned done lent (done_none (edit s t) lent)
       (numbered_more (length s) lent done (omega arith) (numbered_done (length s) (edit s t) 0 (numbered_edit s t)))
       w
-      (e ∙ ap (λ (o : Outcome (Unit {0})). word (◌>>◌ o (accepted 0))) h.answer ∙ ap word (done_again (edit s t) tt 0))
+      (word_is ∙ ap (λ (o : Outcome (Unit {0})). word (◌>>◌ o (accepted 0))) h.answer ∙ ap word (done_again (edit s t) tt 0))
 
   -- If 0 is returned, the edit was done.
   zero_edited : w ≡ 0 → a ≡ accepted tt
-  unfolding edit_answer
-  zero_edited p = from a h.answer e
+  zero_edited p = from a word_is
     where
-      from : (x : Outcome (Unit {0})) → x ≡ ◌>>◌ (edit s t) (accepted tt) → w ≡ word (◌>>◌ (x) (accepted 0)) → x ≡ accepted tt
-      from accepted tt q f = refl
-      from (refused r) q f =
-          let large = word_large (length s) _ r (numbered_done (length s) (edit s t) tt (numbered_edit s t)) q in
-          absurd (omega arith)
+      from : (y : Outcome (Unit {0})) → w ≡ word (◌>>◌ y (accepted 0)) → y ≡ accepted tt
+      from (accepted tt) f = refl
+      from (refused r) f = let large = word_large (refused r) r refl in absurd (omega arith)
 
   -- If the edit was done, 0 is returned.
   edited_zero : a ≡ accepted tt → w ≡ 0
-  edited_zero p = e ∙ sym (word_edited a p)
+  edited_zero p = word_is ∙ rw p
 
   pub exported_edit : EditExported s t after w
   exported_edit = record {

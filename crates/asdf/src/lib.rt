@@ -5,29 +5,21 @@
 #![tactic(auto)]
 
 ghost use Rattle.std.specs.Prelude.{◌≡◌, length};
-ghost use Rattle.format.specs.Outcome.{accepted, ◌>>◌ as Outcome·then};
-ghost use Rattle.format.specs.Fields.{layout_bytes, block_fields, record_fields, row_fields, found_bytes, record_table, stored_rows};
+ghost use Rattle.format.specs.Outcome.{accepted};
+ghost use Rattle.format.specs.Fields.{layout_bytes, block_fields, record_fields, row_fields, found_numbers, found_bytes, record_table, stored_rows};
 ghost use Rattle.format.specs.File.{block_at};
 ghost use Rattle.format.specs.Nest.{record_count, record_at};
 ghost use Rattle.format.specs.Outline.{stored_count, stored_at};
-ghost use Rattle.format.specs.Export.{word as Export·word};
-ghost use Rattle.format.specs.Promise.{Returned, Exported, OutlineExported, RewriteExported, IndexExported, EditExported};
+ghost use Rattle.format.specs.Promise.{Written, Returned, Exported, OutlineExported, RewriteExported, IndexExported, EditExported};
 
 use format::refusal::Refusal;
-
 
 // Puts the layout of a file into the buffer: 96 bytes.
 #[unsafe(no_mangle)]
 pub extern "C" fn asdf_read(file: &[u8], out: &mut [u8]) -> u64
     ensures { Exported file.now (layout_bytes file.now) out.old out.new result }
 {
-    match file::layout::read(file) {
-        Err(r) => word::refused(r),
-        Ok(l) => {
-            let numbers = fields::layout_fields(l);
-            word::counted(word::put_numbers(out, &numbers))
-        }
-    }
+    word::counted(put_layout(file, out))
 }
 
 // Puts the block with this ordinal of a file into the buffer: 80 bytes, or none if there is no such block.
@@ -35,14 +27,7 @@ pub extern "C" fn asdf_read(file: &[u8], out: &mut [u8]) -> u64
 pub extern "C" fn asdf_block(file: &[u8], ordinal: u64, out: &mut [u8]) -> u64
     ensures { Exported file.now (found_bytes block_fields (block_at file.now ordinal)) out.old out.new result }
 {
-    match file::layout::block(file, ordinal) {
-        Err(r) => word::refused(r),
-        Ok(None) => 0,
-        Ok(Some(b)) => {
-            let numbers = fields::block_fields(b);
-            word::counted(word::put_numbers(out, &numbers))
-        }
-    }
+    word::counted(put_block(file, ordinal, out))
 }
 
 // Returns how many blocks a file and the files inside it have.
@@ -98,14 +83,7 @@ pub extern "C" fn asdf_stored_count(stored: &[u8]) -> u64
 pub extern "C" fn asdf_stored_row(stored: &[u8], k: u64, out: &mut [u8]) -> u64
     ensures { Exported stored.now (found_bytes row_fields (stored_at stored.now k)) out.old out.new result }
 {
-    match outline::stored::row(stored, k) {
-        Err(r) => word::refused(r),
-        Ok(None) => 0,
-        Ok(Some(r)) => {
-            let numbers = fields::row_fields(r);
-            word::counted(word::put_numbers(out, &numbers))
-        }
-    }
+    word::counted(put_stored_row(stored, k, out))
 }
 
 // Puts the rows of a stored outline into the buffer as numbers: 80 bytes for each.
@@ -129,15 +107,39 @@ pub extern "C" fn asdf_rewrite(stored: &[u8], out: &mut [u8]) -> u64
 pub extern "C" fn asdf_edit(file: &mut [u8], text: &[u8]) -> u64
     ensures { EditExported file.old text.now file.new result }
 {
-    edited(edit::edit(file, text))
+    word::counted(edit::edit(file, text).map(|()| 0))
 }
 
-// Returns 0 for an edit that was done, or the refusal as one number.
-fn edited(a: Result<(), Refusal>) -> u64
-    ensures { result ≡ Export·word (Outcome·then (edit_answer a) (accepted 0)) }
+// Puts the numbers of the layout of a file.
+fn put_layout(file: &[u8], out: &mut [u8]) -> Result<u64, Refusal>
+    ensures { Written (layout_bytes file.now) out.old out.new result }
 {
-    match a {
-        Ok(()) => 0,
-        Err(r) => word::refused(r),
+    let layout = file::layout::read(file)?;
+    word::put_numbers(out, &fields::layout_fields(layout))
+}
+
+// Puts the numbers of the block with this ordinal of a file.
+fn put_block(file: &[u8], ordinal: u64, out: &mut [u8]) -> Result<u64, Refusal>
+    ensures { Written (found_bytes block_fields (block_at file.now ordinal)) out.old out.new result }
+{
+    let block = file::layout::block(file, ordinal)?;
+    put_found(block.map(fields::block_fields), out)
+}
+
+// Puts the numbers of row `k` of a stored outline.
+fn put_stored_row(stored: &[u8], k: u64, out: &mut [u8]) -> Result<u64, Refusal>
+    ensures { Written (found_bytes row_fields (stored_at stored.now k)) out.old out.new result }
+{
+    let row = outline::stored::row(stored, k)?;
+    put_found(row.map(fields::row_fields), out)
+}
+
+// Puts the numbers that were found. If nothing was found, no bytes are put.
+fn put_found<const N: usize>(found: Option<[u64; N]>, out: &mut [u8]) -> Result<u64, Refusal>
+    ensures { Written (accepted (found_numbers (λ ns. ns) found.entry)) out.old out.new result }
+{
+    match found {
+        None => Ok(0),
+        Some(numbers) => word::put_numbers(out, &numbers),
     }
 }
