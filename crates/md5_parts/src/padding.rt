@@ -3,7 +3,7 @@ ghost use Rattle.std.specs.Prelude.{◌≡◌, ◌+◌, ◌%◌, ◌≤◌, ◌+
 ghost use Rattle.md5_parts.specs.Md5.{hashed, padding, digest_of};
 ghost use Rattle.md5_parts.specs.State.{in_block};
 
-use crate::rounds::compress;
+use crate::blocks::blocks;
 use crate::words::Words;
 
 // The words `w` after the padding of a message of `count` bytes. `held` has its last bytes, after the whole blocks. With
@@ -15,9 +15,9 @@ pub(crate) fn finish(w: Words, held: &[u8], count: u64) -> Words
     let bits = count.wrapping_mul(8).to_le_bytes();
     let block = joined(held, &[128]);
     if held.len() < 56 {
-        return compress(w, &joined(&block[..56], &bits));
+        return blocks(w, &[joined(&block[..56], &bits)]);
     }
-    compress(compress(w, &block), &joined(&[0; 56], &bits))
+    blocks(w, &[block, joined(&[0; 56], &bits)])
 }
 
 // Two parts of a block, with zeros after them.

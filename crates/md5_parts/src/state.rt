@@ -5,7 +5,6 @@ ghost use Rattle.md5_parts.specs.State.{starting, held, next, fed, digest as Sta
 
 use crate::blocks::blocks;
 use crate::padding::{digest_of, finish, joined};
-use crate::rounds::compress;
 use crate::words::Words;
 use format::limits::MOST_BYTES;
 use format::refusal::{Reason, Refusal};
@@ -87,7 +86,8 @@ impl Md5 {
             let (front, rest) = bytes.split_at(room);
             let first = joined(self.held(), front);
             let (whole, left) = rest.as_chunks::<64>();
-            self.words = blocks(compress(self.words, &first), whole);
+            let words = blocks(self.words, &[first]);
+            self.words = blocks(words, whole);
             self.pending = joined(left, &[]);
         }
         self.count += bytes.len() as u64;

@@ -17,5 +17,5 @@ returns c =
           let many = w.if-bytes-room.false in
           rw (w.self-is) (add_long c.args.self.now c.args.bytes.now (simp length-take (omega arith)) (64 - length c.held.result.now) (omega (arith, size)) many
           _ _ _ w.held-else-bytes-room.ensures w.split_at.ensures.front w.split_at.ensures.back _ w.joined-first.ensures
-          _ w.compress.ensures _ w.as_chunks.ensures.front _ w.blocks-self.ensures _ w.as_chunks.ensures.back _ w.joined-self-else-bytes-room.ensures)
+          _ w.blocks-words.ensures _ w.as_chunks.ensures.front _ w.blocks-self.ensures _ w.as_chunks.ensures.back _ w.joined-self-else-bytes-room.ensures)
     ]
