@@ -2,3 +2,4 @@
 pub mod Md5
 pub mod State
 pub mod Kept
+pub mod Vectors
