@@ -7,8 +7,6 @@ use Rattle.format.specs.Fields.{number_bytes}
 use Rattle.format.specs.Lent.{leaves}
 use Rattle.format.specs.Promise.{Returned}
 use Rattle.md5_parts.specs.declared.state.Md5.{Md5}
-use Rattle.format.specs.declared.refusal.Reason.TheVariants.{BufferTooShort}
-use Rattle.md5_parts.specs.declared.words.Words.{Words}
 use Rattle.md5_parts.specs.Md5.{md5}
 use Rattle.md5_parts.specs.State.{starting, taken, digest, joined_all, taken_of}
 use Rattle.format.specs.declared.refusal.Reason.TheVariants.{BufferTooShort}
@@ -17,13 +15,9 @@ use Rattle.format.specs.declared.refusal.Reason.TheVariants.{BufferTooShort}
 abbrev pub state_bytes : ℕ
 state_bytes = 104
 
--- The bytes of a state with these parts: its four words and its count, eight bytes each, and the block that it holds.
-unfoldable pub state_of : Words → Bytes → ℕ → Bytes
-state_of w pending count = number_bytes (w.a ∷ w.b ∷ w.c ∷ w.d ∷ count ∷ []) ++ pending
-
--- The bytes of a state.
-abbrev pub encode_state : Md5 → Bytes
-encode_state st = state_of st.words st.pending st.count
+-- The bytes of a state: its four words and its count, eight bytes each, and the block that it holds.
+unfoldable pub encode_state : Md5 → Bytes
+encode_state st = number_bytes (st.words.a ∷ st.words.b ∷ st.words.c ∷ st.words.d ∷ st.count ∷ []) ++ st.pending
 
 -- The word in the eight bytes of `b` from offset `n`: their number, of which the lowest 32 bits count.
 abbrev pub word_at : ℕ → Bytes → ℕ

@@ -14,7 +14,7 @@ use Rattle.format.specs.Promise.{Written}
 use Rattle.md5_parts.specs.declared.state.Md5.{Md5}
 use Rattle.md5_parts.specs.declared.state.Fed.{Fed}
 use Rattle.md5_parts.specs.State.{taken, fed, digest}
-use Rattle.md5_parts.specs.Kept.{state_bytes, state_of, encode_state, decode_state, stored_state, part_bytes, digest_bytes, PartKept}
+use Rattle.md5_parts.specs.Kept.{state_bytes, encode_state, decode_state, stored_state, part_bytes, digest_bytes, PartKept}
 use Rattle.put.specs.Put.{PutWhole}
 use Rattle.put.proofs.PutLaws.{placed_after}
 use Rattle.put.proofs.WrittenLaws.{written_refused}
@@ -31,7 +31,7 @@ placed_all out bytes h =
 -- The numbers are put first, and the block after them.
 pub state_put : (st : Md5) (mid after : Bytes) (most r : ℕ) → length st.pending ≡ 64 → (a b c d : ℕ) → a ≡ st.words.a → b ≡ st.words.b → c ≡ st.words.c → d ≡ st.words.d
     → mid ≡ placed (replicate 104 0) 0 (number_bytes (a ∷ b ∷ c ∷ d ∷ st.count ∷ [])) → PutWhole mid after 40 st.pending most r → after ≡ encode_state st
-unfolding state_of
+unfolding encode_state
 state_put st mid after most r size a b c d ea eb ec ed first put =
     let w = st.words in
     let p = st.pending in

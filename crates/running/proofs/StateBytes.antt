@@ -11,7 +11,7 @@ use Rattle.format.specs.Fields.{number_bytes}
 use Rattle.format.specs.File.{most_bytes}
 use Rattle.format.proofs.PackLaws.{to_bytes_length, big_endian_to_bytes}
 use Rattle.md5_parts.specs.declared.state.Md5.{Md5}
-use Rattle.md5_parts.specs.Kept.{state_bytes, state_of, encode_state, word_at, decode_state}
+use Rattle.md5_parts.specs.Kept.{state_bytes, encode_state, word_at, decode_state}
 
 -- The five numbers of a state take forty bytes.
 pub numbers_size : (a b c d n : ℕ) → length (number_bytes (a ∷ b ∷ c ∷ d ∷ n ∷ [])) ≡ 40
@@ -97,12 +97,12 @@ module _ (a b c d n : ℕ) (p rest : Bytes) where
 
 -- A sound state is read back from its bytes, whatever follows them.
 pub decode_encode : (st : Md5) → Sound st → (rest : Bytes) → decode_state (encode_state st ++ rest) ≡ st
-unfolding state_of
+unfolding encode_state
 decode_encode st h rest =
     ap decode_state (laid_out st.words.a st.words.b st.words.c st.words.d st.count st.pending rest)
     ∙ decoded st.words.a st.words.b st.words.c st.words.d st.count st.pending rest h.a h.b h.c h.d (omega (arith, h.count)) h.size
 
 -- It takes 104 bytes.
 pub encode_size : (st : Md5) → length st.pending ≡ 64 → length (encode_state st) ≡ state_bytes
-unfolding state_of
+unfolding encode_state
 encode_size st h = length-append (number_bytes _) st.pending ∙ omega (arith, h, numbers_size st.words.a st.words.b st.words.c st.words.d st.count)
