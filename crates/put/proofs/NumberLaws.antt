@@ -1,13 +1,12 @@
 -- Laws about numbers that are put one after another. The invariant: putting the numbers that are left gives the same
 -- buffer as putting all numbers.
-use Rattle.std.proofs.Common.{◌≡◌, ℕ, ◌+◌, ◌-◌, ◌*◌, ◌/◌, ◌<◌, ◌≤◌, List, [], ◌∷◌, ◌++◌, length, get_or, drop, sym, refl, ap, ◌∙◌, add-one, arith, length-append, length-drop, drop_of_length-le, drop-cons}
+use Rattle.std.proofs.Common.{◌≡◌, ℕ, ◌+◌, ◌-◌, ◌*◌, ◌/◌, ◌<◌, ◌≤◌, List, [], ◌∷◌, ◌++◌, length, get_or, drop, refl, ap, ◌∙◌, add-one, arith, length-append, length-drop, drop_of_length-le, drop-cons}
 use mathlib.Core.List.{flat_map}
-use lib.Seq.{sets}
 use Rattle.format.specs.Bytes.{Bytes, to_bytes}
 use Rattle.format.specs.Fields.{number_bytes}
 use Rattle.format.specs.Lent.{placed}
 use Rattle.format.proofs.PackLaws.{to_bytes_length}
-use Rattle.put.proofs.PutLaws.{placed_sets, placed_append, placed_none, placed_nothing, placed_length}
+use Rattle.put.proofs.PutLaws.{placed_append, placed_none, placed_nothing, placed_length}
 
 -- Each number takes eight bytes.
 pub numbers_length : (ns : List ℕ) → length (number_bytes ns) ≡ 8 * length ns
@@ -38,37 +37,22 @@ module _ (out₀ : Bytes) (at : ℕ) (ns : List ℕ) where
   numbers_begin h g = record { at_place = omega arith; few = omega arith; room = omega arith; size = refl; left = refl }
 
   module _ (out : Bytes) (place k : ℕ) (p : Putting out place k) where
-    module _ (h : place < at + 8 * length ns) where
-      -- If `place` is before the end, a number is left.
-      pub numbers_read : k < length ns
-      numbers_read = omega (arith, p.at_place)
-
-      pub numbers_less : length ns - (k + 1) < length ns - k
-      numbers_less = omega (arith, numbers_read)
-
-      -- There is room for this number.
-      pub numbers_room : place + 8 ≤ length out
-      numbers_room = omega (arith, p.at_place, p.room, p.size)
-
-      -- When this number is put, the invariant holds for the next.
-      pub numbers_step : (next : Bytes) → next ≡ sets out place (to_bytes 8 (get_or ns k 0)) → Putting next (place + 8) (k + 1)
-      numbers_step next e =
-          let fits = numbers_room in
-          let wide : length (to_bytes 8 (get_or ns k 0)) ≡ 8 = to_bytes_length 8 (get_or ns k 0) in
-          let put : next ≡ placed out place (to_bytes 8 (get_or ns k 0)) = e ∙ sym (placed_sets out place (to_bytes 8 (get_or ns k 0)) (omega arith)) in
-          let l = simp length-drop at (numbers_length (drop (k + 1) ns)) in
-          let both = placed_append out place (to_bytes 8 (get_or ns k 0)) (number_bytes (drop (k + 1) ns)) (omega arith) in
-          record {
-            at_place = omega (arith, p.at_place);
-            few = omega (arith, numbers_read);
-            room = p.room;
-            size = ap length put ∙ placed_length out place (to_bytes 8 (get_or ns k 0)) ∙ p.size;
-            left = rw put (both ∙ rw (numbers_next ns k numbers_read) at p.left);
-          }
+    -- When number `k` is put, the invariant holds for the next.
+    pub numbers_step : k < length ns → (next : Bytes) → next ≡ placed out place (to_bytes 8 (get_or ns k 0)) → Putting next (place + 8) (k + 1)
+    numbers_step h next put =
+        let wide : length (to_bytes 8 (get_or ns k 0)) ≡ 8 = to_bytes_length 8 (get_or ns k 0) in
+        let l = simp length-drop at (numbers_length (drop (k + 1) ns)) in
+        let both = placed_append out place (to_bytes 8 (get_or ns k 0)) (number_bytes (drop (k + 1) ns)) (omega (arith, p.at_place, p.room, p.size)) in
+        record {
+          at_place = omega (arith, p.at_place);
+          few = omega arith;
+          room = p.room;
+          size = ap length put ∙ placed_length out place (to_bytes 8 (get_or ns k 0)) ∙ p.size;
+          left = rw put (both ∙ rw (numbers_next ns k h) at p.left);
+        }
 
     -- If no number is left, all are put.
-    pub numbers_done : at + 8 * length ns ≤ place → out ≡ placed out₀ at (number_bytes ns)
+    pub numbers_done : length ns ≤ k → out ≡ placed out₀ at (number_bytes ns)
     unfolding number_bytes flat_map
-    numbers_done g =
-        let all : length ns ≤ k = omega (arith, p.at_place) in
+    numbers_done all =
         placed_nothing out place (omega (arith, p.at_place, p.few, p.room, p.size)) ∙ rw (drop_of_length-le ns all) at p.left

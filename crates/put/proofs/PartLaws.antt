@@ -1,21 +1,13 @@
 -- Laws about parts that are put one after another.
-use Rattle.std.proofs.Common.{◌≡◌, ℕ, suc, ◌+◌, ◌-◌, ◌%◌, ◌^◌, ◌<◌, ◌≤◌, List, [], ◌∷◌, ◌++◌, length, get_or, drop, sym, refl, ap, ◌∙◌, add-one, arith, length-append, drop_of_length-le, drop-cons}
+use Rattle.std.proofs.Common.{◌≡◌, ℕ, suc, ◌+◌, ◌%◌, ◌^◌, ◌<◌, ◌≤◌, List, [], ◌∷◌, ◌++◌, length, get_or, drop, refl, ap, ◌∙◌, add-one, arith, length-append, drop_of_length-le, drop-cons}
 use Rattle.format.specs.Bytes.{Bytes}
 use Rattle.format.specs.Lent.{placed}
 use Rattle.format.specs.Numeral.{decimal}
 use Rattle.put.specs.Put.{PutWhole, PutAt, PutDecimals, put_end, most_digits, decimals, most_decimals, decimals_put}
-use Rattle.put.proofs.PutLaws.{placed_append, placed_length, placed_nothing, placed_outside, placed_long}
+use Rattle.put.proofs.PutLaws.{placed_append, placed_length, placed_nothing}
 
 -- The `n` bytes `bytes`, put at offset `at`, end at `r`.
 module _ (out bytes : Bytes) (at n most r : ℕ) (size : n ≡ length bytes) (few : n ≤ most) (end : r ≡ (at + n) % 2 ^ 64) where
-  -- If they begin after the end of the buffer, nothing changes.
-  pub whole_outside : length out < at → PutWhole out out at bytes most r
-  whole_outside h = record { buffer = placed_outside out at bytes h; end = rw (← size) end; few = omega arith }
-
-  -- If they end after the end of the buffer, nothing changes.
-  pub whole_long : length out - at < n → PutWhole out out at bytes most r
-  whole_long h = record { buffer = placed_long out at bytes n h (sym size); end = rw (← size) end; few = omega arith }
-
   -- If they are placed in the buffer, they are put.
   pub whole_placed : (after : Bytes) → after ≡ placed out at bytes → PutWhole out after at bytes most r
   whole_placed after e = record { buffer = e; end = rw (← size) end; few = omega arith }
@@ -102,45 +94,47 @@ next_put {out} {mid} {next} {after} {at} {q} {r} {e} {between} {n} {m} {ns} numb
       few = omega (arith, two, three, number.few, rest.few);
     }
 
--- The numbers from `i` on are left. When they are put at `end`, all numbers are put.
-pub record Joining (before : Bytes) (at : ℕ) (between : Bytes) (ns : List ℕ) (out : Bytes) (end i : ℕ) : Type 0 where
-  pub inside : i ≤ length ns
-  pub size : length out ≡ length before
-  pub fits : end < 2 ^ 64
-  pub left : {after : Bytes} {r : ℕ} → PutDecimals out after end between (drop i ns) r → PutDecimals before after at between ns r
+-- What is left after a number, which ends at `end`: nothing, or the text and then the numbers `ns`.
+abbrev pub RestPut : Bytes → ℕ → Bytes → List ℕ → Bytes → ℕ → Type 0
+RestPut out end between [] after r = (after ≡ out) × (r ≡ end)
+RestPut out end between (n ∷ ns) after r =
+    (mid : Bytes) × (q : ℕ) × PutWhole out mid end between (length between) q × PutDecimals mid after q between (n ∷ ns) r
 
-module _ (before : Bytes) (at : ℕ) (between : Bytes) (ns : List ℕ) where
-  -- At the start all numbers are left.
-  pub join_start : at < 2 ^ 64 → Joining before at between ns before at 0
-  join_start h = record { inside = omega arith; size = refl; fits = h; left = λ h. h }
+-- If a number is put and then what is left, all numbers are put.
+rest_put : {out mid after : Bytes} {at q r n : ℕ} {between : Bytes} (ns : List ℕ) → PutWhole out mid at (decimal n) most_digits q
+    → RestPut mid q between ns after r → PutDecimals out after at between (n ∷ ns) r
+unfolding decimals decimals_put
+rest_put [] number rest = rw (rest.0, rest.1) (record { buffer = number.buffer; end = number.end; few = omega (arith, number.few) })
+rest_put (m ∷ ns) number rest = next_put number rest.2 rest.3
 
-  module _ (out : Bytes) (end i : ℕ) (h : Joining before at between ns out end i) where
-    -- If no number is left, all are put.
-    pub join_none : length ns ≤ i → PutDecimals before out at between ns end
-    unfolding decimals decimals_put
-    join_none p =
-        let nothing : drop i ns ≡ [] = drop_of_length-le ns p in
-        h.left (rw nothing (record { buffer = refl; end = omega (arith, h.fits); few = omega arith }))
+-- The first number is put, and the first `i` of the others. When what is left is put at `end`, all numbers `ns` are.
+pub record Joining (before : Bytes) (at : ℕ) (between : Bytes) (ns others out : List ℕ) (end i : ℕ) : Type 0 where
+  pub left : {after : Bytes} {r : ℕ} → RestPut out end between (drop i others) after r → PutDecimals before after at between ns r
 
-    -- The next number is put and ends at `q`.
-    module _ (p : i < length ns) (mid : Bytes) (q : ℕ) (number : PutWhole out mid end (decimal (get_or ns i 0)) most_digits q) where
-      -- If it is the last, all numbers are put.
-      pub join_last : i + 1 ≡ length ns → PutDecimals before mid at between ns q
-      unfolding decimals decimals_put
-      join_last e =
-          let one : drop i ns ≡ get_or ns i 0 ∷ [] = drop-cons ns i 0 p ∙ rw (drop_of_length-le ns {i = suc i} (omega arith)) in
-          h.left (rw one (record { buffer = number.buffer; end = number.end; few = omega (arith, number.few) }))
+-- If there are no numbers, nothing is put.
+pub join_none : (before : Bytes) (at : ℕ) (between : Bytes) (ns : List ℕ) → at < 2 ^ 64 → length ns ≡ 0 → PutDecimals before before at between ns at
+unfolding decimals decimals_put
+join_none before at between [] h e = record { buffer = refl; end = omega arith; few = omega arith }
+join_none before at between (n ∷ ns) h e = absurd (omega arith)
 
-      -- If it is not the last, the text is put after it, and the invariant holds for the next number.
-      pub join_step : (i + 1 ≡ length ns → ⊥) → (next : Bytes) (r : ℕ) → PutWhole mid next q between (length between) r
-          → Joining before at between ns next r (i + 1)
-      unfolding decimals decimals_put
-      join_step e next r text = record {
-        inside = omega arith;
-        size = (whole_put text).size ∙ (whole_put number).size ∙ h.size;
-        fits = omega (arith, text.end);
-        left = λ rest.
-            let two = drop-cons ns (suc i) 0 (omega arith) in
-            let later = rw (add-one i, two) at rest in
-            h.left (rw (drop-cons ns i 0 p, two) (next_put number text later));
-      }
+module _ (before : Bytes) (at : ℕ) (between : Bytes) (ns others : List ℕ) where
+  -- When the first number is put, the others are left.
+  pub join_start : (n : ℕ) (mid : Bytes) (q : ℕ) → ns ≡ n ∷ others → PutWhole before mid at (decimal n) most_digits q → Joining before at between ns others mid q 0
+  join_start n mid q e number = rw e (record { left = λ rest. rest_put others number rest })
+
+  module _ (out : Bytes) (end i : ℕ) (h : Joining before at between ns others out end i) where
+    -- If nothing is left, all numbers are put.
+    pub join_done : length others ≤ i → PutDecimals before out at between ns end
+    join_done p =
+        let nothing : drop i others ≡ [] = drop_of_length-le others p in
+        h.left (rw nothing (refl, refl))
+
+    -- When the text and the next number are put, the invariant holds for the numbers after it.
+    pub join_step : (mid next : Bytes) (q r : ℕ) → i < length others → PutWhole out mid end between (length between) q
+        → PutWhole mid next q (decimal (get_or others i 0)) most_digits r → Joining before at between ns others next r (i + 1)
+    join_step mid next q r p text number =
+        record {
+          left = λ rest.
+              let later = rw (add-one i) at rest in
+              h.left (rw (drop-cons others i 0 p) (mid, q, text, rest_put (drop (suc i) others) number later));
+        }

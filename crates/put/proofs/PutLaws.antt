@@ -1,11 +1,9 @@
 -- Laws about bytes that are put into a buffer.
-use Rattle.std.proofs.Common.{◌≡◌, ℕ, zero, suc, ◌+◌, ◌-◌, ◌/◌, ◌%◌, ◌<◌, ◌≤◌, Bool, true, false, leb, [], ◌∷◌, ◌++◌, length, set, sym, refl, ◌∙◌, add-zero, arith, length-append, le-leb, leb-true}
-use native.Mathlib.Numerals.{towards_suc}
+use Rattle.std.proofs.Common.{◌≡◌, ℕ, suc, ◌+◌, ◌-◌, ◌<◌, ◌≤◌, Bool, true, false, leb, [], ◌∷◌, ◌++◌, length, set, take, drop, sym, refl, ◌∙◌, add-zero, arith, length-append, append_assoc, drop-drop, le-leb, leb-true}
 use lib.Seq.{sets, sets-eq, length-sets, set_comm}
 use borrow.Author.Tests.{lt-leb}
-use Rattle.format.specs.Bytes.{Bytes, to_bytes}
+use Rattle.format.specs.Bytes.{Bytes}
 use Rattle.format.specs.Lent.{placed}
-use Rattle.format.proofs.PackLaws.{to_bytes_length}
 
 -- The last of several bytes may be put first.
 pub sets_last : (out : Bytes) (n : ℕ) (bytes : Bytes) (b : ℕ) → sets out n (bytes ++ (b ∷ [])) ≡ sets (set out (n + length bytes) b) n bytes
@@ -13,19 +11,6 @@ sets_last out n [] b = rw (add-zero n)
 sets_last out n (a ∷ bytes) b =
     let e : suc n + length bytes ≡ n + suc (length bytes) = omega arith in
     rw (sets_last (set out n a) (suc n) bytes b, e, set_comm out n (n + suc (length bytes)) a b (omega arith))
-
--- When the last byte that is left is put, putting the bytes before it gives the same buffer as putting all bytes.
-pub number_step : (out : Bytes) (at left rest : ℕ) (whole : Bytes) → sets out at (to_bytes left rest) ≡ whole → 0 < left
-    → sets (set out (at + (left - 1)) (rest % 256)) at (to_bytes (left - 1) (rest / 256)) ≡ whole
-number_step out at zero rest whole inv h = absurd (omega arith)
-number_step out at (suc left) rest whole inv h =
-    let e : suc left - 1 ≡ left = omega arith in
-    rw e (rw to_bytes_length at (sym (sets_last out at (to_bytes left (rest / 256)) (rest % 256)) ∙ inv))
-
--- If nothing is left to put, the buffer is the whole result.
-pub number_done : (out : Bytes) (at left rest : ℕ) (whole : Bytes) → sets out at (to_bytes left rest) ≡ whole → left ≤ 0 → out ≡ whole
-number_done out at zero rest whole inv h = inv
-number_done out at (suc left) rest whole inv h = absurd (omega arith)
 
 -- If bytes fit, placing them is the same as setting them one after another.
 pub placed_sets : (out : Bytes) (n : ℕ) (bytes : Bytes) → n + length bytes ≤ length out → placed out n bytes ≡ sets out n bytes
@@ -38,34 +23,6 @@ sets_append out n [] others = rw (add-zero n)
 sets_append out n (a ∷ bytes) others =
     let e : suc n + length bytes ≡ n + suc (length bytes) = omega arith in
     rw (sets_append (set out n a) (suc n) bytes others, e)
-
--- If there is room for four bytes at `at`, each of them is inside.
-module _ (at n : ℕ) (h : at + 4 ≤ n) where
-  pub second_inside : at + 1 < n
-  second_inside = omega arith
-
-  pub third_inside : at + 2 < n
-  third_inside = omega arith
-
-  pub last_inside : at + 3 < n
-  last_inside = omega arith
-
--- Four assignments put the last four bytes of `x`.
-pub four_put : (out : Bytes) (at x : ℕ)
-    → set (set (set (set out at (x / 256 / 256 / 256 % 256)) (at + 1) (x / 256 / 256 % 256)) (at + 2) (x / 256 % 256)) (at + 3) (x % 256)
-    ≡ sets out at (to_bytes 4 x)
-four_put out at x = simp towards_suc
-
--- Eight bytes can be put in two halves.
-pub eight_put : (out mid after : Bytes) (at width x : ℕ) → width ≡ 8 → mid ≡ sets out at (to_bytes 4 (x / 4294967296))
-    → after ≡ sets mid (at + 4) (to_bytes 4 x) → after ≡ sets out at (to_bytes width x)
-eight_put out mid after at width x h e f =
-    let halves : x / 4294967296 ≡ x / 256 / 256 / 256 / 256 = omega arith in
-    rw h (f ∙ rw (e, halves) (sym (sets_append out at (to_bytes 4 (x / 256 / 256 / 256 / 256)) (to_bytes 4 x))))
-
--- If the width is four, the four bytes are all that must be put.
-pub four_all : (out after : Bytes) (at width x : ℕ) → width ≡ 4 → after ≡ sets out at (to_bytes 4 x) → after ≡ sets out at (to_bytes width x)
-four_all out after at width x h e = rw h e
 
 -- Placing no bytes changes nothing.
 pub placed_nothing : (out : Bytes) (n : ℕ) → n ≤ length out → out ≡ placed out n []
@@ -110,11 +67,12 @@ module _ (out : Bytes) (at : ℕ) (bytes : Bytes) where
   pub placed_long : (n : ℕ) → length out - at < n → length bytes ≡ n → out ≡ placed out at bytes
   placed_long n h e = placed_none (omega arith)
 
-  -- If the bytes fit, setting them one after another places them.
-  pub placed_fits : (after : Bytes) (n : ℕ) → after ≡ sets out at bytes → at ≤ length out → n ≤ length out - at → length bytes ≡ n
-      → after ≡ placed out at bytes
-  placed_fits after n f h g e = f ∙ sym (placed_sets out at bytes (omega arith))
+  -- If they do not fit, placing them changes nothing. Here `x` is the test whether `n` bytes fit.
+  pub placed_not : (n : ℕ) (x : Bool) → x ≡ leb (at + n) (length out) → x ≡ false → length bytes ≡ n → out ≡ placed out at bytes
+  unfolding placed
+  placed_not n x h e l = rw (placed, l, ← h, e)
 
--- If the bytes of a number end after the end of the buffer, nothing changes.
-pub number_long : (out : Bytes) (at width x : ℕ) → length out - at < width → out ≡ placed out at (to_bytes width x)
-number_long out at width x h = placed_long out at (to_bytes width x) width h (to_bytes_length width x)
+  -- If they fit, copying them into a part of the buffer places them.
+  pub placed_copied : (part : Bytes) (k : ℕ) → part ≡ bytes → length bytes ≡ k → at + k ≤ length out → take at out ++ (part ++ drop k (drop at out)) ≡ placed out at bytes
+  unfolding placed
+  placed_copied part k e l h = rw (placed, e, ← l, le-leb (at + length bytes) (length out) (omega arith), drop-drop, append_assoc)

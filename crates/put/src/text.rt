@@ -4,22 +4,17 @@ ghost use Rattle.format.specs.Promise.{Written};
 ghost use Rattle.put.specs.Put.{PutWhole};
 ghost use Rattle.std.specs.Prelude.{length};
 
+use crate::fits;
 use format::refusal::{Reason, Refusal};
-use std::num::wrapping_add_usize;
 
 // Puts a text at an offset, and returns where it ends. If it does not fit, nothing changes.
 pub fn put_text(out: &mut [u8], at: usize, text: &[u8]) -> usize
     ensures { PutWhole out.old out.new at text.now (length text.now) result }
 {
-    let end = wrapping_add_usize(at, text.len());
-    if out.len() < at {
-        return end;
+    if fits(out, at, text.len()) {
+        out[at..at + text.len()].copy_from_slice(text);
     }
-    if out.len() - at < text.len() {
-        return end;
-    }
-    octets::copy(text, &mut out[at..]);
-    end
+    at.wrapping_add(text.len())
 }
 
 // Writes a text at the start of the buffer, and returns how many bytes it has. If the buffer is too short, refuses with

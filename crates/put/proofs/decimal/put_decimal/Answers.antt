@@ -1,14 +1,13 @@
--- If the digits do not fit, nothing changes. If they fit, they are put.
+-- If the digits fit, they are put. If not, nothing changes.
 use Rattle.std.proofs.Common.{rules}
-use Rattle.put.proofs.PartLaws.{whole_outside, whole_long, whole_placed}
-use Rattle.put.proofs.DecimalLaws.{decimal_fits}
+use Rattle.put.proofs.PutLaws.{placed_not}
+use Rattle.put.proofs.PartLaws.{whole_placed}
 use Rattle.put.proofs.decimal.put_decimal.Goals as goal
-
-pub returns-then-out-at : goal.returns-then-out-at
-returns-then-out-at c = search (whole_outside, rules)
-
-pub returns-then-out-at-2 : goal.returns-then-out-at-2
-returns-then-out-at-2 c = search (whole_long, rules)
+use Rattle.put.proofs.decimal.put_decimal.Goals.{then-fits, else-fits}
 
 pub returns : goal.returns
-returns c = search (whole_placed, decimal_fits, rules)
+returns c =
+    elim c.if-fits.branch [
+      | then-fits w ↦ rw w.out-is (search (whole_placed, rules))
+      | else-fits w ↦ rw w.out-is (search (whole_placed, placed_not, rules))
+    ]

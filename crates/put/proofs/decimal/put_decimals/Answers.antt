@@ -1,15 +1,15 @@
 use Rattle.std.proofs.Common.{rules}
-use Rattle.put.proofs.PartLaws.{join_start, join_none, join_last, join_step}
+use Rattle.put.proofs.PartLaws.{join_none, join_start, join_step, join_done}
 use Rattle.put.proofs.decimal.put_decimals.Goals as goal
 
-pub loop-i-init : goal.loop-i-init
-loop-i-init c = search (join_start, rules)
+pub returns-in_default : goal.returns-in_default
+returns-in_default c = join_none _ _ _ _ c.ranges.at.fits c.in_default.ensures.cases
 
-pub returns-then-i-numbers : goal.returns-then-i-numbers
-returns-then-i-numbers c = search (join_last, rules)
+pub loop-number-init : goal.loop-number-init
+loop-number-init c = search (join_start, rules)
 
-pub loop-i-preserved : goal.loop-i-preserved
-loop-i-preserved c = search (join_step, rules)
+pub loop-number-preserved : goal.loop-number-preserved
+loop-number-preserved c = search (join_step, rules)
 
 pub returns : goal.returns
-returns c = search (join_none, rules)
+returns c = search (join_done, rules)

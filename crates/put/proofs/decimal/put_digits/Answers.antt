@@ -1,24 +1,21 @@
-use Rattle.std.proofs.Common.{rules}
-use Rattle.put.proofs.DecimalLaws.{digits_start, digits_some, digits_inside, digits_first, digits_step, digits_done}
+use Rattle.std.proofs.Common.{rules, arith}
+use Rattle.put.proofs.DecimalLaws.{digits_start, digits_step, digits_last, digits_first, digits_done}
 use Rattle.put.proofs.decimal.put_digits.Goals as goal
 
-pub loop-rest-init : goal.loop-rest-init
-loop-rest-init c = search (digits_start, rules)
+pub loop-place-init : goal.loop-place-init
+loop-place-init c = search (digits_start, rules)
 
-pub overflow_sub-left : goal.overflow_sub-left
-overflow_sub-left c = search (digits_some, rules)
+pub loop-place-preserved : goal.loop-place-preserved
+loop-place-preserved c = search (digits_step, rules)
 
-pub overflow_add-out-in-loop-rest : goal.overflow_add-out-in-loop-rest
-overflow_add-out-in-loop-rest c = search (digits_inside, rules)
+pub overflow_cast-out-2 : goal.overflow_cast-out-2
+overflow_cast-out-2 c = omega (arith, digits_last _ _ _ _ _ _ c.loop-place.invariant c.loop-place-test.false)
+
+pub overflow_add-out-2 : goal.overflow_add-out-2
+overflow_add-out-2 c = omega (arith, digits_last _ _ _ _ _ _ c.loop-place.invariant c.loop-place-test.false)
 
 pub bounds-out-at : goal.bounds-out-at
-bounds-out-at c = search (digits_inside, rules)
-
-pub loop-rest-preserved : goal.loop-rest-preserved
-loop-rest-preserved c = search (digits_step, rules)
-
-pub bounds-out-at-2 : goal.bounds-out-at-2
-bounds-out-at-2 c = search (digits_first, rules)
+bounds-out-at c = search (digits_first, rules)
 
 pub returns : goal.returns
 returns c = search (digits_done, rules)

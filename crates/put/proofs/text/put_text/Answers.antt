@@ -1,14 +1,13 @@
--- If the text does not fit, nothing changes. If it fits, it is copied.
+-- If the text fits, it is copied. If not, nothing changes.
 use Rattle.std.proofs.Common.{rules}
-use Rattle.put.proofs.PartLaws.{whole_outside, whole_long, whole_placed}
-use Rattle.put.proofs.TextLaws.{text_copied}
+use Rattle.put.proofs.PutLaws.{placed_not, placed_copied}
+use Rattle.put.proofs.PartLaws.{whole_placed}
 use Rattle.put.proofs.text.put_text.Goals as goal
-
-pub returns-then-out-at : goal.returns-then-out-at
-returns-then-out-at c = search (whole_outside, rules)
-
-pub returns-then-out-at-2 : goal.returns-then-out-at-2
-returns-then-out-at-2 c = search (whole_long, rules)
+use Rattle.put.proofs.text.put_text.Goals.{then-fits, else-fits}
 
 pub returns : goal.returns
-returns c = search (whole_placed, text_copied, rules)
+returns c =
+    elim c.if-fits.branch [
+      | then-fits w ↦ rw w.out-is (search (whole_placed, placed_copied, rules))
+      | else-fits w ↦ rw w.out-is (search (whole_placed, placed_not, rules))
+    ]
