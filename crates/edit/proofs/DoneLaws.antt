@@ -2,7 +2,7 @@
 use Prim.Native.Nat.{ℕ, ◌+◌, ◌-◌, ◌≤◌}
 use Rattle.std.specs.Prelude.{Option, None, Some}
 use native.Mathlib.Omega.{arith}
-use mathlib.Core.Path.{◌≡◌, refl, sym, ap, ◌∙◌}
+use mathlib.Core.Path.{◌≡◌, refl, sym, ◌∙◌}
 use mathlib.Core.Bool.{Bool, true, false, not}
 use mathlib.Core.List.{◌++◌, append_assoc}
 use lib.ListN.{length, take, drop, replicate, length-drop}
@@ -27,7 +27,7 @@ use Rattle.edit.specs.Tree.{HasTree}
 refused_done : (s t : Bytes) (x : Refusal) → edit s t ≡ refused x → Done s t s (refused x)
 unfolding edit_leaves
 refused_done s t x e =
-    let never : refused x ≡ accepted tt → ⊥ = λ h. let z : ◌≡◌ {A = ℕ} 0 1 = cc in omega arith in
+    let never : ◌≡◌ {A = Outcome (Unit {0})} (refused x) (accepted tt) → ⊥ = λ h. let z : ◌≡◌ {A = ℕ} 0 1 = cc in omega arith in
     record {
       answer = rw e;
       bytes = rw e;

@@ -1,39 +1,20 @@
--- Laws about filling the room with a text and then with spaces.
-use Prim.Native.Nat.{ℕ, suc, ◌+◌, ◌-◌, ◌≤◌, ◌<◌}
-use native.Mathlib.Numerals.{add-one}
-use native.Mathlib.Omega.{arith}
-use mathlib.Core.Path.{◌≡◌, ◌∙◌}
-use mathlib.Core.List.{◌++◌, append-nil}
-use lib.ListN.{length, take, drop, set, replicate, length-append, length-drop, length-replicate}
-use lib.Seq.{sets, sets-eq, take-length, take-append_seam, drop-length}
+-- The law about filling the room with a text and then with spaces.
+use Rattle.std.proofs.Common.{◌≡◌, ◌+◌, ◌-◌, [], ◌++◌, length, take, drop, replicate, refl, ap, ◌∙◌, arith, append-nil, length-append, length-take, length-drop, drop_of_length-le}
+use Rattle.std.proofs.Math.Seq.{take-length, take_at}
+use borrow.Rule.Slice.PartMut.{put_mid, post_of}
 use Rattle.format.specs.Bytes.{Bytes}
 
-module _ (room : Bytes) (at size : ℕ) (whole : Bytes) (left : sets room at (replicate (size - at) 32) ≡ whole) (same : length room ≡ size) where
-  -- After one more space is put, putting the spaces that are left still gives `whole`.
-  pub spaces_step : at < length room → sets (set room at 32) (at + 1) (replicate (size - (at + 1)) 32) ≡ whole
-  spaces_step h =
-      let more : size - at ≡ suc (size - (at + 1)) = omega arith in
-      rw add-one (rw (more, add-one) at left)
-
-  -- If no space is left to put, the room is `whole`.
-  pub spaces_done : length room ≤ at → room ≡ whole
-  spaces_done h =
-      let none : size - at ≡ 0 = omega arith in
-      rw none at left
-
--- If spaces are put after a text up to the end, the text stays, and everything after it is spaces.
-spaces_after : (t z : Bytes) → sets (t ++ z) (length t) (replicate (length z) 32) ≡ t ++ replicate (length z) 32
-spaces_after t z =
-    let spaces : Bytes = replicate (length z) 32 in
-    let many : length spaces ≡ length z = length-replicate (length z) 32 in
-    let whole : length t + length spaces ≡ length (t ++ z) = simp length-append (omega arith) in
-    rw (sets-eq spaces (t ++ z) (length t) (omega arith), take-append_seam, whole, drop-length, append-nil)
-
--- If the text is put and then spaces after it, the room holds the text and then only spaces.
-pub fill_done : (room t mid after : Bytes) → mid ≡ take (length t) t ++ drop (length t) room
-    → after ≡ sets mid (length t) (replicate (length mid - length t) 32) → after ≡ t ++ replicate (length room - length t) 32
-fill_done room t mid after e f =
-    let z = drop (length t) room in
-    let is : mid ≡ t ++ z = rw take-length at e in
-    let left : length mid - length t ≡ length z = rw (is, length-append) (omega arith) in
-    f ∙ rw (left, is, spaces_after, length-drop)
+-- If the text is put, and then spaces in what is left of the room, the room holds the text and then only spaces.
+pub fill_done : (room t mid z : Bytes) → mid ≡ take (length t) t ++ drop (length t) room
+    → z ≡ replicate (length (take (length mid - length t) (drop (length t) mid))) 32
+    → put_mid (length t) (length mid - length t) mid z ≡ t ++ replicate (length room - length t) 32
+fill_done room t mid z e f =
+    let a = length t in
+    let k = length mid - a in
+    let is : mid ≡ t ++ drop a room = rw take-length at e in
+    let long : length mid ≡ a + (length room - a) = ap length is ∙ simp (length-append, length-drop) in
+    let size : length (take k (drop a mid)) ≡ length room - a = simp (length-take, length-drop) (omega (arith, long)) in
+    let front : take a mid ≡ t = ap (take a) is ∙ take_at t (drop a room) a refl in
+    let rest : post_of a k mid ≡ [] = drop_of_length-le (drop a mid) {i = k} (simp length-drop (omega arith)) in
+    let whole : put_mid a k mid z ≡ take a mid ++ (z ++ post_of a k mid) = refl in
+    whole ∙ rw (front, rest, f, size, append-nil)

@@ -24,8 +24,8 @@ slice_bounds-fill-end c = search (room_inside, rules)
 pub fill-requires : goal.fill-requires
 fill-requires c = search (text_inside, room_inside, rules)
 
-pub returns-in-NoTree : goal.returns-in-NoTree
-returns-in-NoTree c = search (tree_none, rules)
+pub returns-in_default : goal.returns-in_default
+returns-in_default c = search (tree_none, rules)
 
-pub returns-else-not-fits : goal.returns-else-not-fits
-returns-else-not-fits c = search (text_put, rules)
+pub returns : goal.returns
+returns c = search (text_put, rules)
