@@ -42,7 +42,6 @@ line_written t own after n put room out out-after x w =
 -- The outline `b` and the text `t` are written into the buffers `rows` and `out`.
 module _ (b t rows out : Bytes) where
   neither : both_fit b t rows out ≡ false → (x : Outcome ℕ) → x ≡ refused (refusal BufferTooShort 0) → BothPut b t rows out rows out x
-  unfolding count_answer
   neither e x is = record { answer = rw (is, e); outline_put = rw e; text_put = rw e }
 
   module _ (small : length b ≤ most_outline) (a after : Bytes) (n : ℕ) (measured : PutAt a after 0 t (most_file (length b / row_bytes)) n) where
@@ -72,7 +71,6 @@ module _ (b t rows out : Bytes) where
     pub both_put : length b ≤ length rows → n ≤ length out → (rows-after : Bytes) → (p : ℕ) → PutWhole rows rows-after 0 b (length b) p → (out-after : Bytes) (k r : ℕ)
         → PutAt out out-after 0 t k r
         → BothShort b t rows out rows-after out-after (accepted n)
-    unfolding count_answer
     both_put h g rows-after p e out-after k r put =
         let one = le-leb (length b) (length rows) h in
         let two = le-leb (length t) (length out) (omega (arith, text_length)) in
@@ -169,7 +167,7 @@ module _ (s : Bytes) (short : length s ≤ most_input) (a : Outcome Layout) (w :
     bytes i = (known i).fits
 
     of : OfLayout s l
-    unfolding layout layout_of layout_answer
+    unfolding layout layout_of
     of =
         accepted_holds (OfLayout s) (layout s) l
         (accepts_bind (OfLayout s) (file s) _ λ f e.
@@ -234,7 +232,6 @@ module _ (s : Bytes) (short : length s ≤ most_input) (a : Outcome Layout) (w :
 module _ (s rows out rows-after out-after : Bytes) (x : Outcome ℕ) (h : Listed s rows out rows-after out-after x) where
   module _ (n : ℕ) (e : x ≡ accepted n) where
     text_written : Written (accepted (listing s)) out out-after (accepted n)
-    unfolding count_answer
     text_written = by_test (both_fit (outline_for s) (listing s) rows out) refl
       where
         by_test : (t : Bool) → both_fit (outline_for s) (listing s) rows out ≡ t → Written (accepted (listing s)) out out-after (accepted n)
@@ -262,7 +259,6 @@ module _ (s rows out rows-after out-after : Bytes) (x : Outcome ℕ) (h : Listed
 
   -- With buffers as long as the program's, the answer is never a refusal.
   pub never_refused : (r : Refusal) → x ≡ refused r → length rows ≡ lent_bytes → length out ≡ lent_bytes → ⊥
-  unfolding count_answer
   never_refused r e p q =
       let clash : refused r ≡ accepted (length (listing s)) = rw e at (h.enough (omega arith) (omega arith)) in
       let z : ◌≡◌ {A = ℕ} 0 1 = cc in

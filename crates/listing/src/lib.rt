@@ -78,8 +78,8 @@ fn list_outlined(
     match found.layout {
         Err(r) => write_refused(r, out),
         Ok(l) => {
-            let end = found.written? as usize;
-            write_both(&own[..end], l, rows, out)
+            let n = found.written?;
+            write_both(&own[..n as usize], l, rows, out)
         }
     }
 }
