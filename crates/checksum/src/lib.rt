@@ -31,7 +31,7 @@ fn check_block(file: &[u8], b: Block) -> Check
     if !has_checksum(b.checksum_high, b.checksum_low) {
         return Check::NotStated;
     }
-    let from = b.at.0 as usize + 6 + b.header_size as usize;
+    let from = b.at.0 as usize + 6 + usize::from(b.header_size);
     let to = from + b.used as usize;
     let digest = digest_of(&file[from..to]);
     if is_checksum(&digest, b) {
