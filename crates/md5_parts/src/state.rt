@@ -10,7 +10,8 @@ use format::limits::MOST_BYTES;
 use format::refusal::{Reason, Refusal};
 
 // The words after all whole blocks so far, the bytes after these blocks, at the start of `pending`, and how many bytes
-// there were in all.
+// there were in all. The bytes are an array with the count beside it, since there is no heap and a kept state has this
+// form; `held` gives them as a slice.
 #[derive(Clone, Copy, Debug, PartialEq, Eq)]
 pub struct Md5 {
     pub words: Words,
