@@ -5,10 +5,12 @@ use native.Mathlib.Nat.{add-zero}
 use native.Mathlib.Omega.{arith}
 use mathlib.Core.Path.{◌≡◌, refl, sym, ap, subst, ◌∙◌}
 use mathlib.Core.Bool.{Bool, true, false, not, ◌&&◌, ◌||◌, or-true, true≢false}
-use mathlib.Core.List.{◌++◌}
+use mathlib.Core.List.{[], ◌∷◌, ◌++◌}
 use mathlib.Mathlib.Data.Bool.Basic.{eq-false_of_not-eq-true}
-use lib.ListN.{length, drop, get_or, drop_of_length-le}
-use lib.Seq.{get_or-drop}
+use lib.ListN.{length, take, drop, get_or, drop_of_length-le, length-drop}
+use Rattle.std.specs.Array.{IsFirstChunk}
+use Rattle.std.proofs.lemmas.List.{drop-take, take_rest}
+use lib.Seq.{get_or-drop, drop-drop}
 use lib.Bits.{bit_or, or_add_and, and_le_l, and_le_r}
 use lib.Dec.{eqb}
 use borrow.Author.Tests.{eqb-true, eqb-false, not-true}
@@ -16,7 +18,7 @@ use Rattle.octets.specs.Octets.{index_of}
 use Rattle.std.proofs.Math.Seq.{slice}
 use Rattle.format.specs.Bytes.{Bytes, begins}
 use Rattle.format.specs.Tree.{mark, free_space}
-use Rattle.format.proofs.ByteLaws.{begins_true}
+use Rattle.format.proofs.ByteLaws.{begins_true, and_both, and_left, and_right}
 use Rattle.format.proofs.LocalLaws.{free_space_mark}
 use Rattle.scan.proofs.TextLaws.{begins_inside}
 use Rattle.mark.specs.Mark.{Skipped}
@@ -52,6 +54,13 @@ byte_of_mark : (t : Bytes) (p q : ℕ) → begins mark (drop p t) ≡ true → p
 byte_of_mark t p q h a b =
     let there : p + (q - p) ≡ q = omega arith in
     record { place = q - p; few = omega arith; is = rw there at (mark_byte t p h (q - p) (omega arith)) }
+
+-- What bytes begin with, as many of them begin with too.
+begins_taken : (k s : Bytes) (n : ℕ) → length k ≤ n → begins k s ≡ true → begins k (take n s) ≡ true
+begins_taken [] s n h e = refl
+begins_taken (a ∷ k) [] n h e = absurd (true≢false (sym e))
+begins_taken (a ∷ k) (b ∷ s) zero h e = absurd (omega arith)
+begins_taken (a ∷ k) (b ∷ s) (suc n) h e = and_both _ _ (and_left _ _ e) (begins_taken k s n (omega arith) (and_right (eqb a b) _ e))
 
 -- If no mark begins at one of the next `k` bytes, they can be skipped.
 skip_on : (t : Bytes) (from i k : ℕ) → Skipped t from i → i + k ≤ length t → ((p : ℕ) → i ≤ p → p < i + k → begins mark (drop p t) ≡ true → ⊥)
@@ -97,10 +106,19 @@ module _ (t : Bytes) (from i : ℕ) (before : Skipped t from i) where
 -- The search along blocks of 64 bytes. The bytes before `i` are skipped.
 module _ (t : Bytes) (i : ℕ) (before : Skipped t 0 i) where
   -- If no mark begins in the 64 bytes at `i`, they are skipped.
-  pub block_on : (x : Bool) → Told (begins_mark t i) 64 x → 67 ≤ length t - i → x ≡ false → Skipped t 0 (i + 64)
-  block_on x told room none = skip_on t 0 i 64 before (omega arith) λ p a b m.
+  pub block_on : (block : Bytes) (x : Bool) → IsFirstChunk (take (length t - i) (drop i t)) block 67 → Told (begins_mark block) 64 x → x ≡ false → Skipped t 0 (i + 64)
+  block_on block x chunk told none = skip_on t 0 i 64 before (omega (arith, room)) λ p a b m.
       let there : i + (p - i) ≡ p = omega arith in
-      true≢false (sym (told.tells (p - i) (omega arith) (rw there m)) ∙ none)
+      let split : p - i + (67 - (p - i)) ≡ 67 = omega arith in
+      let taken = rw split at (drop-take (p - i) (67 - (p - i)) (drop i t)) in
+      let whole : drop (p - i) block ≡ take (67 - (p - i)) (drop p t) = rw (is, taken, drop-drop, there) in
+      true≢false (sym (told.tells (p - i) (omega arith) (rw whole (begins_taken mark (drop p t) (67 - (p - i)) (omega arith) m))) ∙ none)
+    where
+      is : block ≡ take 67 (drop i t)
+      is = rw take_rest at chunk.same
+
+      room : 67 ≤ length t - i
+      room = simp (take_rest, length-drop) at chunk.enough
 
   -- The first mark from `i` on is the first of all.
   pub block_rest : (r : ℕ) → r ≡ i + free_space (drop i t) → r ≡ free_space t
@@ -166,50 +184,50 @@ pub told_all : (p : ℕ → Type 0) (k : ℕ) (seen : Bool) → Told p k seen �
 told_all p k seen h a b = record { tells = λ i l. h.tells i (omega arith) }
 
 -- When one more byte is tested, the answer covers it: whether it is a fourth byte and belongs to a mark.
-pub fourth_step : (t : Bytes) (n k : ℕ) (seen x : Bool) → Told (fourth_of_mark t n) k seen → InMark (get_or t (n + k) 0) x
-    → Told (fourth_of_mark t n) (k + 1) (seen || (eqb (k % 4) 3 && x))
-fourth_step t n k seen x h one = told_step (fourth_of_mark t n) k seen _ h (λ f. rw (f.0, one.tells f.1) refl)
+pub fourth_step : (t : Bytes) (k : ℕ) (seen x : Bool) → Told (fourth_of_mark t) k seen → InMark (get_or t k 0) x
+    → Told (fourth_of_mark t) (k + 1) (seen || (eqb (k % 4) 3 && x))
+fourth_step t k seen x h one = told_step (fourth_of_mark t) k seen _ h (λ f. rw (f.0, one.tells f.1) refl)
 
 -- When one more byte is tested, the answer covers it: whether a mark begins there.
-pub begin_step : (t : Bytes) (n k : ℕ) (seen x : Bool) → Told (begins_mark t n) k seen → x ≡ begins mark (drop (n + k) t)
-    → Told (begins_mark t n) (k + 1) (seen || x)
-begin_step t n k seen x h one = told_step (begins_mark t n) k seen x h (λ m. one ∙ m)
+pub begin_step : (t : Bytes) (k : ℕ) (seen x : Bool) → Told (begins_mark t) k seen → x ≡ begins mark (drop k t)
+    → Told (begins_mark t) (k + 1) (seen || x)
+begin_step t k seen x h one = told_step (begins_mark t) k seen x h (λ m. one ∙ m)
 
 -- Before the first step no byte is looked at, so the bound is 0.
-pub fourths_begin : (t : Bytes) (n : ℕ) → FourthsUpTo t n 0 0
-fourths_begin t n = record { most = λ j h. absurd (omega arith) }
+pub fourths_begin : (t : Bytes) → FourthsUpTo t 0 0
+fourths_begin t = record { most = λ j h. absurd (omega arith) }
 
 -- If the next fourth byte is added with a bitwise or, the result is a bound for all fourth bytes so far.
-pub fourths_step : (t : Bytes) (n k seen : ℕ) → FourthsUpTo t n k seen → FourthsUpTo t n (k + 1) (bit_or seen (get_or t (n + 4 * k + 3) 0))
-fourths_step t n k seen h = record { most = λ j q. go j q (eqb j k) refl }
+pub fourths_step : (t : Bytes) (k seen : ℕ) → FourthsUpTo t k seen → FourthsUpTo t (k + 1) (bit_or seen (get_or t (4 * k + 3) 0))
+fourths_step t k seen h = record { most = λ j q. go j q (eqb j k) refl }
   where
     b : ℕ
-    b = get_or t (n + 4 * k + 3) 0
+    b = get_or t (4 * k + 3) 0
 
-    go : (j : ℕ) → j < k + 1 → (x : Bool) → eqb j k ≡ x → get_or t (n + 4 * j + 3) 0 ≤ bit_or seen b
+    go : (j : ℕ) → j < k + 1 → (x : Bool) → eqb j k ≡ x → get_or t (4 * j + 3) 0 ≤ bit_or seen b
     go j q true e = rw (eqb-true j k e) (omega (arith, or_add_and seen b, and_le_l seen b))
     go j q false e =
         let less : j < k = omega (arith, eqb-false j k e) in
         omega (arith, h.most j less, or_add_and seen b, and_le_r seen b)
 
 -- When `k` is 16, the bound covers all 16 fourth bytes.
-pub fourths_done : (t : Bytes) (n k seen : ℕ) → FourthsUpTo t n k seen → k ≤ 16 → 16 ≤ k → FourthsUpTo t n 16 seen
-fourths_done t n k seen h p q = record { most = λ j l. h.most j (omega arith) }
+pub fourths_done : (t : Bytes) (k seen : ℕ) → FourthsUpTo t k seen → k ≤ 16 → 16 ≤ k → FourthsUpTo t 16 seen
+fourths_done t k seen h p q = record { most = λ j l. h.most j (omega arith) }
 
 -- If no fourth byte of 64 bytes belongs to a mark, no mark begins at one of the 64.
-unmarked : (t : Bytes) (n : ℕ) → ((i : ℕ) → i < 64 → i % 4 ≡ 3 → IsOfMark (get_or t (n + i) 0) → ⊥) → Told (begins_mark t n) 64 false
-unmarked t n never = record {
+unmarked : (t : Bytes) → ((i : ℕ) → i < 64 → i % 4 ≡ 3 → IsOfMark (get_or t i 0) → ⊥) → Told (begins_mark t) 64 false
+unmarked t never = record {
   tells = λ j l m.
       let i = 4 * (j / 4) + 3 in
-      absurd (never i (omega arith) (omega arith) (byte_of_mark t (n + j) (n + i) m (omega arith) (omega arith)));
+      absurd (never i (omega arith) (omega arith) (byte_of_mark t j i m (omega arith) (omega arith)));
 }
 
 -- If the bound of the 16 fourth bytes is below 42, none of them belongs to a mark, so no mark begins.
-pub fourths_none : (t : Bytes) (n x : ℕ) → FourthsUpTo t n 16 x → x < 0x42 → Told (begins_mark t n) 64 false
-fourths_none t n x h low = unmarked t n λ i l f m.
-    let there : n + 4 * (i / 4) + 3 ≡ n + i = omega arith in
+pub fourths_none : (t : Bytes) (x : ℕ) → FourthsUpTo t 16 x → x < 0x42 → Told (begins_mark t) 64 false
+fourths_none t x h low = unmarked t λ i l f m.
+    let there : 4 * (i / 4) + 3 ≡ i = omega arith in
     omega (arith, m.is, mark_high m.place m.few, rw there at (h.most (i / 4) (omega arith)))
 
 -- If the test finds no fourth byte that belongs to a mark, no mark begins.
-pub fourth_none : (t : Bytes) (n : ℕ) (x : Bool) → Told (fourth_of_mark t n) 64 x → not x ≡ true → Told (begins_mark t n) 64 false
-fourth_none t n x h none_seen = unmarked t n λ i l f m. true≢false (sym (h.tells i l (f, m)) ∙ not-true x none_seen)
+pub fourth_none : (t : Bytes) (x : Bool) → Told (fourth_of_mark t) 64 x → not x ≡ true → Told (begins_mark t) 64 false
+fourth_none t x h none_seen = unmarked t λ i l f m. true≢false (sym (h.tells i l (f, m)) ∙ not-true x none_seen)

@@ -9,8 +9,8 @@ use mathlib.Core.List.{◌∷◌}
 use mathlib.Mathlib.Data.Bool.Basic.{eq-false_of_not-eq-true}
 use lib.ListN.{length, take, drop, get_or, drop_of_length-le, length-take, length-drop}
 use lib.Seq.{drop-cons}
-use lib.Dec.{eqb}
-use borrow.Author.Tests.{eqb-true, eqb-false, ne_eqb}
+use lib.Dec.{eqb, leb}
+use borrow.Author.Tests.{eqb-true, eqb-false, ne_eqb, lt-leb}
 use mir.Syntax.{w64}
 use mir.Val.{Fits}
 use Rattle.format.specs.Bytes.{Bytes, begins}
@@ -34,16 +34,8 @@ mark_none_here t i x left h p =
     rw add-one (omega (arith, ap free_space next, step))
 
 -- If fewer than four bytes are left, no mark begins there.
-no_mark : (s : Bytes) (at : ℕ) → length s < at + 4 → false ≡ begins mark (drop at s)
-no_mark s at h = sym (eq-false_of_not-eq-true (λ e. omega (arith, begins_inside mark at s e (omega arith))))
-
--- Case: no bytes are left.
-pub no_mark_past : (s : Bytes) (at : ℕ) → length s ≤ at → false ≡ begins mark (drop at s)
-no_mark_past s at h = no_mark s at (omega arith)
-
--- Case: one to three bytes are left.
-pub no_mark_left : (s : Bytes) (at : ℕ) → length s - at < 4 → at < length s → false ≡ begins mark (drop at s)
-no_mark_left s at h p = no_mark s at (omega arith)
+pub no_mark_left : (s : Bytes) (at n : ℕ) → n ≡ length s - at → n < 4 → leb 4 n ≡ begins mark (drop at s)
+no_mark_left s at n e h = rw (lt-leb 4 n h) (sym (eq-false_of_not-eq-true (λ p. omega (arith, begins_inside mark at s p (omega arith)))))
 
 -- Two numbers may be compared in either order.
 either_way : (a b : ℕ) → eqb a b ≡ eqb b a

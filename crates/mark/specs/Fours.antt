@@ -11,9 +11,9 @@ pub record FirstIn (t : Bytes) (n r : ℕ) : Type 0 where
   pub order : r ≤ n + 4
   pub here : r < n + 4 → begins Tree·mark (drop r t) ≡ true
 
--- Of the `k` groups of four bytes from `n` on, no fourth byte is above `r`.
-pub record FourthsUpTo (t : Bytes) (n k r : ℕ) : Type 0 where
-  pub most : (j : ℕ) → j < k → get_or t (n + 4 * j + 3) 0 ≤ r
+-- Of the first `k` groups of four bytes, no fourth byte is above `r`.
+pub record FourthsUpTo (t : Bytes) (k r : ℕ) : Type 0 where
+  pub most : (j : ℕ) → j < k → get_or t (4 * j + 3) 0 ≤ r
 
 -- `b` is a byte of a mark.
 pub record IsOfMark (b : ℕ) : Type 0 where
@@ -29,10 +29,10 @@ pub record Told (p : ℕ → Type 0) (k : ℕ) (r : Bool) : Type 0 where
 pub record InMark (b : ℕ) (r : Bool) : Type 0 where
   pub tells : IsOfMark b → r ≡ true
 
--- Byte `i` of the bytes from `n` on is a fourth byte, and it is a byte of a mark.
-abbrev pub fourth_of_mark : Bytes → ℕ → ℕ → Type 0
-fourth_of_mark t n i = (i % 4 ≡ 3) × IsOfMark (get_or t (n + i) 0)
+-- Byte `i` is a fourth byte, and it is a byte of a mark.
+abbrev pub fourth_of_mark : Bytes → ℕ → Type 0
+fourth_of_mark t i = (i % 4 ≡ 3) × IsOfMark (get_or t i 0)
 
--- A mark begins at byte `i` of the bytes from `n` on.
-abbrev pub begins_mark : Bytes → ℕ → ℕ → Type 0
-begins_mark t n i = begins Tree·mark (drop (n + i) t) ≡ true
+-- A mark begins at byte `i`.
+abbrev pub begins_mark : Bytes → ℕ → Type 0
+begins_mark t i = begins Tree·mark (drop i t) ≡ true

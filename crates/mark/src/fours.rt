@@ -15,65 +15,61 @@ pub(crate) fn free_space(t: &[u8]) -> usize
     ensures { (result ≡ free_space t.now) × (result ≤ length t.now) }
 {
     let mut i = 0;
-    while 67 <= t.len() - i {
-        if block_has_mark(t, i) {
-            return four_by_four(t, i);
+    while let Some(block) = t[i..].first_chunk() {
+        if block_has_mark(block) {
+            break;
         }
         i += 64;
     }
     four_by_four(t, i)
 }
 
-// Whether a mark begins at one of the next 64 bytes. No byte of a mark is below 42: the test for this is the fastest,
+// Whether a mark begins at one of the first 64 bytes. No byte of a mark is below 42: the test for this is the fastest,
 // and it passes over spaces and zeros. The second test is whether a fourth byte belongs to a mark. The other bytes are
 // looked at only if one does. So no bytes, however they were made, are searched four by four before the block with the
 // first mark, except at most the last 66.
-fn block_has_mark(t: &[u8], i: usize) -> bool
-    requires { i + 67 ≤ length t.now }
-    ensures { Told (begins_mark t.now i) 64 result }
+fn block_has_mark(block: &[u8; 67]) -> bool
+    ensures { Told (begins_mark block.now) 64 result }
 {
-    if fourths(t, i) < 0x42 {
+    if fourths(block) < 0x42 {
         return false;
     }
-    if !marked_fourths(t, i) {
+    if !marked_fourths(block) {
         return false;
     }
-    any_is_mark(t, i)
+    any_is_mark(block)
 }
 
-// Returns a bound: no fourth byte of the next 64 is above it.
-fn fourths(t: &[u8], from: usize) -> u8
-    requires { from + 64 ≤ length t.now }
-    ensures { FourthsUpTo t.now from 16 result }
+// Returns a bound: no fourth byte of the first 64 is above it.
+fn fourths(block: &[u8; 67]) -> u8
+    ensures { FourthsUpTo block.now 16 result }
 {
     let mut seen = 0u8;
     for k in 0..16 {
-        seen = seen | t[from + 4 * k + 3];
+        seen = seen | block[4 * k + 3];
     }
     seen
 }
 
-// Whether a fourth byte of the next 64 belongs to a mark. The loop goes through all 64, although only every fourth byte
+// Whether a fourth byte of the first 64 belongs to a mark. The loop goes through all 64, although only every fourth byte
 // counts: the compiled code tests many bytes at a time only if they are adjacent.
-fn marked_fourths(t: &[u8], from: usize) -> bool
-    requires { from + 64 ≤ length t.now }
-    ensures { Told (fourth_of_mark t.now from) 64 result }
+fn marked_fourths(block: &[u8; 67]) -> bool
+    ensures { Told (fourth_of_mark block.now) 64 result }
 {
     let mut seen = false;
     for j in 0..64 {
-        seen = seen | ((j % 4 == 3) & in_mark(t[from + j]));
+        seen = seen | ((j % 4 == 3) & in_mark(block[j]));
     }
     seen
 }
 
-// Whether a mark begins at one of the next 64 bytes. Each of them is tried.
-fn any_is_mark(t: &[u8], from: usize) -> bool
-    requires { from + 67 ≤ length t.now }
-    ensures { Told (begins_mark t.now from) 64 result }
+// Whether a mark begins at one of the first 64 bytes. Each of them is tried.
+fn any_is_mark(block: &[u8; 67]) -> bool
+    ensures { Told (begins_mark block.now) 64 result }
 {
     let mut seen = false;
     for j in 0..64 {
-        seen = seen | mark_at(t, from + j);
+        seen = seen | mark_at(block, j);
     }
     seen
 }
@@ -87,7 +83,7 @@ fn in_mark(b: u8) -> bool
 }
 
 // Returns where the first mark from an offset on begins, or the end if there is none. Fewer than four bytes hold no
-// mark.
+// mark. The loop counts offsets and takes no slices of four, since a mark may begin before the byte that shows it.
 fn four_by_four(t: &[u8], from: usize) -> usize
     requires { from ≤ length t.now }
     ensures { (result ≡ from + free_space (drop from t.now)) × (result ≤ length t.now) }

@@ -33,7 +33,8 @@ fn find_far(s: &[u8], at: usize, b: u8) -> usize
     octets::find(s, small, s.len(), b)
 }
 
-// Passes over blocks of `size` bytes while none of their bytes passes a test. Returns the offset after them.
+// Passes over blocks of `size` bytes while none of their bytes passes a test. Returns the offset after them. The loop
+// counts offsets: with a slice that gets shorter, lines of 20 to 100 bytes took 1.2 to 1.3 times as long to read.
 pub(crate) fn skip_blocks<F: Fn(u8) -> bool>(s: &[u8], at: usize, size: usize, wanted: F) -> usize
     ghost test: { ℕ → Bool }
     requires at_in_bounds { at ≤ length s.now }

@@ -1,7 +1,6 @@
--- `mark::find` meets its contract: it finds a mark at the offset itself, or the first mark in the part from the offset
--- on.
+-- It finds a mark at the offset itself, or the first mark in the part from the offset on.
 use Rattle.std.proofs.Common.{rules}
-use Rattle.mark.proofs.MarkLaws.{found_after, found_at_once, found_fits, found_part}
+use Rattle.mark.proofs.MarkLaws.{found_after, found_at_once}
 use Rattle.mark.proofs.find.Goals as goal
 
 pub returns-then-s-at : goal.returns-then-s-at
@@ -9,9 +8,3 @@ returns-then-s-at c = search (found_after, rules)
 
 pub returns-then-is_mark : goal.returns-then-is_mark
 returns-then-is_mark c = search (found_at_once, rules)
-
-pub overflow_add-result : goal.overflow_add-result
-overflow_add-result c = search (found_fits, rules)
-
-pub returns : goal.returns
-returns c = search (found_part, rules)

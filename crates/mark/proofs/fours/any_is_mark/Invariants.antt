@@ -4,4 +4,4 @@ use Rattle.mark.specs.Fours.{Told, begins_mark}
 use Rattle.mark.proofs.fours.any_is_mark.Given as goal
 
 abbrev pub invariant-loop-j : goal.invariant-loop-j
-invariant-loop-j l = Told (begins_mark l.t l.from) l.j l.seen × (l.j ≤ 64)
+invariant-loop-j l = Told (begins_mark l.block) l.j l.seen × (l.j ≤ 64)

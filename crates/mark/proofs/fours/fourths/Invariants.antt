@@ -4,4 +4,4 @@ use Rattle.mark.specs.Fours.{FourthsUpTo}
 use Rattle.mark.proofs.fours.fourths.Given as goal
 
 abbrev pub invariant-loop-k : goal.invariant-loop-k
-invariant-loop-k l = FourthsUpTo l.t l.from l.k l.seen × (l.k ≤ 16)
+invariant-loop-k l = FourthsUpTo l.block l.k l.seen × (l.k ≤ 16)

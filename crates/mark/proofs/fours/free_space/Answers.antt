@@ -3,14 +3,11 @@ use Rattle.mark.proofs.MarkLaws.{skip_none}
 use Rattle.mark.proofs.FoursLaws.{block_on, block_rest}
 use Rattle.mark.proofs.fours.free_space.Goals as goal
 
-pub loop-i-init : goal.loop-i-init
-loop-i-init c = search (skip_none, rules)
+pub loop-block-init : goal.loop-block-init
+loop-block-init c = search (skip_none, rules)
 
-pub returns-then-block_has_mark : goal.returns-then-block_has_mark
-returns-then-block_has_mark c = search (block_rest, rules)
-
-pub loop-i-preserved : goal.loop-i-preserved
-loop-i-preserved c = search (block_on, rules)
+pub loop-block-preserved : goal.loop-block-preserved
+loop-block-preserved c = block_on _ _ c.loop-block.invariant _ _ c.in-Some.ensures.cases c.block_has_mark.ensures c.if-block_has_mark.false
 
 pub returns : goal.returns
 returns c = search (block_rest, rules)

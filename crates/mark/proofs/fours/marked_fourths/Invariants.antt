@@ -4,4 +4,4 @@ use Rattle.mark.specs.Fours.{Told, fourth_of_mark}
 use Rattle.mark.proofs.fours.marked_fourths.Given as goal
 
 abbrev pub invariant-loop-j : goal.invariant-loop-j
-invariant-loop-j l = Told (fourth_of_mark l.t l.from) l.j l.seen × (l.j ≤ 64)
+invariant-loop-j l = Told (fourth_of_mark l.block) l.j l.seen × (l.j ≤ 64)

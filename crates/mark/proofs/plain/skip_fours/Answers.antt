@@ -3,8 +3,8 @@ use Rattle.mark.proofs.MarkLaws.{skip_none}
 use Rattle.mark.proofs.PlainLaws.{skip_four}
 use Rattle.mark.proofs.plain.skip_fours.Goals as goal
 
-pub loop-i-init : goal.loop-i-init
-loop-i-init c = search (skip_none, rules)
+pub loop-a-init : goal.loop-a-init
+loop-a-init c = search (skip_none, rules)
 
-pub loop-i-preserved : goal.loop-i-preserved
-loop-i-preserved c = search (skip_four, rules)
+pub loop-a-preserved : goal.loop-a-preserved
+loop-a-preserved c = skip_four _ _ _ _ c.loop-a.invariant c.in-Some.ensures.cases c.if-a.false c.if-b.false c.if-c.false c.if-d.false
