@@ -7,4 +7,4 @@ pub loop-a-init : goal.loop-a-init
 loop-a-init c = search (skip_none, rules)
 
 pub loop-a-preserved : goal.loop-a-preserved
-loop-a-preserved c = skip_four _ _ _ _ c.loop-a.invariant c.in-Some.ensures.cases c.if-a.false c.if-b.false c.if-c.false c.if-d.false
+loop-a-preserved c = search (skip_four, c.in-Some.ensures.cases, rules)
