@@ -86,7 +86,7 @@ fn refusal_fields(inner: Inner) -> [u64; 2]
 }
 
 // Returns the numbers of a record: its depth, its offset in the outermost file, the inner state with its refusal, and
-// the block.
+// the block. The numbers of an array are named to be put into another, since no method joins two arrays.
 pub fn record_fields(r: Record) -> [u64; 15]
     ensures { result ≡ record_fields r }
 {

@@ -10,7 +10,7 @@ use format::offset::{Offset, OutermostOffset};
 use format::row::Row;
 use scan::number;
 
-// Puts a row at an offset. If it does not fit, nothing changes.
+// Puts a row at an offset. If it does not fit, nothing changes. The ten fields fill four numbers of four bytes exactly.
 pub fn put_row(out: &mut [u8], at: usize, r: Row)
     ensures { out.new ≡ placed out.old at (encode_row r) }
 {
@@ -26,7 +26,8 @@ pub fn put_row(out: &mut [u8], at: usize, r: Row)
     put::put_number(out, at + 12, 4, r.used);
 }
 
-// Returns the first four bytes of a row as a number: its state, its ordinal and its header size.
+// Returns the first four bytes of a row as a number: its state, its ordinal and its header size. Here and below, bits
+// are packed by sums and products, as the definition of a row packs them.
 fn front(r: Row) -> u64
     ensures { result ≡ front_of r }
 {
