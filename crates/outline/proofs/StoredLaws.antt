@@ -9,11 +9,11 @@ use Rattle.std.specs.Option.{IfSome, IsSomeAnd}
 use Rattle.std.specs.List.{HoldsAt}
 use Rattle.std.specs.Result.{IsErrAnd}
 use Rattle.std.proofs.lemmas.List.{length-map}
+use Rattle.std.proofs.lemmas.Option.{slice_get-map, slice_get_past, slice_get_read}
 use Rattle.std.proofs.lemmas.Result.{err_from_is_err_and}
 use Rattle.std.proofs.Common.{Bor}
-use mathlib.Core.List.{List, [], ◌∷◌, map}
+use mathlib.Core.List.{List, ◌∷◌, map}
 use lib.ListN.{length, take, drop, get_or, length-drop}
-use Rattle.std.specs.Prelude.{slice_get}
 use lib.Seq.{drop-drop}
 use lib.Dec.{eqb}
 use Rattle.std.specs.Simd.{first_chunks}
@@ -112,18 +112,6 @@ module _ (b : Bytes) (r : Refusal) (h : stored b ≡ refused r) where
   unfolding stored_at
   row_refused k x e = let same = err_from_is_err_and x e in rw (stored_at, h, same.1, same.2)
 
--- Row `k` of the rows in these parts is in part `k`.
-row_in : (rows : List Bytes) (k : ℕ) (d : Bytes) → k < length rows → slice_get (map decode_row rows) k ≡ Some (decode_row (get_or rows k d))
-row_in [] k d h = absurd (omega arith)
-row_in (b ∷ rows) zero d h = refl
-row_in (b ∷ rows) (suc k) d h = row_in rows k d (omega arith)
-
--- If there is no such part, there is no such row.
-row_out : (rows : List Bytes) (k : ℕ) → length rows ≤ k → slice_get (map decode_row rows) k ≡ None
-row_out [] k h = refl
-row_out (b ∷ rows) zero h = absurd (omega arith)
-row_out (b ∷ rows) (suc k) h = row_out rows k (omega arith)
-
 -- An outline has the rows in these parts.
 module _ (b : Bytes) (rows : List Bytes) (h : stored b ≡ accepted (map decode_row rows)) where
   -- They are counted.
@@ -138,6 +126,7 @@ module _ (b : Bytes) (rows : List Bytes) (h : stored b ≡ accepted (map decode_
       → MatchOption part (row ≡ None) (λ x. IsSomeAnd row (λ r. r ≡ decode_row x.now))
       → accepted row ≡ stored_at b k
   unfolding stored_at
-  row_found k None row p q e = rw (stored_at, h, e, row_out rows k p)
+  row_found k None row p q e = rw (stored_at, h, e, slice_get-map decode_row rows k, slice_get_past rows k p)
   row_found k (Some x) None p q e = absurd e
-  row_found k (Some x) (Some r) p q e = rw (stored_at, h, row_in rows k x.now p.0, e, ← q)
+  row_found k (Some x) (Some r) p q e =
+      rw (stored_at, h, slice_get-map decode_row rows k, slice_get_read rows (length rows) k x.now refl p.0 q, e)
