@@ -1,51 +1,14 @@
--- Laws about the rules of stored rows and about counting them. The invariant of the count: continuing it at any row
--- gives the count of the whole outline.
-use Prim.Native.Nat.{ℕ, suc, ◌+◌, ◌*◌, ◌-◌, ◌/◌, ◌%◌, ◌≤◌, ◌<◌}
-use native.Mathlib.Nat.{zero-add, mod-lt}
-use native.Mathlib.Omega.{arith}
-use mathlib.Core.Path.{◌≡◌, refl, sym, ap, ◌∙◌}
-use mathlib.Core.Bool.{Bool, true, false, and-false}
-use Rattle.std.specs.Prelude.{◌==◌}
+-- Laws about judging a stored outline. The invariant: continuing the count at any row gives the count of the whole
+-- outline.
+use Rattle.std.proofs.Common.{ℕ, suc, ◌+◌, ◌*◌, ◌-◌, ◌/◌, ◌%◌, ◌≤◌, ◌<◌, zero-add, mod-lt, arith, ◌≡◌, refl, sym, ap, ◌∙◌, Bool, true, false, ◌==◌, List, [], ◌∷◌, map, length, drop, get_or, drop-drop, w8, Fits}
 use Rattle.std.specs.Simd.{first_chunks}
-use mathlib.Core.List.{List, [], ◌∷◌, map}
-use lib.ListN.{length, drop, get_or}
-use lib.Seq.{drop-drop}
-use lib.Dec.{leb}
-use mir.Syntax.{w8}
-use mir.Val.{Fits}
-use borrow.Author.Tests.{le-leb, lt-leb}
 use Rattle.format.specs.declared.refusal.Refusal.{Refusal}
 use Rattle.format.specs.declared.row.Row.{Row}
 use Rattle.format.specs.declared.refusal.Reason.TheVariants.{OutlineLength, OutlineRow}
 use Rattle.format.specs.Bytes.{Bytes}
-use Rattle.format.specs.Block.{least_header}
-use Rattle.format.specs.Chain.{most_blocks}
 use Rattle.format.specs.Outcome.{Outcome, accepted, refused, refusal, need, ◌>>=◌, ◌>>◌}
 use Rattle.format.specs.Outline.{row_bytes, row_from, unpacked, decode_row, is_row, stored_from, stored, stored_count}
 use Rattle.outline.proofs.StoredLaws.{chunk_is, no_rows, rows_judged}
-
-module _ (r : Row) (most : ℕ) where
-  -- If the ordinal is too high, then the row breaks the rules.
-  pub ordinal_high : most_blocks ≤ r.ordinal → false ≡ is_row most r
-  unfolding is_row
-  ordinal_high h = rw (is_row, lt-leb (suc r.ordinal) most_blocks (omega arith))
-
-  -- If the header size is too small, then the row breaks the rules.
-  pub header_short : r.header_size < least_header → false ≡ is_row most r
-  unfolding is_row
-  header_short h = rw (is_row, lt-leb least_header r.header_size h, and-false)
-
-  -- If the used size is larger than the allocated size, then the row breaks the rules.
-  pub used_high : r.allocated < r.used → false ≡ is_row most r
-  unfolding is_row
-  used_high h = rw (is_row, lt-leb r.used r.allocated h, and-false)
-
-  -- If a row keeps these three rules, then its depth decides.
-  pub depth_decides : r.ordinal < most_blocks → least_header ≤ r.header_size → r.used ≤ r.allocated
-      → leb r.depth most ≡ is_row most r
-  unfolding is_row
-  depth_decides o h u =
-      rw (is_row, le-leb (suc r.ordinal) most_blocks (omega arith), le-leb least_header r.header_size h, le-leb r.used r.allocated u)
 
 -- A depth that is read from a row has three bits, so it is below 8.
 depth_small : (b : Bytes) → (decode_row b).depth < 8

@@ -1,18 +1,9 @@
 -- Laws about rows. The sixteen bytes of a row are four parts of four bytes each.
-use Prim.Native.Nat.{ℕ, ◌+◌, ◌*◌, ◌-◌, ◌/◌, ◌%◌, ◌^◌, ◌≤◌, ◌<◌}
-use Rattle.std.specs.Prelude.{None, Some}
-use native.Mathlib.Nat.{add-zero, add_assoc, mul-one, div-one, mod-mod, mod-eq_of_lt}
-use native.Mathlib.Omega.{arith}
-use mathlib.Core.Path.{◌≡◌, refl, sym, ap, ◌∙◌}
-use mathlib.Core.List.{List, [], ◌∷◌, ◌++◌, append-nil}
-use lib.ListN.{length, take, drop, length-append, length-take, length-drop}
-use lib.Seq.{take-add, drop-drop}
+use Rattle.std.proofs.Common.{ℕ, ◌+◌, ◌*◌, ◌-◌, ◌/◌, ◌%◌, ◌^◌, ◌≤◌, ◌<◌, None, Some, add-zero, add_assoc, mul-one, div-one, mod-eq_of_lt, arith, ◌≡◌, refl, sym, ap, ◌∙◌, List, [], ◌∷◌, ◌++◌, append-nil, length, take, drop, length-append, length-take, length-drop, take-add, drop-drop, take_all, pow-add, eqb, le-leb}
+use native.Mathlib.Nat.{mod-mod}
 use Rattle.std.specs.Array.{IsFirstChunk}
 use Rattle.std.specs.List.{slice_range}
-use Rattle.std.proofs.Common.{take_all}
-use lib.Pow.{pow-add}
-use lib.Dec.{eqb}
-use borrow.Author.Tests.{le-leb, lt-leb}
+use borrow.Author.Tests.{lt-leb}
 use Rattle.format.specs.declared.offset.OutermostOffset.{OutermostOffset}
 use Rattle.format.specs.declared.block.InnerKind.{InnerKind}
 use Rattle.format.specs.declared.row.Row.{Row}

@@ -1,23 +1,13 @@
 -- Laws about counted outlines: if the rows of a stored outline are counted, then they are the rows in its bytes,
 -- sixteen bytes for each.
-use Prim.Native.Nat.{ℕ, zero, suc, ◌+◌, ◌*◌, ◌/◌, ◌%◌, ◌≤◌, ◌<◌}
-use native.Mathlib.Omega.{arith}
-use mathlib.Core.Path.{◌≡◌, refl, ap, ◌∙◌}
-use mathlib.Core.Bool.{true}
-use Rattle.std.specs.Prelude.{Option, None, Some, MatchOption}
+use Rattle.std.proofs.Common.{ℕ, zero, suc, ◌+◌, ◌*◌, ◌/◌, ◌%◌, ◌≤◌, ◌<◌, arith, ◌≡◌, refl, ap, ◌∙◌, true, Option, None, Some, MatchOption, Bor, List, ◌∷◌, map, length, take, drop, get_or, length-drop, drop-drop, eqb, eqb-true}
 use Rattle.std.specs.Option.{IfSome, IsSomeAnd}
 use Rattle.std.specs.List.{HoldsAt}
 use Rattle.std.specs.Result.{IsErrAnd}
 use Rattle.std.proofs.lemmas.List.{length-map}
 use Rattle.std.proofs.lemmas.Option.{slice_get-map, slice_get_past, slice_get_read}
 use Rattle.std.proofs.lemmas.Result.{err_from_is_err_and}
-use Rattle.std.proofs.Common.{Bor}
-use mathlib.Core.List.{List, ◌∷◌, map}
-use lib.ListN.{length, take, drop, get_or, length-drop}
-use lib.Seq.{drop-drop}
-use lib.Dec.{eqb}
 use Rattle.std.specs.Simd.{first_chunks}
-use borrow.Author.Tests.{eqb-true}
 use Rattle.format.specs.declared.refusal.Refusal.{Refusal}
 use Rattle.format.specs.declared.refusal.Reason.TheVariants.{OutlineLength}
 use Rattle.format.specs.declared.row.Row.{Row}
