@@ -1,6 +1,5 @@
 -- Counts are at most as large as the number of bytes that were lent.
-use native.Mathlib.Omega.{arith}
-use lib.ListN.{length}
+use Rattle.std.proofs.Common.{arith, length}
 use Rattle.format.specs.Bytes.{Bytes}
 use Rattle.format.specs.Nest.{deepest, records_from, records, record_count}
 use Rattle.format.specs.Outline.{stored, stored_count}

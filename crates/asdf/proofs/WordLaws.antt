@@ -1,21 +1,15 @@
 -- Laws about answers that are returned as one number: those of a count, a writer, an outline, a stored outline that is
 -- written again, an index and an edit.
-use Prim.Native.Nat.{ℕ, ◌+◌, ◌<◌}
-use native.Mathlib.Omega.{arith}
-use mathlib.Core.Path.{◌≡◌, refl, sym, ap, ◌∙◌}
-use lib.ListN.{length}
-use Rattle.std.specs.Prelude.{MatchResult}
-use Rattle.std.specs.Result.{IsOkAnd}
-use Rattle.format.specs.declared.refusal.Refusal.{Refusal}
+use Rattle.std.proofs.Common.{ℕ, ◌+◌, ◌<◌, arith, ◌≡◌, refl, sym, ap, ◌∙◌, length}
+use Rattle.std.specs.Result.{result_and}
 use Rattle.format.specs.Bytes.{Bytes}
 use Rattle.format.specs.Outcome.{Outcome, accepted, refused, ◌>>◌}
-use Rattle.format.specs.Lent.{writes}
 use Rattle.format.specs.Outline.{outline, rewritten}
 use Rattle.format.specs.IndexWriter.{index_for}
 use Rattle.format.specs.Edit.{edit}
 use Rattle.format.specs.Promise.{Written, OutlineWritten, WrittenAgain, IndexWritten, Done, Returned, Exported, OutlineExported, RewriteExported, IndexExported, EditExported}
 use Rattle.format.specs.Export.{least_refusal, word}
-use Rattle.format.proofs.NumberedLaws.{Numbered, numbered_more, numbered_writes, numbered_done, numbered_outline, numbered_rewritten, numbered_index, numbered_edit}
+use Rattle.format.proofs.NumberedLaws.{Numbered, numbered_more, numbered_done, numbered_outline, numbered_rewritten, numbered_index, numbered_edit}
 use Rattle.format.proofs.WordLaws.{word_large, Counts, returned, returned_writes}
 
 -- The returned number states the count that was asked for.
@@ -70,17 +64,16 @@ done_none : {A : Type 0} (o : Outcome A) (lent : ℕ) → Counts lent (◌>>◌ 
 done_none (accepted a) lent = omega arith
 done_none (refused r) lent = tt
 
--- If an edit that is done is answered with 0, then its answer is `x`.
-edit_counted : (a : Outcome (Unit {0})) (x : Outcome ℕ) → MatchResult a (λ u. IsOkAnd x (λ n. n ≡ 0)) (λ r. x ≡ refused r) → x ≡ ◌>>◌ a (accepted 0)
-edit_counted (accepted tt) (accepted n) h = ap accepted h
-edit_counted (accepted tt) (refused r) h = absurd h
-edit_counted (refused r) x h = h
+-- An answer after which another is given.
+and_then : {A B : Type 0} (a : Outcome A) (b : Outcome B) → result_and a b ≡ ◌>>◌ a b
+and_then (accepted u) b = refl
+and_then (refused r) b = refl
 
--- The edit of the file `s` to the text `t` was answered with `a`, which counts as `x`, and `w` is returned for `x`.
-module _ (s t after : Bytes) (a : Outcome (Unit {0})) (h : Done s t after a) (x : Outcome ℕ)
-    (counted : MatchResult a (λ u. IsOkAnd x (λ n. n ≡ 0)) (λ r. x ≡ refused r)) (w : ℕ) (e : w ≡ word x) where
+-- The edit of the file `s` to the text `t` was answered with `a`. If it was done, that counts as 0, and `w` is returned.
+module _ (s t after : Bytes) (a : Outcome (Unit {0})) (h : Done s t after a) (x : Outcome ℕ) (counted : x ≡ result_and a (accepted 0)) (w : ℕ)
+    (e : w ≡ word x) where
   word_is : w ≡ word (◌>>◌ a (accepted 0))
-  word_is = e ∙ ap word (edit_counted a x counted)
+  word_is = e ∙ ap word (counted ∙ and_then a (accepted 0))
 
   -- The returned number states the answer of the edit.
   edit_answer_lem : Returned (◌>>◌ (edit s t) (accepted 0)) (length s + length t) w

@@ -107,7 +107,7 @@ pub extern "C" fn asdf_rewrite(stored: &[u8], out: &mut [u8]) -> u64
 pub extern "C" fn asdf_edit(file: &mut [u8], text: &[u8]) -> u64
     ensures { EditExported file.old text.now file.new result }
 {
-    word::counted(edit::edit(file, text).map(|()| 0))
+    word::counted(edit::edit(file, text).and(Ok(0)))
 }
 
 // Puts the numbers of the layout of a file.
