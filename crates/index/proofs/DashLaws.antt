@@ -17,8 +17,9 @@ use Rattle.scan.specs.declared.line.Line.{Line}
 use Rattle.scan.specs.Line.{LineRead}
 use Rattle.scan.specs.Number.{NumeralRead}
 use Rattle.scan.proofs.LineLaws.{unended_lines, ended_first, ended_inside}
-use Rattle.index.specs.Verdict.{agree, compared, bytes_in}
-use Rattle.index.proofs.ListLaws.{agreed, agreed_next}
+use Rattle.index.specs.declared.list.Comparison.{Comparison}
+use Rattle.index.specs.Verdict.{agrees, compared, bytes_in}
+use Rattle.index.proofs.ListLaws.{agreed, agreed_first, agreed_next}
 use Rattle.index.proofs.FormLaws.{with_zeros_lem}
 
 module _ (t : Bytes) (a : Option (Bor Bytes)) (first : bytes_in a ≡ without dash t) where
@@ -37,14 +38,11 @@ unfoldable pub from_line : ℕ → Option (List ℕ) → Option (List ℕ)
 from_line zero o = at_least_one o
 from_line (suc at) o = o
 
--- Before the first line, all of the numbers and all of the offsets are left.
-pub dashes_begin : (offsets : Bor (List ℕ)) (o : Option (List ℕ)) → agreed (Some offsets) (from_line 0 o) ≡ compared offsets.now (at_least_one o)
+-- Before the first line, all of the lines are left.
+pub dashes_begin : (offsets : List ℕ) (first : Comparison) → ((ns : List ℕ) → agrees first ns ≡ same ns offsets) → (o : Option (List ℕ))
+    → agreed first (from_line 0 o) ≡ compared offsets (at_least_one o)
 unfolding from_line
-dashes_begin offsets o = go (at_least_one o)
-  where
-    go : (o : Option (List ℕ)) → agreed (Some offsets) o ≡ compared offsets.now o
-    go None = refl
-    go (Some ns) = refl
+dashes_begin offsets first h o = agreed_first offsets first h (at_least_one o)
 
 -- If no numbers can be read, then there are none.
 from_none : (at : ℕ) → from_line at None ≡ None
@@ -67,7 +65,7 @@ from_later zero o h = absurd (omega arith)
 from_later (suc at) o h = refl
 
 -- `v` is the answer for the lines from offset `at`.
-module _ (t : Bytes) (at : ℕ) (left : Option (Bor (List ℕ))) (v : Option Bool) (so_far : agreed left (from_line at (dash_numbers (lines (drop at t)))) ≡ v)
+module _ (t : Bytes) (at : ℕ) (before : Comparison) (v : Option Bool) (so_far : agreed before (from_line at (dash_numbers (lines (drop at t)))) ≡ v)
     (c : Option Line) (read : LineRead t at c) where
   -- If no line is left, then there is no end line.
   pub lines_unended : c ≡ None → None ≡ v
@@ -77,7 +75,7 @@ module _ (t : Bytes) (at : ℕ) (left : Option (Bor (List ℕ))) (v : Option Boo
   module _ (l : Line) (e : c ≡ Some l) (x : Bool) (end : x ≡ same (take (l.text_end - at) (drop at t)) end_line) where
     module _ (h : x ≡ true) where
       -- If the line is the end line, then no number is left, and only zeros may follow.
-      lines_end : (z : Bool) → z ≡ all_zero (take (length t - l.next) (drop l.next t)) → agreed left (from_line at (elim z [ true ↦ Some [] | false ↦ None ])) ≡ v
+      lines_end : (z : Bool) → z ≡ all_zero (take (length t - l.next) (drop l.next t)) → agreed before (from_line at (elim z [ true ↦ Some [] | false ↦ None ])) ≡ v
       unfolding dash_numbers
       lines_end z zeros =
           rw ((ended_first t at c read l e).cut, dash_numbers, sym end ∙ h, with_zeros_lem (Some []) (drop l.next t) z (zeros ∙ ap all_zero (part_all t l.next))) at so_far
@@ -95,8 +93,8 @@ module _ (t : Bytes) (at : ℕ) (left : Option (Bor (List ℕ))) (v : Option Boo
       pub lines_other : (z : Bool) → z ≡ all_zero (take (length t - l.next) (drop l.next t)) → z ≡ false → None ≡ v
       lines_other z zeros k = rw (k, from_none at) at (lines_end z zeros)
 
-      -- If there was a number and only zeros follow the end line, then the offsets that are left decide.
-      pub lines_done : (z : Bool) → z ≡ all_zero (take (length t - l.next) (drop l.next t)) → z ≡ true → (at ≡ 0 → ⊥) → (b : Bool) → b ≡ agree left [] → Some b ≡ v
+      -- If there was a number and only zeros follow the end line, then the comparison so far decides.
+      pub lines_done : (z : Bool) → z ≡ all_zero (take (length t - l.next) (drop l.next t)) → z ≡ true → (at ≡ 0 → ⊥) → (b : Bool) → b ≡ agrees before [] → Some b ≡ v
       lines_done z zeros k n b d = ap Some d ∙ rw (k, from_later at (Some []) (omega arith)) at (lines_end z zeros)
 
     module _ (h : x ≡ false) (r : Option ℕ) (number : r ≡ dashed (take (l.text_end - at) (drop at t))) where
@@ -111,8 +109,8 @@ module _ (t : Bytes) (at : ℕ) (left : Option (Bor (List ℕ))) (v : Option Boo
       lines_malformed p b n = n ∙ rw (next_number, p) at so_far
 
       -- If the line has a number, then the lines after it decide.
-      pub lines_step : (n : ℕ) → r ≡ Some n → (next : Option (Bor (List ℕ))) → ((ns : List ℕ) → agree next ns ≡ agree left (n ∷ ns))
+      pub lines_step : (n : ℕ) → r ≡ Some n → (next : Comparison) → ((ns : List ℕ) → agrees next ns ≡ agrees before (n ∷ ns))
           → agreed next (from_line l.next (dash_numbers (lines (drop l.next t)))) ≡ v
       lines_step n p next a =
           rw (from_later l.next (dash_numbers (lines (drop l.next t))) (omega (arith, ended_inside t at c read l e)))
-          (sym (agreed_next left next n a _) ∙ rw (next_number, p) at so_far)
+          (sym (agreed_next before next n a _) ∙ rw (next_number, p) at so_far)

@@ -6,41 +6,43 @@ use mathlib.Core.Bool.{Bool, true, false}
 use mathlib.Core.List.{List, [], ◌∷◌, map}
 use lib.ListN.{length, drop, get_or}
 use lib.Seq.{drop-cons, drop-length}
-use denote.Ref.{Bor}
 use Rattle.std.specs.Prelude.{Option, None, Some}
 use Rattle.std.specs.Option.{option_map}
-use Rattle.format.specs.Bytes.{Bytes}
+use Rattle.format.specs.Bytes.{Bytes, same}
 use Rattle.format.specs.Numeral.{both, numerals, split}
 use Rattle.format.specs.declared.layout.Verdict.{Verdict}
 use Rattle.format.specs.declared.layout.Verdict.TheVariants.{Good, IgnoredForm, IgnoredList}
 use Rattle.format.specs.Index.{trim, listed, judged}
 use Rattle.scan.specs.Number.{NumeralRead}
-use Rattle.index.specs.Verdict.{agree, compared}
+use Rattle.index.specs.declared.list.Comparison.{Comparison}
+use Rattle.index.specs.Verdict.{agrees, compared}
 
--- Whether the numbers that are left agree with the offsets that are left, if there are numbers.
-abbrev pub agreed : Option (Bor (List ℕ)) → Option (List ℕ) → Option Bool
-agreed left o = option_map (agree left) o
+-- Whether all numbers agree, after the comparison so far, if the numbers that are left are numbers.
+abbrev pub agreed : Comparison → Option (List ℕ) → Option Bool
+agreed before o = option_map (agrees before) o
 
 -- One more number and one more offset can be left out on both sides.
-pub agreed_next : (left next : Option (Bor (List ℕ))) (x : ℕ) → ((ns : List ℕ) → agree next ns ≡ agree left (x ∷ ns)) → (o : Option (List ℕ))
-    → agreed left (both (Some x) o) ≡ agreed next o
+pub agreed_next : (before next : Comparison) (x : ℕ) → ((ns : List ℕ) → agrees next ns ≡ agrees before (x ∷ ns)) → (o : Option (List ℕ))
+    → agreed before (both (Some x) o) ≡ agreed next o
 unfolding both
-agreed_next left next x h None = refl
-agreed_next left next x h (Some ns) = ap Some (sym (h ns))
+agreed_next before next x h None = refl
+agreed_next before next x h (Some ns) = ap Some (sym (h ns))
 
--- Before the first part, all of the numbers and all of the offsets are left.
-pub list_begin : (offsets : Bor (List ℕ)) (list : Bytes) → agreed (Some offsets) (numerals 10 (map trim (drop 0 (split 44 list)))) ≡ compared offsets.now (listed (Some list))
+-- At first, all of the numbers and all of the offsets are left.
+pub agreed_first : (offsets : List ℕ) (first : Comparison) → ((ns : List ℕ) → agrees first ns ≡ same ns offsets) → (o : Option (List ℕ)) → agreed first o ≡ compared offsets o
+agreed_first offsets first h None = refl
+agreed_first offsets first h (Some ns) = ap Some (h ns)
+
+-- Before the first part, all of the parts are left.
+pub list_begin : (offsets : List ℕ) (first : Comparison) → ((ns : List ℕ) → agrees first ns ≡ same ns offsets) → (list : Bytes)
+    → agreed first (numerals 10 (map trim (drop 0 (split 44 list)))) ≡ compared offsets (listed (Some list))
 unfolding listed
-list_begin offsets list = go (numerals 10 (map trim (split 44 list)))
-  where
-    go : (o : Option (List ℕ)) → agreed (Some offsets) o ≡ compared offsets.now o
-    go None = refl
-    go (Some ns) = refl
+list_begin offsets first h list = agreed_first offsets first h (numerals 10 (map trim (split 44 list)))
 
 -- `k` of the parts were read, and `v` is the answer for the parts that are left.
-module _ (ps : List Bytes) (k : ℕ) (left : Option (Bor (List ℕ))) (v : Option Bool) (so_far : agreed left (numerals 10 (map trim (drop k ps))) ≡ v) where
-  -- If no part is left, then the offsets that are left decide.
-  pub list_done : k ≡ length ps → (b : Bool) → b ≡ agree left [] → Some b ≡ v
+module _ (ps : List Bytes) (k : ℕ) (before : Comparison) (v : Option Bool) (so_far : agreed before (numerals 10 (map trim (drop k ps))) ≡ v) where
+  -- If no part is left, then the comparison so far decides.
+  pub list_done : k ≡ length ps → (b : Bool) → b ≡ agrees before [] → Some b ≡ v
   unfolding numerals
   list_done h b e = ap Some e ∙ rw (h, drop-length) at so_far
 
@@ -56,9 +58,9 @@ module _ (ps : List Bytes) (k : ℕ) (left : Option (Bor (List ℕ))) (v : Optio
     list_malformed e b n = n ∙ rw (next_number, e) at so_far
 
     -- If this part is a number, then the parts after it decide.
-    pub list_step : (n : ℕ) → r ≡ Some n → (next : Option (Bor (List ℕ))) → ((ns : List ℕ) → agree next ns ≡ agree left (n ∷ ns))
+    pub list_step : (n : ℕ) → r ≡ Some n → (next : Comparison) → ((ns : List ℕ) → agrees next ns ≡ agrees before (n ∷ ns))
         → agreed next (numerals 10 (map trim (drop (k + 1) ps))) ≡ v
-    list_step n e next a = sym (agreed_next left next n a _) ∙ rw (next_number, e) at so_far
+    list_step n e next a = sym (agreed_next before next n a _) ∙ rw (next_number, e) at so_far
 
 -- The verdict that an answer stands for.
 abbrev pub verdict_of : Option Bool → Verdict

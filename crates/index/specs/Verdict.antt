@@ -1,11 +1,13 @@
 -- The numbers of an index, and their comparison with the offsets that the walk over the blocks found.
-use Rattle.std.specs.Prelude.{ℕ, ◌≡◌, Bool, true, false, List, Option, None, Some, drop}
+use Rattle.std.specs.Prelude.{ℕ, ◌≡◌, Bool, true, false, ◌&&◌, List, Option, None, Some, drop}
 use denote.Ref.{Bor}
 use Rattle.std.specs.Option.{option_map}
+use Rattle.std.specs.Slice.Iter.{iter_rest}
 use Rattle.format.specs.Bytes.{Bytes, same}
 use Rattle.format.specs.Line.{lines}
 use Rattle.format.specs.Tree.{end_line}
 use Rattle.format.specs.Index.{listed, after_word, with_zeros, dash_numbers, at_least_one}
+use Rattle.index.specs.declared.list.Comparison.{Comparison}
 use Rattle.index.specs.declared.form.Numbers.{Numbers}
 use Rattle.index.specs.declared.form.Numbers.TheVariants.{InBrackets, AfterDashes}
 
@@ -23,11 +25,9 @@ numbers_in (Some (AfterDashes t)) = at_least_one (dash_numbers (lines t.now))
 pub record EndRead (t : Bytes) (at : ℕ) (r : Bool) : Type 0 where
   pub is : (ns : Option (List ℕ)) → after_word end_line (with_zeros ns) (lines (drop at t)) ≡ elim r [ true ↦ ns | false ↦ None ]
 
--- Whether the numbers are the offsets that are left. Once a number was not the next offset, there are none, and nothing
--- agrees.
-abbrev pub agree : Option (Bor (List ℕ)) → List ℕ → Bool
-agree None ns = false
-agree (Some left) ns = same ns left.now
+-- Whether the numbers so far agree, and the other numbers are the offsets that are left.
+abbrev pub agrees : Comparison → List ℕ → Bool
+agrees c ns = c.agree && same ns (iter_rest c.left)
 
 -- Whether the numbers are these offsets, if there are numbers.
 abbrev pub compared : List ℕ → Option (List ℕ) → Option Bool

@@ -4,7 +4,8 @@ ghost use Rattle.format.specs.Line.{lines};
 ghost use Rattle.format.specs.Index.{at_least_one, dash_numbers, dashed};
 ghost use Rattle.index.specs.Verdict.{compared};
 
-use crate::{list, spaces};
+use crate::list::Comparison;
+use crate::spaces;
 use scan::{line, number, text};
 
 // Whether the numbers on the lines of `t`, up to the end line, are these offsets, if these lines have the form of a list.
@@ -12,7 +13,7 @@ use scan::{line, number, text};
 pub(crate) fn compare(t: &[u8], offsets: &[u64]) -> Option<bool>
     ensures { result ≡ compared offsets.now (at_least_one (dash_numbers (lines t.now))) }
 {
-    let mut left = Some(offsets);
+    let mut comparison = Comparison::new(offsets);
     let mut at = 0;
     while let Some(line) = line::line_at(t, at) {
         let text = &t[at..line.text_end];
@@ -21,10 +22,10 @@ pub(crate) fn compare(t: &[u8], offsets: &[u64]) -> Option<bool>
             if empty || !text::only_zeros(&t[line.next..]) {
                 return None;
             }
-            return Some(list::is_done(left));
+            return Some(comparison.is_good());
         }
         let x = dash_number(text)?;
-        left = list::after(left, x);
+        comparison.add(x);
         at = line.next;
     }
     None

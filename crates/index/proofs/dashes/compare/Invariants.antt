@@ -1,4 +1,4 @@
--- The invariant: the numbers on the lines from `at` and the offsets that are left give the same answer as all of them.
+-- The invariant: the comparison so far and the numbers on the lines from `at` give the same answer as all numbers.
 use Prim.Native.Nat.{◌-◌}
 use mathlib.Core.Path.{◌≡◌}
 use lib.ListN.{length, drop}
@@ -10,7 +10,7 @@ use Rattle.index.proofs.DashLaws.{from_line}
 use Rattle.index.proofs.dashes.compare.Given as goal
 
 abbrev pub invariant-loop-line : goal.invariant-loop-line
-invariant-loop-line l = agreed l.left (from_line l.at (dash_numbers (lines (drop l.at l.t)))) ≡ compared l.offsets (at_least_one (dash_numbers (lines l.t)))
+invariant-loop-line l = agreed l.comparison (from_line l.at (dash_numbers (lines (drop l.at l.t)))) ≡ compared l.offsets (at_least_one (dash_numbers (lines l.t)))
 
 abbrev pub decreases-loop-line : goal.decreases-loop-line
 decreases-loop-line l = length l.t - l.at

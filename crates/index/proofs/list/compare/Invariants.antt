@@ -1,4 +1,4 @@
--- The invariant: the numbers that are left and the offsets that are left give the same answer as all of them.
+-- The invariant: the comparison so far and the numbers that are left give the same answer as all numbers.
 use mathlib.Core.Path.{◌≡◌}
 use mathlib.Core.List.{map}
 use lib.ListN.{length, drop}
@@ -10,4 +10,4 @@ use Rattle.index.proofs.ListLaws.{agreed}
 use Rattle.index.proofs.list.compare.Given as goal
 
 abbrev pub invariant-loop-part : goal.invariant-loop-part
-invariant-loop-part l = agreed l.left (numerals 10 (map trim (drop (length l.yielded) (split 44 l.list)))) ≡ compared l.offsets (listed (Some l.list))
+invariant-loop-part l = agreed l.comparison (numerals 10 (map trim (drop (length l.yielded) (split 44 l.list)))) ≡ compared l.offsets (listed (Some l.list))
