@@ -32,10 +32,6 @@ module _ (out₀ : Bytes) (at : ℕ) (ns : List ℕ) where
     pub size : length out ≡ length out₀
     pub left : placed out place (number_bytes (drop k ns)) ≡ placed out₀ at (number_bytes ns)
 
-  -- If the numbers fit, the invariant holds at the start, when all are left.
-  pub numbers_begin : at ≤ length out₀ → length ns ≤ (length out₀ - at) / 8 → Putting out₀ at 0
-  numbers_begin h g = record { at_place = omega arith; few = omega arith; room = omega arith; size = refl; left = refl }
-
   module _ (out : Bytes) (place k : ℕ) (p : Putting out place k) where
     -- When number `k` is put, the invariant holds for the next.
     pub numbers_step : k < length ns → (next : Bytes) → next ≡ placed out place (to_bytes 8 (get_or ns k 0)) → Putting next (place + 8) (k + 1)

@@ -192,15 +192,3 @@ module _ (s : Bytes) (at : ℕ) (r : Option Line) (read : LineRead s at r) where
     -- The text of the line ends inside.
     pub ended_end : found.text_end ≤ length s
     ended_end = omega (arith, ended_inside)
-
-    -- The next line begins inside, or at the end of the bytes.
-    pub ended_next : found.next ≤ length s
-    ended_next = ended_inside.inside
-
-    -- A line takes at least one byte. So if `k` is at most `at`, then `k + 1` is at most `next`.
-    pub ended_count : (k : ℕ) → k ≤ at → k + 1 ≤ found.next
-    ended_count k h = omega (arith, ended_inside)
-
-    -- Fewer bytes are left after the line than from its start on.
-    pub ended_less : length s - found.next < length s - at
-    ended_less = omega (arith, ended_inside)

@@ -44,10 +44,6 @@ module _ (s : Bytes) (i x : ℕ) (read : BigEndian (take i s) x) where
         small = rw size (omega arith);
       })
 
-  -- When all bytes are read, `x` is their number.
-  pub big_endian_done : length s ≤ i → BigEndian s x
-  big_endian_done h = rw (take_all i s h) at read
-
 module _ (s : Bytes) (n w r : ℕ) (read : BigEndian (take w (drop n s)) r) where
   -- If at most eight bytes at offset `n` are read, the result is the number there.
   pub big_endian_number : w ≤ 8 → r ≡ number n w s

@@ -7,13 +7,13 @@ ghost use Rattle.scan.specs.Number.{BigEndian, leads_well, NumeralRead, DigitsRe
 pub fn big_endian(s: &[u8]) -> u64
     ensures { BigEndian s.now result }
 {
-    if let Some(bytes) = s.as_array() {
+    if let Some(bytes) = s.as_array::<8>() {
         return u64::from_be_bytes(*bytes);
     }
-    if let Some(bytes) = s.as_array() {
+    if let Some(bytes) = s.as_array::<4>() {
         return u64::from(u32::from_be_bytes(*bytes));
     }
-    if let Some(bytes) = s.as_array() {
+    if let Some(bytes) = s.as_array::<2>() {
         return u64::from(u16::from_be_bytes(*bytes));
     }
     byte_by_byte(s)
