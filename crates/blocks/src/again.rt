@@ -20,7 +20,8 @@ pub struct Summary {
     pub used: u64,
 }
 
-// Where a block's content is, counted from the block's first byte, and whether it is compressed.
+// Where a block's content is, counted from the block's first byte, and whether it is compressed. Content that is not
+// inside the bytes is an empty range and no Option, since the walk, which reads sound blocks only, could not meet None.
 #[derive(Clone, Copy)]
 pub struct Content {
     pub from: usize,

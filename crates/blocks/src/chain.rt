@@ -31,7 +31,9 @@ pub fn walk(s: &[u8], first: usize, offsets: &mut [u64; MOST_BLOCKS]) -> Result<
 }
 
 // Does the same from an offset inside the file. A refused chain leaves what was kept before the refusal. The table is
-// lent as a slice, because in a proof a reference to an array does not tell the array's length.
+// lent as a slice, because in a proof a reference to an array does not tell the array's length. The loop goes on by
+// itself: where the next block begins is known only after this one is read, so there is nothing that a `for` could go
+// along.
 fn walk_inside(s: &[u8], first: usize, offsets: &mut [u64]) -> Result<ChainFound, Refusal>
     requires first_in_bounds { first ≤ length s.now }
     requires offsets_len { length offsets.old ≡ most_blocks }

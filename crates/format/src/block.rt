@@ -16,13 +16,13 @@ pub struct Block {
     pub header_size: u16,
     // Bit 0 is STREAMED.
     pub flags: u32,
-    // The four bytes of the name, the first the most significant; 0 for none.
+    // The four bytes of the name, the first the most significant; 0 for none. It is no Option, since C gets this number.
     pub compression: u32,
     // The three sizes. In a streamed block, each is the length of its content.
     pub allocated: u64,
     pub used: u64,
     pub data_size: u64,
-    // The sixteen bytes of the checksum, in two halves; both are 0 for none.
+    // The sixteen bytes of the checksum, in two halves; both are 0 for none. C gets these two numbers.
     pub checksum_high: u64,
     pub checksum_low: u64,
 }

@@ -32,6 +32,6 @@ impl Offset {
     pub fn outermost(self, content: OutermostOffset) -> OutermostOffset
         ensures { result.0 ≡ wrapped content.0 self.0 }
     {
-        OutermostOffset(std::num::wrapping_add_u64(content.0, self.0))
+        OutermostOffset(content.0.wrapping_add(self.0))
     }
 }

@@ -40,8 +40,8 @@ fn walk_blocks(
     // One table serves all inner files, because each is finished before the next is opened.
     let mut inside = [0u64; MOST_BLOCKS];
     let mut n = number;
-    for k in 0..file.offsets.len() {
-        let at = file.offsets[k] as usize;
+    for (k, offset) in file.offsets.iter().enumerate() {
+        let at = *offset as usize;
         let block = Reached {
             bytes: &file.bytes[at..],
             ordinal: k as u8,

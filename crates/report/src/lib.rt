@@ -21,7 +21,8 @@ pub fn print_input<R: Read, W: Write>(input: &mut R, to: &mut W) -> io::Result<(
     print_listing(&bytes[..n], to)
 }
 
-// Reads until the buffer is full or the input ends, and returns how many bytes were read.
+// Reads until the buffer is full or the input ends, and returns how many bytes were read. The loop counts them: each read
+// says how many it gave, and the library's `read_to_end` would take memory from the heap.
 fn read_full<R: Read>(input: &mut R, buf: &mut [u8]) -> io::Result<usize>
     ensures bound { IfOk result (λ n. n ≤ length buf.new) }
     ensures bytes { IfOk result (λ n. Consumes (R.remaining input.old) (R.remaining input.new)

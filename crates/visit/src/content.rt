@@ -7,7 +7,8 @@ use format::block::Inner;
 use format::limits::{DEEPEST, MOST_BLOCKS};
 use scan::text;
 
-// What a block's content is, and how many blocks in it must be walked: none if it is not opened.
+// What a block's content is, and how many blocks in it must be walked: none if it is not opened, or if it has none. The
+// walk asks only for this number, so it is no Option.
 #[derive(Clone, Copy)]
 pub struct Found {
     pub inner: Inner,
