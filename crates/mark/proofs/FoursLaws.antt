@@ -3,8 +3,8 @@
 use Prim.Native.Nat.{ℕ, zero, suc, ◌+◌, ◌-◌, ◌*◌, ◌/◌, ◌%◌, ◌≤◌, ◌<◌}
 use native.Mathlib.Nat.{add-zero}
 use native.Mathlib.Omega.{arith}
-use mathlib.Core.Path.{◌≡◌, refl, sym, ap, subst, ◌∙◌}
-use mathlib.Core.Bool.{Bool, true, false, not, ◌&&◌, ◌||◌, or-true, true≢false}
+use mathlib.Core.Path.{◌≡◌, refl, sym, ap, ◌∙◌}
+use mathlib.Core.Bool.{Bool, true, false, not, true≢false}
 use mathlib.Core.List.{[], ◌∷◌, ◌++◌}
 use mathlib.Mathlib.Data.Bool.Basic.{eq-false_of_not-eq-true}
 use lib.ListN.{length, take, drop, get_or, drop_of_length-le, length-drop}
@@ -22,7 +22,7 @@ use Rattle.format.proofs.ByteLaws.{begins_true, and_both, and_left, and_right}
 use Rattle.format.proofs.LocalLaws.{free_space_mark}
 use Rattle.scan.proofs.TextLaws.{begins_inside}
 use Rattle.mark.specs.Mark.{Skipped}
-use Rattle.mark.specs.Fours.{FirstIn, FourthsUpTo, IsOfMark, Told, InMark, fourth_of_mark, begins_mark}
+use Rattle.mark.specs.Fours.{FirstIn, FourthsUpTo, IsOfMark, Told, fourth_of_mark, begins_mark}
 use Rattle.mark.proofs.MarkLaws.{mark_none_here, skip_none}
 
 -- What holds for positions 0, 1, 2 and 3 holds for every position in a mark.
@@ -88,12 +88,6 @@ module _ (t : Bytes) (from i : ℕ) (before : Skipped t from i) where
     pub fours_here : r < i + 4 → r ≡ from + free_space (drop from t)
     fours_here h = omega (arith, together, free_space_mark (drop r t) (first.here h))
 
-    -- If no mark begins at one of them, these four bytes are skipped.
-    pub fours_on : i + 4 ≤ r → Skipped t from (i + 4)
-    fours_on h =
-        let e : r ≡ i + 4 = omega (arith, first.order) in
-        record { is = rw e at together; after = omega (arith, before.after); inside = omega (arith, first.skipped.inside) }
-
   -- If fewer than four bytes are left, they hold no mark, and the result is the end.
   pub fours_end : length t - i < 4 → length t ≡ from + free_space (drop from t)
   unfolding free_space
@@ -119,10 +113,6 @@ module _ (t : Bytes) (i : ℕ) (before : Skipped t 0 i) where
 
       room : 67 ≤ length t - i
       room = simp (take_rest, length-drop) at chunk.enough
-
-  -- The first mark from `i` on is the first of all.
-  pub block_rest : (r : ℕ) → r ≡ i + free_space (drop i t) → r ≡ free_space t
-  block_rest r e = omega (arith, before.is)
 
 -- `back` is the position in a mark of the last of four bytes, or 4 if this byte belongs to no mark.
 module _ (t : Bytes) (i back : ℕ) (room : i + 4 ≤ length t) (is : back ≡ 0 + index_of (get_or t (i + 3) 0) (slice 0 4 mark)) where
@@ -157,46 +147,6 @@ module _ (t : Bytes) (i back : ℕ) (room : i + 4 ≤ length t) (is : back ≡ 0
         go p a b true q h = true≢false (sym (rw (eqb-true p (i + 3 - back) q) at h) ∙ sym mark-is ∙ e)
         go p a b false q h = other_start p a b (λ s. eqb-false p (i + 3 - back) q (omega arith)) h
 
--- If `b` is a byte of a mark, comparing it with all four finds it.
-pub in_mark : (b : ℕ) → InMark b (eqb b 0xD3 || eqb b 0x42 || eqb b 0x4C || eqb b 0x4B)
-in_mark b = record { tells = λ m. rw m.is (each m.place m.few) }
-  where
-    compared : ℕ → Bool
-    compared b = eqb b 0xD3 || eqb b 0x42 || eqb b 0x4C || eqb b 0x4B
-
-    each : (j : ℕ) → j < 4 → compared (get_or mark j 0) ≡ true
-    each = four_places (λ j. compared (get_or mark j 0) ≡ true) refl refl refl refl
-
--- Before the first step nothing is tested, so the answer is false.
-pub told_none : (p : ℕ → Type 0) → Told p 0 false
-told_none p = record { tells = λ i h. absurd (omega arith) }
-
--- If `x` is true when `p` holds for `k`, then `seen || x` is the answer for the numbers below `k + 1`.
-told_step : (p : ℕ → Type 0) (k : ℕ) (seen x : Bool) → Told p k seen → (p k → x ≡ true) → Told p (k + 1) (seen || x)
-told_step p k seen x h one = record { tells = λ i q. go i q (eqb i k) refl }
-  where
-    go : (i : ℕ) → i < k + 1 → (y : Bool) → eqb i k ≡ y → p i → (seen || x) ≡ true
-    go i q true e f = ap (λ (y : Bool). seen || y) (one (subst p (eqb-true i k e) f)) ∙ or-true seen
-    go i q false e f = ap (λ (y : Bool). y || x) (h.tells i (omega (arith, eqb-false i k e)) f)
-
--- When `k` is 64, the answer covers all 64 numbers.
-pub told_all : (p : ℕ → Type 0) (k : ℕ) (seen : Bool) → Told p k seen → k ≤ 64 → 64 ≤ k → Told p 64 seen
-told_all p k seen h a b = record { tells = λ i l. h.tells i (omega arith) }
-
--- When one more byte is tested, the answer covers it: whether it is a fourth byte and belongs to a mark.
-pub fourth_step : (t : Bytes) (k : ℕ) (seen x : Bool) → Told (fourth_of_mark t) k seen → InMark (get_or t k 0) x
-    → Told (fourth_of_mark t) (k + 1) (seen || (eqb (k % 4) 3 && x))
-fourth_step t k seen x h one = told_step (fourth_of_mark t) k seen _ h (λ f. rw (f.0, one.tells f.1) refl)
-
--- When one more byte is tested, the answer covers it: whether a mark begins there.
-pub begin_step : (t : Bytes) (k : ℕ) (seen x : Bool) → Told (begins_mark t) k seen → x ≡ begins mark (drop k t)
-    → Told (begins_mark t) (k + 1) (seen || x)
-begin_step t k seen x h one = told_step (begins_mark t) k seen x h (λ m. one ∙ m)
-
--- Before the first step no byte is looked at, so the bound is 0.
-pub fourths_begin : (t : Bytes) → FourthsUpTo t 0 0
-fourths_begin t = record { most = λ j h. absurd (omega arith) }
-
 -- If the next fourth byte is added with a bitwise or, the result is a bound for all fourth bytes so far.
 pub fourths_step : (t : Bytes) (k seen : ℕ) → FourthsUpTo t k seen → FourthsUpTo t (k + 1) (bit_or seen (get_or t (4 * k + 3) 0))
 fourths_step t k seen h = record { most = λ j q. go j q (eqb j k) refl }
@@ -209,10 +159,6 @@ fourths_step t k seen h = record { most = λ j q. go j q (eqb j k) refl }
     go j q false e =
         let less : j < k = omega (arith, eqb-false j k e) in
         omega (arith, h.most j less, or_add_and seen b, and_le_r seen b)
-
--- When `k` is 16, the bound covers all 16 fourth bytes.
-pub fourths_done : (t : Bytes) (k seen : ℕ) → FourthsUpTo t k seen → k ≤ 16 → 16 ≤ k → FourthsUpTo t 16 seen
-fourths_done t k seen h p q = record { most = λ j l. h.most j (omega arith) }
 
 -- If no fourth byte of 64 bytes belongs to a mark, no mark begins at one of the 64.
 unmarked : (t : Bytes) → ((i : ℕ) → i < 64 → i % 4 ≡ 3 → IsOfMark (get_or t i 0) → ⊥) → Told (begins_mark t) 64 false

@@ -50,9 +50,6 @@ pub record Putting (before : Bytes) (at x : ℕ) (out : Bytes) (place rest : ℕ
   pub put : sets out at (decimal rest) ≡ sets before at (decimal x)
 
 module _ (before : Bytes) (at x : ℕ) where
-  pub digits_start : (n : ℕ) → n ≡ length (decimal x) → at + n ≤ length before → Putting before at x before (at + n) x
-  digits_start n e h = record { size = refl; inside = h; digits = omega arith; put = refl }
-
   module _ (out : Bytes) (place rest : ℕ) (h : Putting before at x out place rest) where
     -- When the last digit that is left is put, the invariant holds for the digits before it.
     pub digits_step : at + 1 < place → Putting before at x (set out (place - 1) (48 + rest % 10)) (place - 1) (rest / 10)

@@ -184,11 +184,3 @@ module _ (s : Bytes) (at : ℕ) (r : Option Line) (read : LineRead s at r) where
     -- The offsets of the line are in order and inside.
     pub ended_inside : EndsInside (length s) at found.text_end found.next
     ended_inside = rw e at read.inside
-
-    -- The text of the line ends at or after the offset where it begins.
-    pub ended_begin : at ≤ found.text_end
-    ended_begin = ended_inside.begin
-
-    -- The text of the line ends inside.
-    pub ended_end : found.text_end ≤ length s
-    ended_end = omega (arith, ended_inside)

@@ -1,14 +1,12 @@
 -- One law for each return from the loops over bytes. The invariant of each loop: what is left to test gives the same
 -- answer as all that had to be tested.
-use Prim.Native.Nat.{ℕ, ◌+◌, ◌^◌, ◌≤◌, ◌<◌}
+use Prim.Native.Nat.{ℕ, ◌+◌, ◌≤◌, ◌<◌}
 use native.Mathlib.Omega.{arith}
 use mathlib.Core.Path.{◌≡◌, refl, sym, ◌∙◌, ap}
 use mathlib.Core.Bool.{Bool, true, false, ◌&&◌, ◌||◌, and-false}
 use mathlib.Core.List.{[], ◌∷◌, ◌++◌}
 use lib.ListN.{length, drop, drop_of_length-le, length-append, length-drop}
 use lib.Dec.{eqb}
-use mir.Syntax.{w64}
-use mir.Val.{Fits}
 use borrow.Author.Tests.{lt-leb, ne_eqb}
 use Rattle.format.specs.Bytes.{Bytes, begins, all_zero}
 use Rattle.format.proofs.ByteLaws.{begins_true}
@@ -53,11 +51,6 @@ begins_past (a ∷ k) s at x h e = rw (drop_of_length-le s {i = at} (omega arith
 pub begins_inside : (k : Bytes) (at : ℕ) (s : Bytes) → begins k (drop at s) ≡ true → 1 ≤ length k → at + length k ≤ length s
 begins_inside k at s h p =
     omega (arith, simp (length-append, length-drop) at (ap length (begins_true k (drop at s) h)))
-
--- Hence the offset after the first `n` bytes of the word fits into 64 bits.
-pub begins_fits : (k : Bytes) (at : ℕ) (s : Bytes) (x : Bool) (n : ℕ) → x ≡ begins k (drop at s) → x ≡ true → length s < 2 ^ 64
-    → 1 ≤ n → n ≤ length k → Fits w64 (at + n)
-begins_fits k at s x n h e l p q = omega (arith, begins_inside k at s (sym h ∙ e) (omega arith))
 
 -- Zeros at the front do not count: all bytes are zero exactly if the others are.
 zeros_front : (u v : Bytes) → list_any (λ b. not (b == 0)) u ≡ false → all_zero (u ++ v) ≡ all_zero v

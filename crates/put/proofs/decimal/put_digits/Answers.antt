@@ -1,9 +1,6 @@
 use Rattle.std.proofs.Common.{rules, arith}
-use Rattle.put.proofs.DecimalLaws.{digits_start, digits_step, digits_last, digits_first, digits_done}
+use Rattle.put.proofs.DecimalLaws.{digits_step, digits_last, digits_first, digits_done}
 use Rattle.put.proofs.decimal.put_digits.Goals as goal
-
-pub loop-place-init : goal.loop-place-init
-loop-place-init c = search (digits_start, rules)
 
 pub loop-place-preserved : goal.loop-place-preserved
 loop-place-preserved c = search (digits_step, rules)

@@ -1,11 +1,7 @@
 -- If the first byte is 0A, the line is empty and consists of its line end.
 use Rattle.std.proofs.Common.{rules}
-use Rattle.scan.proofs.TextLaws.{begins_fits}
 use Rattle.scan.proofs.LineLaws.{line_empty}
 use Rattle.scan.proofs.line.line_at.Goals as goal
-
-pub overflow_add-result : goal.overflow_add-result
-overflow_add-result c = search (begins_fits, rules)
 
 pub returns-then-begins_at : goal.returns-then-begins_at
 returns-then-begins_at c = search (line_empty, rules)
