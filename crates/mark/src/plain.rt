@@ -5,7 +5,8 @@ ghost use Rattle.mark.specs.Mark.{Skipped};
 
 use crate::is_mark;
 
-// Returns how many bytes come before the first mark, or before the end if there is none.
+// Returns how many bytes come before the first mark, or before the end if there is none. The loop counts offsets, since
+// it goes on by fours and by single bytes in turn.
 pub(crate) fn free_space(t: &[u8]) -> usize
     ensures { (result ≡ free_space t.now) × (result ≤ length t.now) }
 {
