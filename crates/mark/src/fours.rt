@@ -10,7 +10,8 @@ use crate::{is_mark, mark_at};
 
 // Returns how many bytes come before the first mark, or before the end if there is none. Blocks of 64 bytes (not blocks
 // of a file) are tested for the marks that begin in them. Such a mark may end up to three bytes after the block, so
-// three more bytes have to be there.
+// three more bytes have to be there. The loop counts the offset, since the blocks overlap
+// by these three bytes.
 pub(crate) fn free_space(t: &[u8]) -> usize
     ensures { (result ≡ free_space t.now) × (result ≤ length t.now) }
 {
