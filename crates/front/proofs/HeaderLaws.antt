@@ -1,16 +1,18 @@
 -- Laws about the header: one for each return of the functions that read the version and the header.
-use Prim.Native.Nat.{ℕ, suc, ◌+◌, ◌-◌, ◌≤◌}
+use Prim.Native.Nat.{ℕ, ◌-◌}
 use native.Mathlib.Omega.{arith}
 use mathlib.Core.Path.{◌≡◌, refl, sym, ap, ◌∙◌}
-use mathlib.Core.Bool.{Bool, true, false, not, and-false}
-use mathlib.Core.List.{List, [], ◌∷◌, ◌++◌}
+use mathlib.Core.Bool.{Bool, true, false, not}
+use mathlib.Core.List.{List, [], ◌∷◌}
+use denote.Ref.{Bor}
 use Rattle.std.specs.Prelude.{Option, None, Some}
-use lib.ListN.{length, take, drop}
+use Rattle.std.specs.Iterator.{AlwaysYields}
+use Rattle.std.proofs.lemmas.Iterator.{YieldsList}
+use Rattle.std.specs.Option.{is_some}
+use lib.ListN.{take, drop}
 use mir.Syntax.{w16}
 use mir.Val.{Fits}
 use borrow.Author.Tests.{not-true, not-false, eq-eqb, ne_eqb}
-use Rattle.octets.specs.Octets.{index_of}
-use Rattle.std.proofs.Math.Seq.{slice}
 use Rattle.format.specs.declared.refusal.Refusal.{Refusal}
 use Rattle.format.specs.declared.layout.Version.{Version}
 use Rattle.format.specs.declared.layout.Header.{Header as Header·is}
@@ -18,46 +20,51 @@ use Rattle.format.specs.declared.refusal.Reason.TheVariants.{NotAsdf, VersionMal
 use Rattle.format.specs.Bytes.{Bytes, begins}
 use Rattle.format.specs.Outcome.{Outcome, accepted, refused, refusal}
 use Rattle.format.specs.Line.{lines}
-use Rattle.format.specs.Numeral.{is_numeral, numeral, both, numerals, split}
+use Rattle.format.specs.Numeral.{numeral, both, numerals, split}
 use Rattle.format.specs.Header as Header
-use Rattle.format.proofs.PartLaws.{part_all}
-use Rattle.format.proofs.NumeralLaws.{digits_append, joined, AreParts, split_parts}
 use Rattle.scan.specs.declared.line.Line.{Line}
 use Rattle.scan.specs.Line.{LineRead}
 use Rattle.scan.specs.Number.{NumeralRead}
 use Rattle.scan.proofs.LineLaws.{unended_lines, ended_first}
-use Rattle.scan.proofs.SplitLaws.{others, split_found, others_none, others_some}
 
--- If there are numbers, then there are `n` of them.
-abbrev Counts : ℕ → Option (List ℕ) → Type 0
-Counts n None = Unit {0}
-Counts n (Some xs) = length xs ≡ n
+-- A number of at most four digits fits into 16 bits.
+pub part_fits : (p : Bytes) (r : Option ℕ) (x : ℕ) → NumeralRead p 4 r → r ≡ Some x → Fits w16 x
+part_fits p r x read e = let few = rw e at read.small in omega arith
 
--- If there are `n` numbers, then with one more there are `n + 1`.
-counts_more : (a : Option ℕ) (o : Option (List ℕ)) (n : ℕ) → Counts n o → Counts (suc n) (both a o)
-unfolding both
-counts_more None o n h = tt
-counts_more (Some x) None n h = tt
-counts_more (Some x) (Some xs) n h = ap suc h
+-- From the state `s` of an iterator the parts `ps` are left, and a call of `next` leads to the state `u`.
+module _ {S : Type 0} {steps : S → Option (Bor Bytes) → S → Type 0} {s : S} {ps : List Bytes} (left : YieldsList steps (λ x. x.now) s ps)
+    (r : Option (Bor Bytes)) (u : S) (step : steps s r u) where
+  -- If it yields a part, then this is the first that was left, and the others are still left.
+  pub next_part : (x : Bor Bytes) → r ≡ Some x → (qs : List Bytes) × (ps ≡ x.now ∷ qs) × YieldsList steps (λ x. x.now) u qs
+  next_part x e = go ps left.runs (rw e at step)
+    where
+      go : (ps : List Bytes) → AlwaysYields steps (λ x. x.now) s ps → steps s (Some x) u
+          → (qs : List Bytes) × (ps ≡ x.now ∷ qs) × YieldsList steps (λ x. x.now) u qs
+      go [] h k = absurd (h x u k)
+      go (p ∷ ps) h k = let m = h.1 x u k in (ps, ap (λ q. q ∷ ps) (sym m.0), record { runs = m.1 })
 
--- There are as many numbers as parts.
-numbers_count : (ps : List Bytes) → Counts (length ps) (numerals 4 ps)
-unfolding numerals
-numbers_count [] = refl
-numbers_count (p ∷ ps) = counts_more (numeral 4 p) (numerals 4 ps) (length ps) (numbers_count ps)
+  -- If it yields none, then no part was left.
+  pub no_part : r ≡ None → ps ≡ []
+  no_part e = go ps left.runs (rw e at step)
+    where
+      go : (ps : List Bytes) → AlwaysYields steps (λ x. x.now) s ps → steps s None u → ps ≡ []
+      go [] h k = refl
+      go (p ∷ ps) h k = absurd (h.0 u k)
 
--- If there are not exactly three parts, then they are no version.
-not_three : (ps : List Bytes) → (length ps ≡ 3 → ⊥) → Header.version_of (numerals 4 ps) ≡ None
-unfolding Header.version_of
-not_three ps n = go (numerals 4 ps) (numbers_count ps)
-  where
-    go : (o : Option (List ℕ)) → Counts (length ps) o → Header.version_of o ≡ None
-    go None h = refl
-    go (Some []) h = refl
-    go (Some (x ∷ [])) h = refl
-    go (Some (x ∷ y ∷ [])) h = refl
-    go (Some (x ∷ y ∷ z ∷ [])) h = absurd (n (sym h))
-    go (Some (x ∷ y ∷ z ∷ w ∷ r)) h = refl
+  -- Whether it yields a part is whether one was left.
+  pub some_part : is_some r ≡ true → (p : Bytes) × (qs : List Bytes) × (ps ≡ p ∷ qs)
+  some_part e = go r refl
+    where
+      go : (o : Option (Bor Bytes)) → r ≡ o → (p : Bytes) × (qs : List Bytes) × (ps ≡ p ∷ qs)
+      go None k = let z : ◌≡◌ {A = ℕ} 0 1 = cc (rw k at e) in absurd (omega arith)
+      go (Some x) k = let m = next_part x k in (x.now, m.0, m.1)
+
+  pub none_left : is_some r ≡ false → ps ≡ []
+  none_left e = go r refl
+    where
+      go : (o : Option (Bor Bytes)) → r ≡ o → ps ≡ []
+      go None k = no_part k
+      go (Some x) k = let z : ◌≡◌ {A = ℕ} 0 1 = cc (rw k at e) in absurd (omega arith)
 
 -- If the other parts give no numbers, then all parts together give none.
 both_none : (a : Option ℕ) → both a None ≡ None
@@ -65,80 +72,67 @@ unfolding both
 both_none None = refl
 both_none (Some x) = refl
 
--- A text that contains a point is no number.
-point_none : (p s : Bytes) → numeral 4 (p ++ (46 ∷ s)) ≡ None
-unfolding numeral
-point_none p s =
-    let other : is_numeral 4 (p ++ (46 ∷ s)) ≡ false = simp (digits_append, and-false) in
-    rw (other, numeral)
+-- More than three numbers are no version.
+four_parts : (a b c d : Option ℕ) (o : Option (List ℕ)) → Header.version_of (both a (both b (both c (both d o)))) ≡ None
+unfolding Header.version_of both
+four_parts None b c d o = refl
+four_parts (Some x) None c d o = refl
+four_parts (Some x) (Some y) None d o = refl
+four_parts (Some x) (Some y) (Some z) None o = refl
+four_parts (Some x) (Some y) (Some z) (Some w) None = refl
+four_parts (Some x) (Some y) (Some z) (Some w) (Some ns) = refl
 
--- All that is left may be taken as the third part. If it contains a further point, there is no version either way.
-last_part : (p q z : Bytes) (ps : List Bytes) → AreParts 46 z ps → Header.version_of (numerals 4 (p ∷ q ∷ ps)) ≡ Header.version_of (numerals 4 (p ∷ q ∷ z ∷ []))
-unfolding Header.version_of joined numerals both
-last_part p q z [] a = absurd (omega (arith, a.some_part))
-last_part p q z (u ∷ []) a = rw (← a.whole)
-last_part p q z (u ∷ v ∷ ps) a =
-    not_three (p ∷ q ∷ u ∷ v ∷ ps) (λ e. omega arith)
-    ∙ sym (rw (← a.whole, point_none u (joined 46 (v ∷ ps)), both_none, both_none))
+-- If there is no part, then there is no version.
+pub version_none : (t : Bytes) → split 46 t ≡ [] → (v : Option Version) → v ≡ None → v ≡ Header.version t
+unfolding Header.version Header.version_of numerals
+version_none t a v n = n ∙ sym (rw a)
 
--- A number of at most four digits fits into 16 bits.
-pub part_fits : (p : Bytes) (r : Option ℕ) (x : ℕ) → NumeralRead p 4 r → r ≡ Some x → Fits w16 x
-part_fits p r x read e = let few = rw e at read.small in omega arith
+module _ (t p : Bytes) (ps : List Bytes) (a : split 46 t ≡ p ∷ ps) (x : Option ℕ) (major : x ≡ numeral 4 p) where
+  -- If the first part is no number, then `t` is no version.
+  pub version_major : x ≡ None → (v : Option Version) → v ≡ None → v ≡ Header.version t
+  unfolding Header.version Header.version_of numerals both
+  version_major e v n = n ∙ sym (rw (a, numerals, ← major, e))
 
-module _ (t : Bytes) (first : ℕ) (f : first ≡ 0 + index_of 46 (slice 0 (length t) t)) where
-  -- The parts of `t` are the bytes before the first point, and the other parts.
-  first_part : split 46 t ≡ take first t ∷ others 46 (drop first t)
-  first_part = let all : first - 0 ≡ first = omega arith in rw all at (split_found 46 t 0 first f)
+  -- If there is only one part, then `t` is no version.
+  pub version_one : ps ≡ [] → (v : Option Version) → v ≡ None → v ≡ Header.version t
+  unfolding Header.version Header.version_of numerals both
+  version_one e v n = n ∙ sym (rw (a, e) (one (numeral 4 p)))
+    where
+      one : (o : Option ℕ) → Header.version_of (both o (Some [])) ≡ None
+      one None = refl
+      one (Some x) = refl
 
-  -- If `t` has no point, then it is no version.
-  pub version_one : first ≡ length t → None ≡ Header.version t
-  unfolding Header.version
-  version_one e = rw (first_part, others_none 46 t first e) (sym (not_three _ (λ z. omega arith)))
+  module _ (q : Bytes) (qs : List Bytes) (b : ps ≡ q ∷ qs) (y : Option ℕ) (minor : y ≡ numeral 4 q) where
+    -- If the second part is no number, then `t` is no version.
+    pub version_minor : y ≡ None → (v : Option Version) → v ≡ None → v ≡ Header.version t
+    unfolding Header.version Header.version_of numerals both
+    version_minor e v n = n ∙ sym (rw (a, b, numerals, ← minor, e, both_none))
 
-  module _ (n : first ≡ length t → ⊥) (h : first ≤ length t) (second : ℕ) (g : second ≡ first + 1 + index_of 46 (slice (first + 1) (length t) t)) where
-    -- The parts of `t` are the bytes before the first point, the bytes between it and the second, and the other parts.
-    two_parts : split 46 t ≡ take first t ∷ take (second - (first + 1)) (drop (first + 1) t) ∷ others 46 (drop second t)
-    two_parts = first_part ∙ ap (λ (ps : List Bytes). take first t ∷ ps) (others_some 46 t first (omega arith) ∙ split_found 46 t (first + 1) second g)
+    -- If there are only two parts, then `t` is no version.
+    pub version_two : qs ≡ [] → (v : Option Version) → v ≡ None → v ≡ Header.version t
+    unfolding Header.version Header.version_of numerals both
+    version_two e v n = n ∙ sym (rw (a, b, e) (two (numeral 4 p) (numeral 4 q)))
+      where
+        two : (o i : Option ℕ) → Header.version_of (both o (both i (Some []))) ≡ None
+        two None i = refl
+        two (Some x) None = refl
+        two (Some x) (Some y) = refl
 
-    -- If `t` has only one point, then it is no version.
-    pub version_two : second ≡ length t → None ≡ Header.version t
-    unfolding Header.version
-    version_two e = rw (two_parts, others_none 46 t second e) (sym (not_three _ (λ z. omega arith)))
+    module _ (r : Bytes) (rs : List Bytes) (c : qs ≡ r ∷ rs) (z : Option ℕ) (patch : z ≡ numeral 4 r) where
+      -- If the third part is no number, then `t` is no version.
+      pub version_patch : z ≡ None → (v : Option Version) → v ≡ None → v ≡ Header.version t
+      unfolding Header.version Header.version_of numerals both
+      version_patch e v n = n ∙ sym (rw (a, b, c, numerals, ← patch, e, both_none, both_none))
 
-    module _ (n' : second ≡ length t → ⊥) (h' : second ≤ length t) where
-      -- If `t` has a second point, then its version is that of three parts. The third part is all that follows this
-      -- point.
-      three_parts : Header.version t
-          ≡ Header.version_of (numerals 4 (take first t
-          ∷ take (second - (first + 1)) (drop (first + 1) t)
-          ∷ take (length t - (second + 1)) (drop (second + 1) t)
-          ∷ []))
-      unfolding Header.version
-      three_parts =
-          rw (two_parts, others_some 46 t second (omega arith), part_all t (second + 1)) (last_part _ _ _ _ (split_parts 46 _))
+      -- If there is a fourth part, then `t` is no version.
+      pub version_more : (w : Bytes) (ws : List Bytes) → rs ≡ w ∷ ws → None ≡ Header.version t
+      unfolding Header.version numerals
+      version_more w ws d = sym (rw (a, b, c, d) (four_parts (numeral 4 p) (numeral 4 q) (numeral 4 r) (numeral 4 w) (numerals 4 ws)))
 
-      module _ (a : Option ℕ) (major : NumeralRead (take first t) 4 a) where
-        -- If the first part is no number, then `t` is no version.
-        pub version_major : a ≡ None → (v : Option Version) → v ≡ None → v ≡ Header.version t
-        unfolding Header.version_of numerals both
-        version_major e v n = n ∙ sym (three_parts ∙ rw (← major.is, e))
-
-        module _ (x : ℕ) (d : a ≡ Some x) (b : Option ℕ) (minor : NumeralRead (take (second - (first + 1)) (drop (first + 1) t)) 4 b) where
-          -- If the second part is no number, then `t` is no version.
-          pub version_minor : b ≡ None → (v : Option Version) → v ≡ None → v ≡ Header.version t
-          unfolding Header.version_of numerals both
-          version_minor e v n = n ∙ sym (three_parts ∙ rw (← major.is, ← minor.is, d, e))
-
-          module _ (y : ℕ) (e : b ≡ Some y) (c : Option ℕ) (patch : NumeralRead (take (length t - (second + 1)) (drop (second + 1) t)) 4 c) where
-            -- If the third part is no number, then `t` is no version.
-            pub version_patch : c ≡ None → (v : Option Version) → v ≡ None → v ≡ Header.version t
-            unfolding Header.version_of numerals both
-            version_patch k v n = n ∙ sym (three_parts ∙ rw (← major.is, ← minor.is, ← patch.is, d, e, k))
-
-            -- If each part is a number, then these three numbers are the version.
-            pub version_read : (z : ℕ) → c ≡ Some z → Some (record { major = x; minor = y; patch = z }) ≡ Header.version t
-            unfolding Header.version_of numerals both
-            version_read z k = sym (three_parts ∙ rw (← major.is, ← minor.is, ← patch.is, d, e, k))
+      -- If there are three parts and each is a number, then these three numbers are the version.
+      pub version_read : rs ≡ [] → (i j k : ℕ) → x ≡ Some i → y ≡ Some j → z ≡ Some k → Some (record { major = i; minor = j; patch = k }) ≡ Header.version t
+      unfolding Header.version Header.version_of numerals both
+      version_read d i j k e f g = sym (rw (a, b, c, d, numerals, ← major, ← minor, ← patch, e, f, g))
 
 module _ (s : Bytes) (b : Bool) (h : b ≡ begins Header.token s) where
   -- If the file does not begin with the token, then it is refused with number 2 at place 0.

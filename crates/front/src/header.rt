@@ -1,6 +1,7 @@
 // The header: `#ASDF`, one space, a version and a line end.
 ghost use Rattle.std.specs.Prelude.{◌≡◌};
 ghost use Rattle.format.specs.Header.{header, version};
+ghost use Rattle.format.specs.Numeral.{numeral};
 
 use format::layout::{Header, Version};
 use format::offset::Offset;
@@ -31,23 +32,24 @@ pub fn read_header(s: &[u8]) -> Result<Header, Refusal>
 fn read_version(t: &[u8]) -> Option<Version>
     ensures { result ≡ version t.now }
 {
-    let n = t.len();
-    let first = octets::find(t, 0, n, b'.');
-    if first == n {
+    let mut parts = t.split(|b| *b == b'.');
+    let major = number(parts.next()?)?;
+    let minor = number(parts.next()?)?;
+    let patch = number(parts.next()?)?;
+    if parts.next().is_some() {
         return None;
     }
-    let from = first + 1;
-    let second = octets::find(t, from, n, b'.');
-    if second == n {
-        return None;
-    }
-    let last = second + 1;
-    let major = number::numeral(&t[..first], 4)?;
-    let minor = number::numeral(&t[from..second], 4)?;
-    let patch = number::numeral(&t[last..], 4)?;
     Some(Version {
-        major: major as u16,
-        minor: minor as u16,
-        patch: patch as u16,
+        major,
+        minor,
+        patch,
     })
+}
+
+// Reads one of the numbers of a version.
+fn number(t: &[u8]) -> Option<u16>
+    ensures { result ≡ numeral 4 t.now }
+{
+    let x = number::numeral(t, 4)?;
+    Some(x as u16)
 }
