@@ -53,21 +53,23 @@ unfolding index_text rendering styled_text
 index_parts Lf ns = rw (← list_decimals ns) (ap (λ (t : Bytes). front_text Lf ++ t) (sym (after_list (entries (spaced ns)) (line_end Lf))))
 index_parts Crlf ns = rw (← list_decimals ns) (ap (λ (t : Bytes). front_text Crlf ++ t) (sym (after_list (entries (spaced ns)) (line_end Crlf))))
 
--- The text before the list and the text after it are put with the right line end.
-module _ (out after : Bytes) (e k : LineEnd) (h : e ≡ k) (r : ℕ) where
-  pub front_put : PutWhole out after 0 (front_text k) (length (front_text k)) r → length (front_text k) ≤ most_front → PutAt out after 0 (front_text e) most_front r
-  front_put put few = rw h (put_same refl few (whole_put put))
+-- The texts around the list are short, with either line end.
+front_few : (e : LineEnd) → length (front_text e) ≤ most_front
+front_few Lf = omega arith
+front_few Crlf = omega arith
 
-  pub back_put : (at : ℕ) → PutWhole out after at (back_text k) (length (back_text k)) r → length (back_text k) ≤ most_back → PutAt out after at (back_text e) most_back r
-  back_put at put few = rw h (put_same refl few (whole_put put))
+back_few : (e : LineEnd) → length (back_text e) ≤ most_back
+back_few Lf = omega arith
+back_few Crlf = omega arith
 
 -- If the three parts are put one after another, then the index is put.
-pub index_put : (out a b c : Bytes) (e : LineEnd) (ns : List ℕ) (from to r : ℕ) → PutAt out a 0 (front_text e) most_front from
-    → PutDecimals a b from comma ns to
-    → PutAt b c to (back_text e) most_back r
-    → length ns ≤ most_blocks
-    → PutAt out c 0 (index_text e ns) most_text r
-index_put out a b c e ns from to r one two three few = put_same (index_parts e ns) (omega arith) (parts_put one (parts_put (decimals_put_lem two) three))
+pub index_put : (e : LineEnd) (front back : Bytes) → front ≡ front_text e → back ≡ back_text e → (out a b c : Bytes) (ns : List ℕ) (from to r : ℕ)
+    → PutWhole out a 0 front (length front) from → PutDecimals a b from comma ns to → PutWhole b c to back (length back) r
+    → length ns ≤ most_blocks → PutAt out c 0 (index_text e ns) most_text r
+index_put e front back p q out a b c ns from to r one two three few =
+    let before = put_same {k = most_front} p (rw p (front_few e)) (whole_put one) in
+    let after = put_same {k = most_back} q (rw q (back_few e)) (whole_put three) in
+    put_same (index_parts e ns) (omega arith) (parts_put before (parts_put (decimals_put_lem two) after))
 
 module _ (k : LineEnd) (ns : List ℕ) where
   -- If there are too many offsets, then the writer refuses with number 22 at place 0 and leaves the buffer unchanged.

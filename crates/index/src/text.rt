@@ -1,9 +1,9 @@
 // The text of an index.
-ghost use Rattle.std.specs.Prelude.{◌≤◌, length};
+ghost use Rattle.std.specs.Prelude.{◌≡◌, ◌≤◌, length};
 ghost use Rattle.format.specs.Chain.{most_blocks};
 ghost use Rattle.format.specs.Index.{index_text};
 ghost use Rattle.format.specs.Promise.{Written};
-ghost use Rattle.index.specs.Text.{offsets_index, front_text, back_text, most_front, most_back, most_text};
+ghost use Rattle.index.specs.Text.{offsets_index, front_text, back_text, most_text};
 ghost use Rattle.put.specs.Put.{PutAt};
 
 use format::limits::MOST_BLOCKS;
@@ -35,27 +35,27 @@ fn put_index(out: &mut [u8], ending: LineEnd, offsets: &[u64]) -> usize
     requires { length offsets.now ≤ most_blocks }
     ensures { PutAt out.old out.new 0 (index_text ending offsets.now) most_text result }
 {
-    let from = put_front(out, ending);
+    let from = put_text(out, 0, front(ending));
     let to = put_decimals(out, from, b", ", offsets);
-    put_back(out, to, ending)
+    put_text(out, to, back(ending))
 }
 
-// Puts the text before the list at the start of the buffer, and returns where it ends.
-fn put_front(out: &mut [u8], ending: LineEnd) -> usize
-    ensures { PutAt out.old out.new 0 (front_text ending) most_front result }
+// Returns the text before the list.
+fn front(ending: LineEnd) -> &'static [u8]
+    ensures { result.now ≡ front_text ending }
 {
     match ending {
-        LineEnd::Lf => put_text(out, 0, b"#ASDF BLOCK INDEX\n%YAML 1.1\n--- ["),
-        LineEnd::Crlf => put_text(out, 0, b"#ASDF BLOCK INDEX\r\n%YAML 1.1\r\n--- ["),
+        LineEnd::Lf => b"#ASDF BLOCK INDEX\n%YAML 1.1\n--- [",
+        LineEnd::Crlf => b"#ASDF BLOCK INDEX\r\n%YAML 1.1\r\n--- [",
     }
 }
 
-// Puts the text after the list at an offset, and returns where it ends.
-fn put_back(out: &mut [u8], at: usize, ending: LineEnd) -> usize
-    ensures { PutAt out.old out.new at (back_text ending) most_back result }
+// Returns the text after the list.
+fn back(ending: LineEnd) -> &'static [u8]
+    ensures { result.now ≡ back_text ending }
 {
     match ending {
-        LineEnd::Lf => put_text(out, at, b"]\n...\n"),
-        LineEnd::Crlf => put_text(out, at, b"]\r\n...\r\n"),
+        LineEnd::Lf => b"]\n...\n",
+        LineEnd::Crlf => b"]\r\n...\r\n",
     }
 }
