@@ -30,7 +30,7 @@ module _ (before after : Bytes) (a : Outcome ℕ) (w : ℕ) (e : w ≡ word a) w
     where
       from : (x : Outcome ℕ) → w ≡ word x → x ≡ accepted w
       from (accepted m) f = ap accepted (sym f)
-      from (refused r) f = let large = word_large (refused r) r refl in absurd (omega arith)
+      from (refused r) f = let large = word_large r in absurd (omega arith)
 
   -- The outline that was written reads back to the rows of the file.
   pub exported_outline : (s : Bytes) → OutlineWritten s before after a → OutlineExported s before after w
@@ -91,7 +91,7 @@ module _ (s t after : Bytes) (a : Outcome (Unit {0})) (h : Done s t after a) (x 
     where
       from : (y : Outcome (Unit {0})) → w ≡ word (◌>>◌ y (accepted 0)) → y ≡ accepted tt
       from (accepted tt) f = refl
-      from (refused r) f = let large = word_large (refused r) r refl in absurd (omega arith)
+      from (refused r) f = let large = word_large r in absurd (omega arith)
 
   -- If the edit was done, 0 is returned.
   edited_zero : a ≡ accepted tt → w ≡ 0

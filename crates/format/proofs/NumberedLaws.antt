@@ -1,14 +1,15 @@
--- The place of a refusal is within the bytes that are read or at their end. This is shown step by
+-- No refusal has the number 0, and its place is within the bytes that are read or at their end. This is shown step by
 -- step: first for one file by itself, then for all that is asked about a file or a stored outline.
 use Rattle.std.proofs.Common.{◌≡◌, ℕ, zero, suc, ◌+◌, ◌*◌, ◌/◌, ◌≤◌, Bool, true, false, leb, List, length, take, drop, refl, ap, arith, length-append, length-drop}
 use Rattle.std.specs.Prelude.{Option, None, Some}
-use Rattle.format.specs.declared.refusal.Reason.TheVariants.{FileTooLong, NotAsdf, NeitherTreeNorBlock}
 use Rattle.format.specs.declared.block.Block.{Block}
 use Rattle.format.specs.declared.block.Record.{Record}
 use Rattle.format.specs.declared.layout.Tree.{Tree}
 use Rattle.format.specs.declared.layout.Version.{Version}
 use Rattle.format.specs.declared.line.LineEnd.{LineEnd}
 use Rattle.format.specs.declared.refusal.Reason.{Reason}
+use Rattle.format.specs.declared.refusal.Reason.TheVariants.{FileTooLong, NotAsdf, VersionMalformed, VersionNotOne, CommentNotEnded, IndexAmongComments, NeitherTreeNorBlock, WrongLineBeforeStart, SecondStartLine, TreeNotEnded, HeaderPassesEnd, HeaderTooSmall, UsedAboveAllocated, DataSizeDiffers, AllocatedPassesEnd, TooManyBlocks, StrayTail, EditWithoutTree, TextNotOneTree, TextLongerThanRoom, BufferTooShort, NoIndexPossible, OutlineLength, OutlineRow, NoSuchBlock}
+use Rattle.format.specs.Reason.{reason_number}
 use Rattle.format.specs.declared.refusal.Refusal.{Refusal}
 use Rattle.format.specs.declared.row.Row.{Row}
 use Rattle.format.specs.Bytes.{Bytes, text, begins, same}
@@ -34,8 +35,37 @@ use Rattle.format.proofs.ReadLaws.{header_bounds, comments_bounds, first_block_b
 use Rattle.format.proofs.BlockLaws.{accepted_block}
 use Rattle.format.proofs.InductionLaws.{chain_induction}
 
--- A proper refusal: its place is at most `most`.
+-- Every reason has a number from 1 on.
+pub reason_positive : (x : Reason) → 1 ≤ reason_number x
+reason_positive FileTooLong = omega arith
+reason_positive NotAsdf = omega arith
+reason_positive VersionMalformed = omega arith
+reason_positive VersionNotOne = omega arith
+reason_positive CommentNotEnded = omega arith
+reason_positive IndexAmongComments = omega arith
+reason_positive NeitherTreeNorBlock = omega arith
+reason_positive WrongLineBeforeStart = omega arith
+reason_positive SecondStartLine = omega arith
+reason_positive TreeNotEnded = omega arith
+reason_positive HeaderPassesEnd = omega arith
+reason_positive HeaderTooSmall = omega arith
+reason_positive UsedAboveAllocated = omega arith
+reason_positive DataSizeDiffers = omega arith
+reason_positive AllocatedPassesEnd = omega arith
+reason_positive TooManyBlocks = omega arith
+reason_positive StrayTail = omega arith
+reason_positive EditWithoutTree = omega arith
+reason_positive TextNotOneTree = omega arith
+reason_positive TextLongerThanRoom = omega arith
+reason_positive BufferTooShort = omega arith
+reason_positive NoIndexPossible = omega arith
+reason_positive OutlineLength = omega arith
+reason_positive OutlineRow = omega arith
+reason_positive NoSuchBlock = omega arith
+
+-- A proper refusal: its number is not 0, and its place is at most `most`.
 pub record Proper (most : ℕ) (r : Refusal) : Type 0 where
+  pub number : 1 ≤ reason_number r.reason
   pub place : r.place.0 ≤ most
 
 -- A numbered outcome: it is accepted, or its refusal is proper.
@@ -64,7 +94,7 @@ module _ (most : ℕ) where
   numbered_need : {A : Type 0} (t : Bool) (x : Reason) (p : ℕ) (o : Outcome A) → p ≤ most → (t ≡ true → Numbered most o)
       → Numbered most (◌>>◌ (need t x p) o)
   numbered_need true x p o l k = k refl
-  numbered_need false x p o l k = omega arith
+  numbered_need false x p o l k = omega (arith, reason_positive x)
 
   -- A numbered step remains numbered with the value `b` as its result.
   pub numbered_done : {A B : Type 0} (o : Outcome A) (b : B) → Numbered most o → Numbered most (◌>>◌ o (accepted b))

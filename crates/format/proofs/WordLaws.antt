@@ -11,35 +11,7 @@ use Rattle.format.specs.Lent.{writes}
 use Rattle.format.specs.Export.{least_refusal, word, said, refused_with}
 use Rattle.format.specs.Promise.{Returned}
 use Rattle.format.proofs.OutcomeLaws.{Accepts, accepts_bind, accepts_need}
-use Rattle.format.proofs.NumberedLaws.{Proper, Numbered, numbered_more, numbered_writes}
-
--- Every reason has a number from 1 on.
-reason_positive : (x : Reason) → 1 ≤ reason_number x
-reason_positive FileTooLong = omega arith
-reason_positive NotAsdf = omega arith
-reason_positive VersionMalformed = omega arith
-reason_positive VersionNotOne = omega arith
-reason_positive CommentNotEnded = omega arith
-reason_positive IndexAmongComments = omega arith
-reason_positive NeitherTreeNorBlock = omega arith
-reason_positive WrongLineBeforeStart = omega arith
-reason_positive SecondStartLine = omega arith
-reason_positive TreeNotEnded = omega arith
-reason_positive HeaderPassesEnd = omega arith
-reason_positive HeaderTooSmall = omega arith
-reason_positive UsedAboveAllocated = omega arith
-reason_positive DataSizeDiffers = omega arith
-reason_positive AllocatedPassesEnd = omega arith
-reason_positive TooManyBlocks = omega arith
-reason_positive StrayTail = omega arith
-reason_positive EditWithoutTree = omega arith
-reason_positive TextNotOneTree = omega arith
-reason_positive TextLongerThanRoom = omega arith
-reason_positive BufferTooShort = omega arith
-reason_positive NoIndexPossible = omega arith
-reason_positive OutlineLength = omega arith
-reason_positive OutlineRow = omega arith
-reason_positive NoSuchBlock = omega arith
+use Rattle.format.proofs.NumberedLaws.{reason_positive, Proper, Numbered, numbered_more, numbered_writes}
 
 -- A reason is the one with its number.
 reason_back : (x : Reason) → reason_with (reason_number x) ≡ Some x
@@ -71,8 +43,8 @@ reason_back OutlineRow = refl
 reason_back NoSuchBlock = refl
 
 -- The word of a refusal is at least `least_refusal`.
-pub word_large : (o : Outcome ℕ) (r : Refusal) → refused r ≡ o → least_refusal ≤ word (refused r)
-word_large o r e = let p = reason_positive r.reason in omega arith
+pub word_large : (r : Refusal) → least_refusal ≤ word (refused r)
+word_large r = let p = reason_positive r.reason in omega arith
 
 -- If the outcome is a count, it is at most `most`.
 abbrev pub Counts : ℕ → Outcome ℕ → Type 0
