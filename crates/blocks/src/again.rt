@@ -1,5 +1,6 @@
 // Reads again the header of a block that was judged before. Nothing is judged here, and every input gets an answer:
-// bytes that are too short for a header give zeros, and content that is not inside the bytes is empty.
+// bytes that are too short for a header give zeros, and content that is not inside the bytes is empty. The definitions
+// in specs/Again.antt say the same, and none of these functions can fail, so none returns an Option.
 ghost use Rattle.std.specs.Prelude.{◌≤◌, ◌≡◌, length};
 ghost use Rattle.format.specs.Block.{least_block, bytes_left};
 ghost use Rattle.blocks.specs.Again.{reported, block_again, summary_again, streamed_again, content_again, no_content};
@@ -21,7 +22,7 @@ pub struct Summary {
 }
 
 // Where a block's content is, counted from the block's first byte, and whether it is compressed. Content that is not
-// inside the bytes is an empty range and no Option, since the walk, which reads sound blocks only, could not meet None.
+// inside the bytes is an empty range.
 #[derive(Clone, Copy)]
 pub struct Content {
     pub from: usize,

@@ -13,7 +13,7 @@ use scan::text;
 
 // Walks the blocks from offset `first` on. The front of the table is filled with the offsets at which they begin, and
 // the rest of the table stays as it was. A refused chain leaves only zeros in the table: what the walk kept before the
-// refusal is not passed on.
+// refusal is not passed on. The answer counts the blocks, and the table is the caller's, since there is no heap.
 pub fn walk(s: &[u8], first: usize, offsets: &mut [u64; MOST_BLOCKS]) -> Result<ChainFound, Refusal>
     ensures { Walked s.now (chain most_blocks 0 first (drop first s.now)) offsets.old offsets.new result }
 {
@@ -33,7 +33,7 @@ pub fn walk(s: &[u8], first: usize, offsets: &mut [u64; MOST_BLOCKS]) -> Result<
 // Does the same from an offset inside the file. A refused chain leaves what was kept before the refusal. The table is
 // lent as a slice, because in a proof a reference to an array does not tell the array's length. The loop goes on by
 // itself: where the next block begins is known only after this one is read, so there is nothing that a `for` could go
-// along.
+// along. The label names it for its proof.
 fn walk_inside(s: &[u8], first: usize, offsets: &mut [u64]) -> Result<ChainFound, Refusal>
     requires first_in_bounds { first ≤ length s.now }
     requires offsets_len { length offsets.old ≡ most_blocks }
@@ -82,7 +82,7 @@ fn keep(offsets: &mut [u64], i: usize, at: usize)
 
 // Returns where the next block from offset `at` on begins, or the end of the file if none follows. Blocks mostly follow
 // immediately, and no index can begin where a mark is, so the mark is tried first. Nothing after the beginning of an
-// index is searched.
+// index is searched. The end stands for none, as in `mark::find`; a refusal needs the offset, so this takes no rest.
 fn next_mark(s: &[u8], at: usize) -> usize
     requires { at ≤ length s.now }
     ensures { NextMark s.now at result }

@@ -1,4 +1,4 @@
-// The answers that the steps of reading a file give each other.
+// What the walk along the blocks finds: after each block, and in the end.
 
 // What follows at the end of a block, or where the first block may begin.
 #[derive(Clone, Copy)]

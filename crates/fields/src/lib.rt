@@ -43,14 +43,14 @@ fn tree_fields(tree: Option<Tree>) -> [u64; 4]
     }
 }
 
-// Returns the number of a verdict on the block index.
+// Returns the number of a verdict on the block index. It is a function because of its promise: `as` has none.
 fn verdict_number(v: Verdict) -> u64
     ensures { result ≡ verdict_number v }
 {
     v as u64
 }
 
-// Returns the number of the header's line end.
+// Returns the number of the header's line end, by a function for the same reason.
 fn line_end_number(e: LineEnd) -> u64
     ensures { result ≡ line_end_number e }
 {

@@ -1,10 +1,9 @@
 // Reads the layout of a file, from front to back.
-ghost use Rattle.std.specs.Prelude.{◌≡◌, ◌≤◌, length, take, drop, replicate};
+ghost use Rattle.std.specs.Prelude.{◌≡◌, ◌≤◌, length, take, drop, replicate, MatchResult};
 ghost use Rattle.format.specs.File.{file, offset_table, layout, block_at, first_block, goes_on};
 ghost use Rattle.format.specs.Chain.{most_blocks};
-ghost use Rattle.format.specs.Outcome.{accepted};
+ghost use Rattle.format.specs.Outcome.{accepted, refused};
 ghost use Rattle.file.specs.Layout.{layout_with, chain_verdict, ChainInside, Judged, Kept};
-ghost use Rattle.file.specs.Opened.{OpensAs};
 
 use crate::open::OpenFile;
 use blocks::step::ChainFound;
@@ -43,13 +42,14 @@ pub fn open<'a>(
     s: &'a [u8],
     table: &'a mut [u64; MOST_BLOCKS],
 ) -> Result<(Layout, OpenFile<'a>), Refusal>
-    ensures { OpensAs s.now result }
+    ensures { MatchResult result (λ p. (layout s.now ≡ accepted p.0) × (p.1.bytes.now ≡ s.now)) (λ r. layout s.now ≡ refused r) }
 {
     let layout = read_into(s, table)?;
     Ok((layout, open_kept(s, table, layout.blocks)))
 }
 
-// Opens an accepted file with this many blocks, which begin at the first offsets of the table.
+// Opens an accepted file with this many blocks, which begin at the first offsets of the table. It has a condition, so it
+// can't be public, and the walk has a function like it.
 fn open_kept<'a>(s: &'a [u8], table: &'a [u64], blocks: u8) -> OpenFile<'a>
     requires { Kept s.now table.now blocks }
     ensures { result.bytes.now ≡ s.now }

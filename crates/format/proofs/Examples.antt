@@ -1,8 +1,12 @@
--- Every example of the two tables holds, by computation.
+-- Every example of the two tables holds, and the reasons have their numbers, by computation.
 use Rattle.std.proofs.Common.{refl}
 use Rattle.format.specs.Examples.{AllHold, examples}
+use Rattle.format.specs.Reason.{AreNumbered}
 use Rattle.format.specs.Misreadings.{misreadings}
 use Rattle.format.proofs.Meaning.{meaning}
+
+pub reasons_numbered : AreNumbered
+reasons_numbered = refl
 
 pub examples_hold : AllHold examples
 unfolding meaning

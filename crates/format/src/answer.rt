@@ -2,7 +2,8 @@
 use crate::layout::Layout;
 use crate::refusal::Refusal;
 
-// The answer for the outline of a file, together with the answer for its layout.
+// The answer for the outline of a file, together with the answer for its layout. The layout of an accepted file is there
+// also if the buffer was too short for the outline, so one Result around both would say less.
 #[derive(Clone, Copy)]
 pub struct OutlinedAnswer {
     pub layout: Result<Layout, Refusal>,

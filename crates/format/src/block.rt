@@ -16,13 +16,14 @@ pub struct Block {
     pub header_size: u16,
     // Bit 0 is STREAMED.
     pub flags: u32,
-    // The four bytes of the name, the first the most significant; 0 for none. It is no Option, since C gets this number.
+    // The four bytes of the name, the first the most significant; 0 for none. The definitions `is_compressed` and
+    // `block_fields` speak of this number, so it is no Option.
     pub compression: u32,
     // The three sizes. In a streamed block, each is the length of its content.
     pub allocated: u64,
     pub used: u64,
     pub data_size: u64,
-    // The sixteen bytes of the checksum, in two halves; both are 0 for none. C gets these two numbers.
+    // The sixteen bytes of the checksum, in two halves; both are 0 for none, as `has_checksum` says.
     pub checksum_high: u64,
     pub checksum_low: u64,
 }
@@ -71,7 +72,8 @@ impl InnerKind {
         self as u8
     }
 
-    // Returns the kind that two bits of a row stand for. Of a larger number, only the lowest two bits count.
+    // Returns the kind that two bits of a row stand for. Of a larger number, only the lowest two bits count. Every number has
+    // a kind, so this is no `TryFrom`, which would add an error that can't come.
     pub fn of_bits(bits: u64) -> InnerKind
         ensures { result ≡ kind_with (bits % 4) }
     {

@@ -18,7 +18,8 @@ impl OutermostOffset {
         OutermostOffset(0)
     }
 
-    // Returns the offset as a plain number.
+    // Returns the offset as a plain number. It is a method and no `From`, so that the place where the types stop keeping
+    // offsets apart can be seen.
     pub fn number(self) -> u64
         ensures { result ≡ self.0 }
     {

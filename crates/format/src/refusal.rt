@@ -5,39 +5,39 @@ ghost use Rattle.format.specs.Reason.{reason_number};
 
 use crate::offset::Offset;
 
-// Why something was refused, in the order of the numbers that C programs and listings get. docs/REFUSALS.md says what
-// each means, and the definitions in specs/ say when each is given.
+// Why something was refused, with the number that C programs and listings get. docs/REFUSALS.md says what each means, and
+// the definitions in specs/ say when each is given.
 #[derive(Clone, Copy, Debug, PartialEq, Eq)]
 pub enum Reason {
     FileTooLong = 1,
-    NotAsdf,
-    VersionMalformed,
-    VersionNotOne,
-    CommentNotEnded,
-    IndexAmongComments,
-    NeitherTreeNorBlock,
-    WrongLineBeforeStart,
-    SecondStartLine,
-    TreeNotEnded,
-    HeaderPassesEnd,
-    HeaderTooSmall,
-    UsedAboveAllocated,
-    DataSizeDiffers,
-    AllocatedPassesEnd,
-    TooManyBlocks,
-    StrayTail,
-    EditWithoutTree,
-    TextNotOneTree,
-    TextLongerThanRoom,
-    BufferTooShort,
-    NoIndexPossible,
-    OutlineLength,
-    OutlineRow,
-    NoSuchBlock,
+    NotAsdf = 2,
+    VersionMalformed = 3,
+    VersionNotOne = 4,
+    CommentNotEnded = 5,
+    IndexAmongComments = 6,
+    NeitherTreeNorBlock = 7,
+    WrongLineBeforeStart = 8,
+    SecondStartLine = 9,
+    TreeNotEnded = 10,
+    HeaderPassesEnd = 11,
+    HeaderTooSmall = 12,
+    UsedAboveAllocated = 13,
+    DataSizeDiffers = 14,
+    AllocatedPassesEnd = 15,
+    TooManyBlocks = 16,
+    StrayTail = 17,
+    EditWithoutTree = 18,
+    TextNotOneTree = 19,
+    TextLongerThanRoom = 20,
+    BufferTooShort = 21,
+    NoIndexPossible = 22,
+    OutlineLength = 23,
+    OutlineRow = 24,
+    NoSuchBlock = 25,
 }
 
 impl Reason {
-    // Returns the number of the reason: 1 to 25.
+    // Returns the number of the reason: 1 to 25. A method says what the number is; `as` does the work.
     pub fn number(self) -> u8
         ensures { result ≡ reason_number self }
     {

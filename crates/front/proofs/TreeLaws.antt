@@ -1,7 +1,7 @@
 -- Laws about the tree: one for each return of the walks over lines and of the functions that read a tree.
 use Prim.Native.Nat.{ℕ, ◌-◌}
 use mathlib.Core.Path.{◌≡◌, refl, sym, ap, ◌∙◌}
-use mathlib.Core.Bool.{Bool, true, false, not}
+use mathlib.Core.Bool.{Bool, true, false, ◌||◌, not}
 use Rattle.std.specs.Prelude.{Option, None, Some}
 use Rattle.std.specs.Result.{MatchResult}
 use lib.ListN.{length, take, drop}
@@ -20,6 +20,15 @@ use Rattle.scan.specs.Line.{LineRead, ExactRead}
 use Rattle.mark.specs.Mark.{MarkFound}
 use Rattle.scan.proofs.LineLaws.{FirstLine, unended_lines, ended_first}
 use Rattle.scan.proofs.ExactLaws.{other_text, after_first}
+
+module _ (a b x : Bool) (h : x ≡ a) where
+  -- If the first of two tests holds, then one of them does.
+  pub either_first : x ≡ true → true ≡ (a || b)
+  either_first p = rw (sym h ∙ p)
+
+  -- If the first test does not hold, then the second decides.
+  pub either_second : (y : Bool) → x ≡ false → y ≡ b → y ≡ (a || b)
+  either_second y p k = rw (sym h ∙ p) k
 
 module _ (s : Bytes) (at : ℕ) (r : Option Line) (read : LineRead s at r) (x : Outcome ℕ) where
   -- If no line is left after the start line to end the tree, then the tree is refused with number 10 at place `at`.

@@ -6,8 +6,7 @@ ghost use Rattle.format.specs.Comments.{comments};
 use format::refusal::{Reason, Refusal};
 use scan::{line, text};
 
-// Returns the end of the comments that begin at an offset. The loop goes from offset to offset: an iterator over lines
-// would not tell where it stands, which is the answer.
+// Returns the end of the comments that begin at an offset. The loop goes from offset to offset, as `scan::line` says.
 pub fn comments_end(s: &[u8], from: usize) -> Result<usize, Refusal>
     ensures { result ≡ comments from (lines (drop from s.now)) }
 {

@@ -34,9 +34,9 @@ pub fn is_one_tree(t: &[u8]) -> bool
     directives_end(t, next).is_ok_and(|end| end == t.len())
 }
 
-// Returns where a tree ends. The line after its first line begins at `from`. This and `content_end` are loops over
-// offsets, because a refusal states where the walk stands, which an iterator over lines would not tell at its end. They
-// have one shape, but share no test and no outcome: as closures of one walk these would take more lines.
+// Returns where a tree ends. The line after its first line begins at `from`. This and `content_end` go from offset to
+// offset, as `scan::line` says. They have one shape, but share no test and no outcome: as closures of one walk these
+// would take more lines.
 fn directives_end(s: &[u8], from: usize) -> Result<usize, Refusal>
     ensures { result ≡ directives from (lines (drop from s.now)) }
 {

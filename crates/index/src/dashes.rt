@@ -8,9 +8,9 @@ use crate::list::Comparison;
 use crate::spaces;
 use scan::{line, number, text};
 
-// Whether the numbers on the lines of `t`, up to the end line, are these offsets, if these lines have the form of a list.
-// All of them are read, even after one that does not agree, because the form comes first. The loop goes from offset to offset: an iterator over lines would not tell where the bytes
-// after the end line begin.
+// Whether the numbers on the lines of `t`, up to the end line, are these offsets, if these lines have the form of a
+// list. All of them are read, even after one that does not agree, because the form comes first. The loop goes from
+// offset to offset, as `scan::line` says.
 pub(crate) fn compare(t: &[u8], offsets: &[u64]) -> Option<bool>
     ensures { result ≡ compared offsets.now (at_least_one (dash_numbers (lines t.now))) }
 {

@@ -1,4 +1,4 @@
-// The spaces around a number. Only the byte 20 is a space here.
+// The spaces around a number. Only the byte 20 is a space here: the library's `trim_ascii` takes more.
 ghost use Rattle.std.specs.Prelude.{◌≡◌};
 ghost use Rattle.format.specs.Index.{trim_start as Index·trim_start, trim_end as Index·trim_end, trim as Index·trim};
 

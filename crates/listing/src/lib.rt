@@ -63,7 +63,7 @@ fn write_refused(r: Refusal, out: &mut [u8]) -> Result<u64, Refusal>
 }
 
 // Does the same as `list` for a file that was already read with this answer, and whose outline was written into `own`,
-// a buffer that is long enough.
+// a buffer that is long enough. The answer, and no slice, says how long the outline is: it holds nothing that is lent.
 fn list_outlined(
     s: &[u8],
     found: OutlinedAnswer,

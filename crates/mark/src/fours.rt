@@ -10,8 +10,7 @@ use crate::{is_mark, mark_at};
 
 // Returns how many bytes come before the first mark, or before the end if there is none. Blocks of 64 bytes (not blocks
 // of a file) are tested for the marks that begin in them. Such a mark may end up to three bytes after the block, so
-// three more bytes have to be there. The loop counts the offset, since the blocks overlap
-// by these three bytes.
+// three more bytes have to be there. The loop counts the offset, since the search by fours goes on from it.
 pub(crate) fn free_space(t: &[u8]) -> usize
     ensures { (result ≡ free_space t.now) × (result ≤ length t.now) }
 {
@@ -100,8 +99,9 @@ fn four_by_four(t: &[u8], from: usize) -> usize
     t.len()
 }
 
-// Returns where a mark begins among the next four bytes, or the offset after them. The bytes of a mark differ, so the
-// last of the four determines the only offset at which a mark can begin: how far to step back.
+// Returns where a mark begins among the next four bytes, or the offset after them, from which the search goes on. The
+// bytes of a mark differ, so the last of the four determines the only offset at which a mark can begin: how far to step
+// back.
 fn in_four(t: &[u8], i: usize) -> usize
     requires { i + 4 ≤ length t.now }
     ensures { FirstIn t.now i result }

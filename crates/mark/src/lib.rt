@@ -27,8 +27,9 @@ fn mark_at(s: &[u8], at: usize) -> bool
     (s[at] == 0xD3) & (s[at + 1] == 0x42) & (s[at + 2] == 0x4C) & (s[at + 3] == 0x4B)
 }
 
-// Returns where the first mark at or after an offset begins, or the end if there is none. A block mostly follows the
-// one before it directly, so the offset itself is tried first.
+// Returns where the first mark at or after an offset begins, or the end if there is none. The end is no None, because it
+// is the answer that is needed: the room of a tree reaches to it. A block mostly follows the one before it directly, so
+// the offset itself is tried first.
 pub fn find(s: &[u8], at: usize) -> usize
     ensures { MarkFound s.now at result }
 {
@@ -41,7 +42,8 @@ pub fn find(s: &[u8], at: usize) -> usize
     at + fours::free_space(&s[at..])
 }
 
-// Returns the same as `find`, but looks at every byte.
+// Returns the same as `find`, but looks at every byte. A generic function for both would need a trait with two types
+// for the two searches, which says no more than the two names.
 pub fn find_plain(s: &[u8], at: usize) -> usize
     ensures { MarkFound s.now at result }
 {

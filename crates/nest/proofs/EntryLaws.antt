@@ -342,10 +342,3 @@ module _ (s : Bytes) (file : OpenFile) (same : file.bytes.now ≡ s) where
       → Written (record_table s) out after x
   unfolding record_table all_encoded
   table_written out after x w = rw (record_table, accepted_all kept_here) (rw same at w)
-
--- If the first `size` bytes of a buffer are put at the start of another that has room for them, they are written there.
-pub handed_over : (own out : Bytes) (size : ℕ) → size ≤ length own → size ≤ length out → (after : Bytes) → after ≡ placed out 0 (take size (drop 0 own))
-    → Written (accepted (take size own)) out after (accepted size)
-handed_over own out size h g after e =
-    let long : length (take size own) ≡ size = length-take-le size own h in
-    written_placed _ out (take size own) refl (omega arith) after e size (sym long)

@@ -3,7 +3,7 @@
 
 mod walk;
 
-ghost use Rattle.std.specs.Prelude.{◌≤◌, ◌≡◌, length, take};
+ghost use Rattle.std.specs.Prelude.{◌≤◌, ◌≡◌, length};
 ghost use Rattle.format.specs.Fields.{record_fields, found_bytes, record_table};
 ghost use Rattle.format.specs.File.{layout as File·layout};
 ghost use Rattle.format.specs.Nest.{record_count, record_at};
@@ -17,6 +17,7 @@ use file::open::OpenFile;
 use format::answer::OutlinedAnswer;
 use format::limits::{LEAST_BLOCK, MOST_BLOCKS, RECORD_BYTES};
 use format::refusal::{Reason, Refusal};
+use put::text::write_text;
 use visit::sink;
 use visit::sink::Form;
 
@@ -131,16 +132,5 @@ fn write_measured(file: OpenFile<'_>, form: Form, out: &mut [u8]) -> Result<u64,
         walk::walk_all(file, form, out);
         return Ok(each * n);
     }
-    hand_over(&own, each * n, out)
-}
-
-// Puts the first `size` bytes of a buffer at the start of another, which has room for them.
-fn hand_over(own: &[u8], size: u64, out: &mut [u8]) -> Result<u64, Refusal>
-    requires own { size ≤ length own.now }
-    requires room { size ≤ length out.old }
-    ensures { Written (accepted (take size own.now)) out.old out.new result }
-{
-    let end = size as usize;
-    put::text::put_text(out, 0, &own[..end]);
-    Ok(size)
+    write_text(&own[..(each * n) as usize], out)
 }

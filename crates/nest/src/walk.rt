@@ -1,5 +1,7 @@
 // The walk. The reader of a block's content and the walker along the blocks call each other. Every file is judged once,
-// when it is opened. From then on the walk follows the offsets that were kept when it was judged.
+// when it is opened. From then on the walk follows the offsets that were kept when it was judged. What is wanted of the
+// blocks, the number of the next one and the buffer are three parameters and no struct: the buffer is lent again at each
+// call, and each promise is about its bytes before and after one call.
 ghost use Rattle.std.specs.Prelude.{◌+◌, ◌≤◌, ◌≡◌, length};
 ghost use Rattle.format.specs.Block.{Sound};
 ghost use Rattle.format.specs.File.{most_bytes};
@@ -89,7 +91,8 @@ fn walk_content(
     )
 }
 
-// Makes an open file of an accepted one with this many blocks, which begin at the first offsets of the table.
+// Makes an open file of an accepted one with this many blocks, which begin at the first offsets of the table. The crate
+// `file` has a function like it. It has a condition, and public functions have none, so the two are not one.
 fn opened<'a>(bytes: &'a [u8], table: &'a [u64], blocks: u8) -> OpenFile<'a>
     requires { Kept bytes.now table.now blocks }
     ensures bytes { result.bytes.now ≡ bytes.now }

@@ -1,4 +1,6 @@
-// Functions that put numbers and texts into a lent buffer.
+// Functions that put numbers and texts into a lent buffer. The buffer and the offset in it are two parameters, here and
+// in the crates above: a writer that holds both would be lent or handed back at each step, and each promise is about
+// the bytes before and after one call.
 #![tactic(auto)]
 
 pub mod decimal;
@@ -40,7 +42,8 @@ fn put_bytes(out: &mut [u8], at: usize, width: usize, x: u64)
     out[end - 8..end].copy_from_slice(&x.to_be_bytes());
 }
 
-// Puts numbers at an offset, each in eight bytes. If they do not all fit, nothing changes.
+// Puts numbers at an offset, each in eight bytes. If they do not all fit, nothing changes. The loop counts the offset: a
+// loop over chunks of the buffer would put the bytes of a number in a second way.
 pub fn put_numbers(out: &mut [u8], at: usize, numbers: &[u64])
     ensures { out.new ≡ placed out.old at (number_bytes numbers.now) }
 {

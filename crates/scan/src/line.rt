@@ -1,4 +1,8 @@
 // Lines. A line ends at the first 0A, and one 0D directly before it belongs to the line end.
+// The library has no iterator over such lines. Four walks go along lines (comments, the two parts of a tree, an index
+// with dashes): each calls `line_at` with the offset where the line before ended, and each needs that offset, for a
+// refusal, as its answer or for the bytes that follow. An iterator would give back the same three numbers, and its own
+// laws would come on top.
 ghost use Rattle.std.specs.Prelude.{◌-◌, ◌≤◌, ◌≡◌, length};
 ghost use Rattle.format.specs.Tree.{yaml_line};
 ghost use Rattle.scan.specs.Line.{LineRead, ExactRead};

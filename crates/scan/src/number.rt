@@ -3,7 +3,8 @@ ghost use Rattle.std.specs.Prelude.{◌≤◌, ◌≡◌, length};
 ghost use Rattle.scan.specs.Number.{BigEndian, leads_well, NumeralRead, DigitsRead};
 
 // Returns the number that bytes give, the first being the most significant. Of more than eight bytes, only the last
-// eight count. Eight, four and two bytes, which are the sizes of fields, need no loop.
+// eight count. For eight, four and two bytes, the sizes of fields, the library has a method for each; it has none for any
+// number of bytes, which this promises.
 pub fn big_endian(s: &[u8]) -> u64
     ensures { BigEndian s.now result }
 {

@@ -6,7 +6,7 @@ ghost use Rattle.format.specs.Bytes.{begins, same, all_zero};
 use crate::find;
 
 // Whether `s` has `word` at an offset. The bytes are compared by `==`, which costs little for the short words of the
-// format. The library's `starts_with` is a call, and for the two bytes before each number of an index it took longer.
+// format. The library's `starts_with` is a call and took longer where it was tried.
 pub fn begins_at(s: &[u8], at: usize, word: &[u8]) -> bool
     ensures { result ≡ begins word.now (drop at s.now) }
 {
@@ -17,7 +17,7 @@ pub fn begins_at(s: &[u8], at: usize, word: &[u8]) -> bool
     word.len() <= rest.len() && word == &rest[..word.len()]
 }
 
-// Whether two byte strings are the same.
+// Whether two byte strings are the same. This is `==`; as a function it promises `same`, by which lines are judged.
 pub fn is(s: &[u8], word: &[u8]) -> bool
     ensures { result ≡ same s.now word.now }
 {

@@ -25,7 +25,7 @@ impl Found {
 }
 
 // Returns what the content `t` of a block at this depth is. If it is opened, the offsets of its blocks come first in
-// the table. Content that is not read as a file leaves the table as it was.
+// the table, which is the caller's, as in `blocks::chain`. Content that is not read as a file leaves the table as it was.
 pub fn content_of(t: &[u8], compressed: bool, depth: u8, offsets: &mut [u64; MOST_BLOCKS]) -> Found
     ensures { ContentIs depth compressed t.now offsets.old offsets.new result }
 {

@@ -14,8 +14,8 @@ use format::offset::OutermostOffset;
 use format::row::Row;
 use outline::row;
 
-// What is wanted of the blocks. It stays an enum: the walk is the same for all three and is compiled once, and a trait
-// with three types would say no more than the three arms of each match.
+// What is wanted of the blocks. It is an enum, so that the walk is compiled once for all three. A trait with three types
+// would be no plainer than a match with three arms.
 #[derive(Clone, Copy)]
 pub enum Form {
     // A row is put for each block. If the buffer is too short for a row, blocks are only counted.

@@ -2,7 +2,7 @@
 -- from the function's own buffer.
 use Rattle.std.proofs.Common.{rules}
 use Rattle.file.proofs.LayoutLaws.{open_is_kept}
-use Rattle.nest.proofs.EntryLaws.{told_fits, each_some, measured_short, measured_put, own_room, room_for, own_put}
+use Rattle.nest.proofs.EntryLaws.{told_fits, each_some, measured_short, measured_put, own_put}
 use Rattle.visit.proofs.SinkLaws.{delivered_length}
 use Rattle.nest.proofs.write_measured.Goals as goal
 
@@ -24,17 +24,5 @@ shape_of-out-then-own_most-n c = delivered_length c.walk_all.ensures
 pub returns-then-own_most-n : goal.returns-then-own_most-n
 returns-then-own_most-n c = measured_put (open_is_kept _ _ c.args.file.kept) _ c.requires c.width_of-each.ensures _ c.walk_all-n.ensures (search (rules, c.if-out-each)) c.walk_all.ensures
 
-pub slice_bounds-hand_over-end : goal.slice_bounds-hand_over-end
-slice_bounds-hand_over-end c = search (delivered_length, rules)
-
-pub overflow_mul-each : goal.overflow_mul-each
-overflow_mul-each c = told_fits (open_is_kept _ _ c.args.file.kept) c.walk_all-n.ensures c.width_of-each.ensures
-
-pub hand_over-requires : goal.hand_over-requires
-hand_over-requires c = record {
-  own = own_room (open_is_kept _ _ c.args.file.kept) _ c.requires c.width_of-each.ensures 7680 c.walk_all-n.ensures (search rules) (search (rules, c.if-own_most-n));
-  room = search (room_for, rules, each_some (open_is_kept _ _ c.args.file.kept) c.args.form c.requires c.width_of-each.ensures, c.if-out-each);
-}
-
 pub returns : goal.returns
-returns c = own_put (open_is_kept _ _ c.args.file.kept) _ c.requires c.width_of-each.ensures _ c.walk_all-n.ensures (search (rules, c.if-out-each)) 7680 (search rules) (search (rules, c.if-own_most-n)) c.hand_over.ensures
+returns c = own_put (open_is_kept _ _ c.args.file.kept) _ c.requires c.width_of-each.ensures _ c.walk_all-n.ensures (search (rules, c.if-out-each)) 7680 (search rules) (search (rules, c.if-own_most-n)) c.write_text.ensures
