@@ -5,8 +5,9 @@ use native.Mathlib.Omega.{arith}
 use mathlib.Core.Path.{◌≡◌, refl, sym, ap, ◌∙◌}
 use Rattle.std.specs.Prelude.{None, Some}
 use mathlib.Core.List.{List, [], ◌∷◌, ◌++◌, map, flat_map, append_assoc}
-use lib.ListN.{length, take, drop}
+use lib.ListN.{length, drop, get_or}
 use lib.Seq.{drop-drop}
+use Rattle.std.proofs.Common.{take_all, IsSome}
 use borrow.Author.Tests.{le-leb}
 use Rattle.format.specs.declared.layout.Tree.{Tree}
 use Rattle.format.specs.declared.layout.Verdict.{Verdict}
@@ -19,10 +20,11 @@ use Rattle.format.specs.Outcome.{refused}
 use Rattle.format.specs.Outline.{decode_row, row_bytes}
 use Rattle.format.specs.Listing.{sentence, tree_text, row_text, printed}
 use Rattle.format.specs.Reason.{reason_number}
-use Rattle.format.proofs.OutcomeLaws.{none_is_not_some}
 use Rattle.put.specs.Put.{PutWhole, PutAt, PutDecimals, decimals}
 use Rattle.put.proofs.PartLaws.{whole_put, nothing_put, parts_put, put_same, decimals_put_lem}
 use Rattle.outline.specs.Row.{row_at}
+use Rattle.outline.proofs.StoredLaws.{chunk_is}
+use Rattle.std.specs.Simd.{first_chunks}
 use Rattle.listing.specs.Text.{line_text, most_line, most_short, most_row, row_texts, verdict_text, file_text, most_file}
 use Rattle.listing.proofs.ShortLaws.{row_short}
 
@@ -70,26 +72,24 @@ pub row_put : (out after : Bytes) (at x : ℕ) (r : Row) (numbers : List ℕ) �
 unfolding row_text
 row_put out after at x r numbers e put = rw e at put
 
--- The outline `b` holds all bytes of row `k`, and `x` is the answer of the function that reads this row.
-module _ (b : Bytes) (k : ℕ) (h : k * row_bytes + row_bytes ≤ length b) (x : Option Row) (read : x ≡ row_at b (k * row_bytes)) where
-  abbrev here : Row
-  here = decode_row (take row_bytes (drop (k * row_bytes) b))
-
-  is_there : row_at b (k * row_bytes) ≡ Some here
+-- `x` is the answer of the function that reads a row from the start of sixteen bytes.
+module _ (bytes : Bytes) (size : length bytes ≡ row_bytes) (x : Option Row) (read : x ≡ row_at bytes 0) where
+  is_there : x ≡ Some (decode_row bytes)
   unfolding row_at
-  is_there = rw (row_at, le-leb (k * row_bytes + row_bytes) (length b) h)
-
-  pub row_at_put : (r : Row) → x ≡ Some r → (out after : Bytes) (at y : ℕ) → PutAt out after at (row_text r) (most_line 0 10) y
-      → PutAt out after at (row_text (decode_row (take row_bytes (drop (k * row_bytes) b)))) most_row y
-  row_at_put r e out after at y put =
-      let same : Some r ≡ Some here = sym e ∙ read ∙ is_there in
-      let row : r ≡ here = cc in
-      let whole = rw row at put in
-      record { buffer = whole.buffer; size = whole.size; end = whole.end; few = row_short (take row_bytes (drop (k * row_bytes) b)) }
+  is_there = read ∙ rw (row_at, le-leb (0 + row_bytes) (length bytes) (omega arith), take_all row_bytes bytes (omega arith))
 
   -- The row exists, so it is found.
-  pub row_not_none : x ≡ None → (out : Bytes) (at : ℕ) → PutAt out out at (row_text here) most_row at
-  row_not_none e out at = absurd (none_is_not_some here (sym e ∙ read ∙ is_there))
+  pub row_there : IsSome x
+  row_there = rw is_there
+
+  -- If the line of the row that was read is put, then the line of the row in the bytes is put, and it is short.
+  pub row_in_put : (r : Row) → x ≡ Some r → (out after : Bytes) (at y : ℕ) → PutAt out after at (row_text r) (most_line 0 10) y
+      → PutAt out after at (row_text (decode_row bytes)) most_row y
+  row_in_put r e out after at y put =
+      let same : Some r ≡ Some (decode_row bytes) = sym e ∙ is_there in
+      let row : r ≡ decode_row bytes = cc in
+      let whole = rw row at put in
+      record { buffer = whole.buffer; size = whole.size; end = whole.end; few = row_short bytes }
 
 -- The lines of the first `n` rows of an outline are put.
 abbrev PutRows : Bytes → Bytes → ℕ → ℕ → Bytes → ℕ → Type 0
@@ -108,29 +108,27 @@ module _ (before : Bytes) (at : ℕ) (b : Bytes) where
   pub rows_start : at < 2 ^ 64 → Rows before at b before at 0
   rows_start h = record { inside = omega arith; size = refl; fits = h; left = λ {after} {r} put. let all : length b / row_bytes - 0 ≡ length b / row_bytes = omega arith in rw all at put }
 
-  module _ (out : Bytes) (end k : ℕ) (h : Rows before at b out end k) where
-    -- Case: another row is left.
-    module _ (p : k < length b / row_bytes) where
-      pub rows_inside : k * row_bytes + row_bytes ≤ length b
-      rows_inside = omega arith
-
-      -- Once this row is put, the invariant holds for `k + 1`.
-      pub rows_step : (after : Bytes) (r : ℕ) → PutAt out after end (row_text (decode_row (take row_bytes (drop (k * row_bytes) b)))) most_row r
-          → Rows before at b after r (k + 1)
-      unfolding flat_map
-      rows_step after r put = record {
-        inside = omega arith;
-        size = put.size ∙ h.size;
-        fits = omega (arith, put.end);
-        left = λ rest.
-            let n = length b / row_bytes - (k + 1) in
-            let more : length b / row_bytes - k ≡ suc n = omega arith in
-            let next : (k + 1) * row_bytes ≡ k * row_bytes + row_bytes = omega arith in
-            h.left (rw (more, drop-drop) (put_same refl (omega arith) (parts_put put (rw next at rest))));
-      }
+  -- The parts of sixteen bytes hold a row each.
+  module _ (parts : List Bytes) (split : parts ≡ first_chunks row_bytes (length b / row_bytes) b) (many : length parts ≡ length b / row_bytes)
+      (out : Bytes) (end k : ℕ) (h : Rows before at b out end k) where
+    -- Case: another row is left. Once it is put, the invariant holds for `k + 1`.
+    pub rows_step : k < length parts → (after : Bytes) (r : ℕ) → PutAt out after end (row_text (decode_row (get_or parts k []))) most_row r
+        → Rows before at b after r (k + 1)
+    unfolding flat_map
+    rows_step p after r put = record {
+      inside = omega arith;
+      size = put.size ∙ h.size;
+      fits = omega (arith, put.end);
+      left = λ rest.
+          let n = length b / row_bytes - (k + 1) in
+          let more : length b / row_bytes - k ≡ suc n = omega arith in
+          let next : (k + 1) * row_bytes ≡ k * row_bytes + row_bytes = omega arith in
+          let row = rw (split, chunk_is (length b / row_bytes) k b [] (omega arith)) at put in
+          h.left (rw (more, drop-drop) (put_same refl (omega arith) (parts_put row (rw next at rest))));
+    }
 
     -- Case: no row is left, so all rows are put.
-    pub rows_done : length b / row_bytes ≤ k → PutRows before out at (length b / row_bytes) b end
+    pub rows_done : length parts ≤ k → PutRows before out at (length b / row_bytes) b end
     unfolding flat_map
     rows_done p =
         let no_row : length b / row_bytes - k ≡ 0 = omega arith in

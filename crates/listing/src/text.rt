@@ -1,10 +1,10 @@
 // Puts the parts of the text at an offset of a buffer. Each function returns where its part ends, even if the buffer is
 // too short: to measure a part, it is put into a buffer that is too short for it. Each promise states the maximum
 // number of bytes in the part.
-ghost use Rattle.std.specs.Prelude.{◌+◌, ◌*◌, ◌/◌, ◌≤◌, length, take, drop};
+ghost use Rattle.std.specs.Prelude.{◌*◌, ◌/◌, length};
 ghost use Rattle.format.specs.Listing.{printed, row_text, tree_text};
 ghost use Rattle.format.specs.Outcome.{refused};
-ghost use Rattle.format.specs.Outline.{decode_row, row_bytes};
+ghost use Rattle.format.specs.Outline.{row_bytes};
 ghost use Rattle.listing.specs.Text.{file_text, line_text, most_file, most_line, most_row, most_short, row_texts, verdict_text};
 ghost use Rattle.put.specs.Put.{PutAt};
 
@@ -55,24 +55,13 @@ fn put_row(out: &mut [u8], at: usize, r: Row) -> usize
     put_line(out, at, b"", &numbers)
 }
 
-// Puts the line of row `k` of an outline.
-fn put_row_at(out: &mut [u8], at: usize, b: &[u8], k: usize) -> usize
-    requires { k * row_bytes + row_bytes ≤ length b.now }
-    ensures { PutAt out.old out.new at (row_text (decode_row (take row_bytes (drop (k * row_bytes) b.now)))) most_row result }
-{
-    match row::read_row(b, k * ROW_BYTES) {
-        Some(r) => put_row(out, at, r),
-        None => at,
-    }
-}
-
 // Puts the lines of all rows of an outline.
 fn put_rows(out: &mut [u8], at: usize, b: &[u8]) -> usize
     ensures { PutAt out.old out.new at (row_texts (length b.now / row_bytes) b.now) (most_row * (length b.now / row_bytes)) result }
 {
     let mut end = at;
-    'rows: for k in 0..b.len() / ROW_BYTES {
-        end = put_row_at(out, end, b, k);
+    for bytes in b.as_chunks::<ROW_BYTES>().0 {
+        end = put_row(out, end, row::read_row(bytes, 0).unwrap());
     }
     end
 }

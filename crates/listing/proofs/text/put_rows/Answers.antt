@@ -1,15 +1,15 @@
 use Rattle.std.proofs.Common.{rules}
-use Rattle.listing.proofs.TextLaws.{rows_start, rows_inside, rows_step, rows_done}
+use Rattle.listing.proofs.TextLaws.{row_there, row_in_put, rows_start, rows_step, rows_done}
 use Rattle.listing.proofs.text.put_rows.Goals as goal
 
-pub rows-init : goal.rows-init
-rows-init c = search (rows_start, rules)
+pub loop-bytes-init : goal.loop-bytes-init
+loop-bytes-init c = search (rows_start, rules)
 
-pub put_row_at-end-requires : goal.put_row_at-end-requires
-put_row_at-end-requires c = search (rows_inside, rules)
+pub unwrap-requires : goal.unwrap-requires
+unwrap-requires c = search (row_there, rules)
 
-pub rows-preserved : goal.rows-preserved
-rows-preserved c = search (rows_step, rules)
+pub loop-bytes-preserved : goal.loop-bytes-preserved
+loop-bytes-preserved c = search (rows_step, row_in_put, rules)
 
 pub returns : goal.returns
 returns c = search (rows_done, rules)

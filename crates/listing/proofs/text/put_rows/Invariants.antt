@@ -1,6 +1,6 @@
--- The invariant: the rows from `k` on remain to be put.
+-- The invariant: the rows from row `bytes-index` on remain to be put.
 use Rattle.listing.proofs.TextLaws.{Rows}
 use Rattle.listing.proofs.text.put_rows.Given as goal
 
-abbrev pub invariant-rows : goal.invariant-rows
-invariant-rows l = Rows l.initial.out l.at l.b l.out l.end l.k
+abbrev pub invariant-loop-bytes : goal.invariant-loop-bytes
+invariant-loop-bytes l = Rows l.initial.out l.at l.b l.out l.end l.bytes-index
