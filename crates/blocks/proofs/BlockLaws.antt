@@ -2,7 +2,7 @@
 use Prim.Native.Nat.{ℕ, ◌+◌, ◌-◌, ◌%◌, ◌^◌, ◌≤◌, ◌<◌}
 use native.Mathlib.Nat.{lt_of_lt_of_le, mod-eq_of_lt, pow-le-pow_right}
 use native.Mathlib.Omega.{arith}
-use mathlib.Core.Path.{◌≡◌, refl, sym, ◌∙◌}
+use mathlib.Core.Path.{◌≡◌, sym, ◌∙◌}
 use mathlib.Core.Bool.{Bool, true, false, not, ◌||◌, true≢false}
 use lib.ListN.{length, take, drop, get_or, length-drop}
 use lib.Seq.{length-take-le}
@@ -15,7 +15,7 @@ use Rattle.std.specs.Prelude.{Result, Ok, Err}
 use Rattle.format.specs.declared.refusal.Reason.{Reason}
 use Rattle.format.specs.declared.refusal.Reason.TheVariants.{HeaderPassesEnd, HeaderTooSmall, UsedAboveAllocated, DataSizeDiffers, AllocatedPassesEnd}
 use Rattle.format.specs.Bytes.{Bytes}
-use Rattle.format.specs.Outcome.{Outcome, accepted, refused, refusal, need, ◌>>◌}
+use Rattle.format.specs.Outcome.{Outcome, accepted, need, ◌>>◌}
 use Rattle.format.specs.Block.{header_size, flags, compression, data_size, least_header, is_streamed, is_compressed, content_start, block_with, block, Sound}
 use Rattle.format.proofs.PackLaws.{is_bytes_take, is_bytes_drop, big_endian_lt}
 use Rattle.scan.specs.Number.{BigEndian}

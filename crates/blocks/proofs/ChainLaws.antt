@@ -33,7 +33,7 @@ use Rattle.blocks.specs.declared.step.ChainFound.{ChainFound}
 use Rattle.format.proofs.PartLaws.{part_all}
 use Rattle.blocks.specs.Block.{Checked, sound_link}
 use Rattle.blocks.proofs.BlockLaws.{block_sound}
-use Rattle.blocks.specs.Chain.{onward, TailBegins, Follows, NextMark, BlockBegins, LinkIs, Chained, WalkedAlone, WalkedTo, WalkRefused, WalkedInside, Walked}
+use Rattle.blocks.specs.Chain.{onward, TailBegins, Follows, NextMark, BlockBegins, LinkIs, Chained, WalkedAlone, WalkedTo, WalkedInside, Walked}
 
 module _ (s : Bytes) (n : ℕ) where
   -- If a mark is at offset `n`, the next block begins there.

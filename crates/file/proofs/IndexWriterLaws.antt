@@ -4,9 +4,8 @@ use native.Mathlib.Omega.{arith}
 use mathlib.Core.Path.{◌≡◌, refl, sym, ap, ◌∙◌}
 use mathlib.Core.Bool.{Bool, true, false, not}
 use mathlib.Core.List.{List, [], ◌∷◌}
-use Rattle.std.specs.Prelude.{None, Some}
+use Rattle.std.specs.Prelude.{None, Some, slice_get}
 use lib.ListN.{length, take, drop, get_or}
-use Rattle.std.specs.Prelude.{slice_get}
 use lib.Seq.{take-length}
 use borrow.Author.Tests.{le-leb}
 use mir.Syntax.{w8}

@@ -1,12 +1,10 @@
 -- Laws about a file whose offsets are kept: reading a block again where it begins gives the block that was judged.
 use Prim.Native.Nat.{ℕ, zero, suc, ◌-◌, ◌≤◌, ◌<◌}
-use Rattle.std.specs.Prelude.{None}
+use Rattle.std.specs.Prelude.{None, Some, slice_get}
 use native.Mathlib.Omega.{arith}
 use mathlib.Core.Path.{◌≡◌, sym, ap, ◌∙◌}
 use mathlib.Core.List.{List, [], ◌∷◌}
-use Rattle.std.specs.Prelude.{Some}
 use lib.ListN.{length, take, drop, get_or, length-take, length-map}
-use Rattle.std.specs.Prelude.{slice_get}
 use lib.Seq.{get_or-take, take_at}
 use Rattle.format.specs.declared.block.Block.{Block}
 use Rattle.format.specs.Bytes.{Bytes}

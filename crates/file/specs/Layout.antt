@@ -1,6 +1,5 @@
 -- What the steps of reading a file know and answer.
-use Rattle.std.specs.Prelude.{ℕ, ◌≡◌, List, length, take, drop}
-use Rattle.std.specs.Prelude.{Option, None, Some, ◌≤◌}
+use Rattle.std.specs.Prelude.{ℕ, ◌≡◌, List, length, take, drop, Option, None, Some, ◌≤◌}
 use Rattle.format.specs.declared.layout.Header.{Header}
 use Rattle.format.specs.declared.layout.Tree.{Tree}
 use Rattle.format.specs.declared.layout.Verdict.{Verdict}

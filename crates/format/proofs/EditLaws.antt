@@ -1,9 +1,7 @@
 -- An edit is accepted exactly if the file can be edited to the text. Then the file is edited: of all that is reported,
 -- only the tree is new.
-use Rattle.std.specs.Prelude.{Some}
+use Rattle.std.specs.Prelude.{Some, None, Option}
 use Rattle.std.proofs.Common.{◌≡◌, ℕ, ◌+◌, ◌-◌, ◌≤◌, leb, length, take, drop, refl, subst, append_assoc, arith, length-append, length-drop, take-append-drop, length-take-le, le-leb, leb-true}
-use Rattle.std.specs.Prelude.{None}
-use Rattle.std.specs.Prelude.{Option}
 use lib.ListN.{length-replicate}
 use Rattle.format.specs.declared.refusal.Reason.TheVariants.{TextNotOneTree, TextLongerThanRoom}
 use Rattle.format.specs.declared.layout.Tree.{Tree}

@@ -1,7 +1,6 @@
 -- Numbers in bytes and in fields of any widths: what is written is read back, and what is read is written back.
 use Rattle.std.proofs.Common.{◌≡◌, ℕ, zero, suc, ◌+◌, ◌*◌, ◌/◌, ◌%◌, ◌^◌, ◌<◌, List, [], ◌∷◌, ◌++◌, length, take, drop, sym, refl, ap, ◌∙◌, lt_of_lt_of_le, mod-lt, mod-eq_of_lt, mul_assoc, pow-suc, add-one, arith, length-append, length-take, get_or-drop, pow_pos, pow-add}
-use native.Mathlib.Nat.{mul-add-div_right, mul-add-mod_self_right, mod-mod}
-use native.Mathlib.Nat.{pow-succ', pow-le-pow_right, one-le-pow}
+use native.Mathlib.Nat.{mul-add-div_right, mul-add-mod_self_right, mod-mod, pow-succ', pow-le-pow_right, one-le-pow}
 use lib.Arith.{digits_lt, digits_div, digits_mod, mod-mul}
 use lib.Pow.{high, mod-pow-add}
 use Rattle.format.specs.Bytes.{Bytes, IsBytes, big_endian, number, to_bytes}

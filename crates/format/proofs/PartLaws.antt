@@ -1,7 +1,6 @@
 -- Parts of a list, as slices of it give them, and its elements.
 use Rattle.std.proofs.Common.{◌≡◌, ℕ, zero, suc, ◌-◌, ◌≤◌, List, [], ◌∷◌, length, take, drop, refl, arith, length-drop, take_all}
-use Rattle.std.specs.Prelude.{None}
-use Rattle.std.specs.Prelude.{slice_get}
+use Rattle.std.specs.Prelude.{None, slice_get}
 
 module _ {A : Type 0} where
   -- The part from an offset up to the end is everything from that offset on.

@@ -5,8 +5,7 @@ use Rattle.format.specs.declared.block.InnerKind.TheVariants as Kind·is
 use Rattle.format.specs.declared.row.Row.{Row}
 use Rattle.format.specs.Bytes.{Bytes, IsBytes, big_endian, to_bytes, bit}
 use Rattle.format.specs.Outline.{kind_number, kind_with, row_widths, fields_of, row_from, sum, packed, unpacked, encode_row, decode_row}
-use Rattle.format.proofs.PackLaws.{to_bytes_length, big_endian_to_bytes, big_endian_lt, to_bytes_big_endian}
-use Rattle.format.proofs.PackLaws.{Fits, packed_lt, unpacked_packed, packed_unpacked}
+use Rattle.format.proofs.PackLaws.{to_bytes_length, big_endian_to_bytes, big_endian_lt, to_bytes_big_endian, Fits, packed_lt, unpacked_packed, packed_unpacked}
 
 -- Each field of a row fits into its bits.
 pub record RowFits (r : Row) : Type 0 where

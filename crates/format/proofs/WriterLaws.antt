@@ -1,9 +1,7 @@
 -- The index that is written for a file is good when it is put after the file's last block. An index is good exactly if
 -- it lists the blocks' offsets.
-use Rattle.std.specs.Prelude.{Some}
+use Rattle.std.specs.Prelude.{Some, None, Option}
 use Rattle.std.proofs.Common.{◌≡◌, ℕ, zero, suc, ◌+◌, ◌^◌, ◌<◌, ◌≤◌, true, List, [], ◌∷◌, ◌++◌, length, get_or, take, drop, sym, refl, ap, ◌∙◌, true≢false, arith, length-drop, take-append-drop, length-take-le, le-leb, leb-true}
-use Rattle.std.specs.Prelude.{None}
-use Rattle.std.specs.Prelude.{Option}
 use lib.ListN.{length-map}
 use lib.Seq.{drop-append-le}
 use Rattle.format.specs.declared.refusal.Reason.TheVariants.{NoIndexPossible}

@@ -1,7 +1,6 @@
 -- The data of a block and the checksum in its header. The digest is a parameter here: it is MD5, which the crate md5
 -- defines.
-use Rattle.std.specs.Prelude.{ℕ, Bool, true, false, ◌&&◌, ◌==◌}
-use Rattle.std.specs.Prelude.{Option, None, Some}
+use Rattle.std.specs.Prelude.{ℕ, Bool, true, false, ◌&&◌, ◌==◌, Option, None, Some}
 use Rattle.format.specs.declared.answer.Check.{Check}
 use Rattle.format.specs.declared.answer.Check.TheVariants.{NotStated, Agrees, Differs}
 use Rattle.format.specs.declared.block.Block.{Block}

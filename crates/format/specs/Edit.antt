@@ -1,6 +1,5 @@
 -- The edit that replaces a tree in place.
-use Rattle.std.specs.Prelude.{ℕ, ◌-◌, Bool, false, ◌++◌, length, take, drop, replicate, ◌==◌, nat_le}
-use Rattle.std.specs.Prelude.{Option, None, Some}
+use Rattle.std.specs.Prelude.{ℕ, ◌-◌, Bool, false, ◌++◌, length, take, drop, replicate, ◌==◌, nat_le, Option, None, Some}
 use Rattle.format.specs.declared.layout.Tree.{Tree}
 use Rattle.format.specs.declared.refusal.Reason.TheVariants.{EditWithoutTree, TextNotOneTree, TextLongerThanRoom}
 use Rattle.format.specs.Bytes.{Bytes}

@@ -1,8 +1,6 @@
 -- The customer's worked examples as one table: P1 to P13, some of them also as numbers, and the listing of B. `AllHold`
 -- states that all of them hold, and proofs/Examples.antt proves it.
-use Rattle.std.specs.Prelude.{◌≡◌, ℕ, List, [], ◌∷◌, ◌++◌, map, take, replicate}
-use Rattle.std.specs.Prelude.{None}
-use Rattle.std.specs.Prelude.{Option}
+use Rattle.std.specs.Prelude.{◌≡◌, ℕ, List, [], ◌∷◌, ◌++◌, map, take, replicate, None, Option}
 use mathlib.Core.List.{flat_map}
 use Rattle.format.specs.declared.block.Inner.{Inner}
 use Rattle.format.specs.declared.block.Record.{Record}

@@ -1,7 +1,6 @@
 -- What is reported, as lists of numbers. Each number takes eight bytes when it is put into a lent buffer.
-use Rattle.std.specs.Prelude.{ℕ, List, [], ◌∷◌, ◌++◌}
+use Rattle.std.specs.Prelude.{ℕ, List, [], ◌∷◌, ◌++◌, Option, None, Some}
 use mathlib.Core.List.{flat_map}
-use Rattle.std.specs.Prelude.{Option, None, Some}
 use Rattle.format.specs.declared.answer.Check.{Check}
 use Rattle.format.specs.declared.answer.Check.TheVariants.{NotStated, Agrees, Differs}
 use Rattle.format.specs.declared.block.Block.{Block}

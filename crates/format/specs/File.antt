@@ -1,9 +1,5 @@
 -- One file without the files inside its blocks, read from front to back.
-use Rattle.std.specs.Prelude.{Some}
-use Rattle.std.specs.Prelude.{ℕ, Bool, true, List, [], ◌∷◌, ◌++◌, map, length, drop, replicate, nat_le}
-use Rattle.std.specs.Prelude.{None}
-use Rattle.std.specs.Prelude.{Option}
-use Rattle.std.specs.Prelude.{slice_get}
+use Rattle.std.specs.Prelude.{Some, ℕ, Bool, true, List, [], ◌∷◌, ◌++◌, map, length, drop, replicate, nat_le, None, Option, slice_get}
 use Rattle.format.specs.declared.layout.Header.{Header}
 use Rattle.format.specs.declared.layout.Tree.{Tree}
 use Rattle.format.specs.declared.layout.Verdict.{Verdict}

@@ -1,6 +1,5 @@
 -- The header: `#ASDF`, one space, a version and a line end.
-use Rattle.std.specs.Prelude.{ℕ, List, [], ◌∷◌, drop, ◌==◌}
-use Rattle.std.specs.Prelude.{Option, None, Some}
+use Rattle.std.specs.Prelude.{ℕ, List, [], ◌∷◌, drop, ◌==◌, Option, None, Some}
 use Rattle.format.specs.declared.layout.Version.{Version}
 use Rattle.format.specs.declared.layout.Header.{Header}
 use Rattle.format.specs.declared.line.LineEnd.{LineEnd}

@@ -1,8 +1,7 @@
 -- The block index: the verdict on it, and its text. Its list has one of two styles: all numbers in brackets on the
 -- start line, or each number after a dash on its own line.
-use Rattle.std.specs.Prelude.{◌≡◌, ℕ, ◌≤◌, true, false, List, [], ◌∷◌, ◌++◌, map, reverse, length, replicate, ◌==◌}
+use Rattle.std.specs.Prelude.{◌≡◌, ℕ, ◌≤◌, true, false, List, [], ◌∷◌, ◌++◌, map, reverse, length, replicate, ◌==◌, Option, None, Some}
 use mathlib.Core.List.{flat_map}
-use Rattle.std.specs.Prelude.{Option, None, Some}
 use Rattle.format.specs.declared.layout.Verdict.{Verdict}
 use Rattle.format.specs.declared.layout.Verdict.TheVariants.{Absent, Good, IgnoredForm, IgnoredList}
 use Rattle.format.specs.declared.line.LineEnd.{LineEnd}

@@ -1,8 +1,5 @@
 -- What the program prints, and the outline that is written along with it.
-use Rattle.std.specs.Prelude.{Some}
-use Rattle.std.specs.Prelude.{ℕ, true, false, List, [], ◌∷◌, ◌++◌, map, length, nat_le}
-use Rattle.std.specs.Prelude.{None}
-use Rattle.std.specs.Prelude.{Option}
+use Rattle.std.specs.Prelude.{Some, ℕ, true, false, List, [], ◌∷◌, ◌++◌, map, length, nat_le, None, Option}
 use mathlib.Core.List.{flat_map}
 use Rattle.format.specs.declared.layout.Tree.{Tree}
 use Rattle.format.specs.declared.layout.Verdict.{Verdict}

@@ -1,7 +1,6 @@
 -- Cases that a hasty reader would get wrong, with their right answers, as a second table of the same form.
 -- proofs/Examples.antt proves that all these answers hold.
-use Rattle.std.specs.Prelude.{ℕ, zero, suc, List, [], ◌∷◌, ◌++◌, length, replicate}
-use Rattle.std.specs.Prelude.{None}
+use Rattle.std.specs.Prelude.{ℕ, zero, suc, List, [], ◌∷◌, ◌++◌, length, replicate, None}
 use Rattle.format.specs.declared.block.Inner.TheVariants.{Plain, Opened, Refused, TooDeep}
 use Rattle.format.specs.declared.layout.Verdict.TheVariants.{Absent, Good, IgnoredForm, IgnoredList}
 use Rattle.format.specs.declared.refusal.Reason.TheVariants.{VersionMalformed, IndexAmongComments, HeaderPassesEnd, HeaderTooSmall, UsedAboveAllocated, AllocatedPassesEnd, TooManyBlocks, StrayTail, TextNotOneTree}

@@ -1,6 +1,5 @@
 -- What the functions promise: the writers, the edit, the writer of a listing, and the exported functions.
 use Rattle.std.specs.Prelude.{◌≡◌, Some, ℕ, ◌+◌, ◌-◌, ◌<◌, ◌≤◌, true, length, take, drop, replicate}
-use Rattle.std.specs.Prelude.{Some}
 use Rattle.std.proofs.Math.Seq.{slice}
 use Rattle.format.specs.declared.refusal.Reason.TheVariants.{BufferTooShort}
 use Rattle.format.specs.Bytes.{Bytes}

@@ -9,7 +9,6 @@ use Rattle.format.specs.File.{most_bytes}
 use Rattle.format.specs.Outcome.{accepted, refused, refusal}
 use Rattle.md5_parts.specs.State.{held, starting, next, fits, taken, fed, digest, fed_all, AllTaken, joined_all, taken_of, CutsAgree}
 use Rattle.md5_parts.proofs.BlockLaws.{left_size, hashed_on, left_on}
-use Rattle.format.specs.declared.refusal.Reason.TheVariants.{FileTooLong}
 
 -- The state `st` is that after the message `s`.
 record Holds (st : Md5) (s : Bytes) : Type 0 where

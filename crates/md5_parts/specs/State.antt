@@ -8,7 +8,6 @@ use Rattle.md5_parts.specs.declared.state.Md5.{Md5}
 use Rattle.md5_parts.specs.declared.state.Fed.{Fed}
 use Rattle.format.specs.declared.refusal.Reason.TheVariants.{FileTooLong}
 use Rattle.md5_parts.specs.Md5.{start, hashed, left, padding, digest_of, md5}
-use Rattle.format.specs.declared.refusal.Reason.TheVariants.{FileTooLong}
 
 -- `t` with zeros after it, up to the length of a block.
 abbrev pub in_block : Bytes → Bytes

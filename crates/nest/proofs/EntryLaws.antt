@@ -5,10 +5,8 @@ use native.Mathlib.Nat.{zero-add, sub-zero, mul-zero, add-mul, suc-mul, one-mul,
 use mathlib.Core.Path.{◌≡◌, refl, sym, ap, ◌∙◌}
 use mathlib.Core.Bool.{Bool, true, false}
 use mathlib.Core.List.{List, [], ◌∷◌, ◌++◌, map, flat_map}
-use Rattle.std.specs.Prelude.{Option, None}
-use lib.ListN.{length, take, drop, get_or, length-append}
-use Rattle.std.specs.Prelude.{slice_get}
-use lib.Seq.{length-take-le}
+use Rattle.std.specs.Prelude.{Option, None, slice_get}
+use lib.ListN.{length, take, get_or, length-append}
 use lib.Dec.{eqb}
 use borrow.Author.Tests.{leb-true, eqb-true, eqb-false, ne_eqb}
 use mir.Syntax.{w8, w64}

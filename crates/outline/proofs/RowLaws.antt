@@ -10,8 +10,7 @@ use Rattle.format.specs.declared.row.Row.{Row}
 use Rattle.format.specs.Bytes.{Bytes, IsBytes, big_endian, to_bytes, wrapped, bit}
 use Rattle.format.specs.Lent.{placed}
 use Rattle.format.specs.Outline.{kind_number, kind_with, fields_of, sum, packed, unpacked, encode_row, decode_row}
-use Rattle.format.proofs.PackLaws.{is_bytes_append, is_bytes_take, is_bytes_drop, big_endian_append, big_endian_to_bytes}
-use Rattle.format.proofs.PackLaws.{to_bytes_length, to_bytes_are_bytes, to_bytes_big_endian, packed_lt, packed_unpacked}
+use Rattle.format.proofs.PackLaws.{is_bytes_append, is_bytes_take, is_bytes_drop, big_endian_append, big_endian_to_bytes, to_bytes_length, to_bytes_are_bytes, to_bytes_big_endian, packed_lt, packed_unpacked}
 use Rattle.format.proofs.RowLaws.{RowFits, encoded_length, bit_lt, bit_of_flag, kind_lt, number_of_kind, decode_encode}
 use Rattle.scan.specs.Number.{BigEndian}
 use Rattle.scan.proofs.NumberLaws.{big_endian_number, big_endian_below}

@@ -12,13 +12,12 @@ use lib.Seq.{take-suc, take_all, split_at}
 use mir.Syntax.{w64}
 use mir.Val.{Fits}
 use borrow.Author.Tests.{le-leb, lt-leb, not-true, not-false, eqb-true, eqb-false}
-use Rattle.std.specs.Prelude.{◌==◌}
+use Rattle.std.specs.Prelude.{◌==◌, Option, Some, None}
 use Rattle.format.specs.Bytes.{Bytes, number}
 use Rattle.format.specs.Numeral.{is_digit, all_digits, decimal_value, is_numeral, numeral}
 use Rattle.format.proofs.ByteLaws.{and_both}
 use Rattle.format.proofs.PackLaws.{big_endian_append}
 use Rattle.format.proofs.NumeralLaws.{digits_append, length_snoc, value_snoc, digit_range, value_below}
-use Rattle.std.specs.Prelude.{Option, Some, None}
 use Rattle.scan.specs.Number.{BigEndian, Digits, digits_number, leads_well, DigitsRead, NumeralRead}
 
 -- If `x` has at most `m` digits to the base `b`, and `m` is at most `n`, then `x` has at most `n` digits.

@@ -6,7 +6,7 @@ use mathlib.Core.Path.{◌≡◌, refl, sym, ◌∙◌, ap}
 use mathlib.Core.Bool.{Bool, true, false, ◌&&◌, ◌||◌, and-false}
 use mathlib.Core.List.{[], ◌∷◌, ◌++◌}
 use lib.ListN.{length, drop, drop_of_length-le, length-append, length-drop}
-use lib.Dec.{eqb}
+use lib.Dec.{eqb, leb}
 use borrow.Author.Tests.{lt-leb, ne_eqb}
 use Rattle.format.specs.Bytes.{Bytes, begins, all_zero}
 use Rattle.format.proofs.ByteLaws.{begins_true}
@@ -15,7 +15,6 @@ use Rattle.scan.specs.Find.{PassedOver}
 use Rattle.std.specs.Prelude.{not, ◌==◌}
 use Rattle.std.specs.List.{list_any, list_all}
 use Rattle.std.specs.Cmp.Lexicographic.{pointwise}
-use lib.Dec.{leb}
 use Rattle.std.proofs.Common.{◌-◌, take}
 use Rattle.std.proofs.lemmas.List.{take_rest}
 use Rattle.scan.proofs.FindLaws.{slice_drop}

@@ -1,6 +1,5 @@
 -- Numbers in bytes and in digits.
-use Rattle.std.specs.Prelude.{ℕ, ◌%◌, ◌^◌, ◌≤◌, ◌<◌, min, ◌≡◌, Bool, true, false, ◌||◌, not, length, leb}
-use Rattle.std.specs.Prelude.{Option, None, Some}
+use Rattle.std.specs.Prelude.{ℕ, ◌%◌, ◌^◌, ◌≤◌, ◌<◌, min, ◌≡◌, Bool, true, false, ◌||◌, not, length, leb, Option, None, Some}
 use Rattle.format.specs.Bytes.{Bytes, text, begins, big_endian}
 use Rattle.format.specs.Numeral.{numeral, all_digits, decimal_value}
 
