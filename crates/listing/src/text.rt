@@ -55,7 +55,7 @@ fn put_row(out: &mut [u8], at: usize, r: Row) -> usize
     put_line(out, at, b"", &numbers)
 }
 
-// Puts the lines of all rows of an outline.
+// Puts the lines of all rows of an outline. Each part has sixteen bytes, so it is proved that there is a row to unwrap.
 fn put_rows(out: &mut [u8], at: usize, b: &[u8]) -> usize
     ensures { PutAt out.old out.new at (row_texts (length b.now / row_bytes) b.now) (most_row * (length b.now / row_bytes)) result }
 {
