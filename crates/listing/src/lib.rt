@@ -30,7 +30,8 @@ const MOST_SHORT: usize = 64;
 
 // Writes the listing of a file at the start of `out` and the file's outline at the start of `rows`, and returns how
 // many bytes the listing has. If one of the buffers is too short, the answer is refusal 21 and neither buffer changes.
-// A file that is refused or too long has one line as its listing, and no outline.
+// A file that is refused or too long has one line as its listing, and no outline. The buffers stay two parameters, here
+// and below, since each promise speaks of both.
 pub fn list(s: &[u8], rows: &mut [u8], out: &mut [u8]) -> Result<u64, Refusal>
     ensures { Listed s.now rows.old out.old rows.new out.new result }
 {
