@@ -61,10 +61,6 @@ module _ {s : Bytes} {out : List ℕ} {count : ℕ} (kept : Kept s out count) {k
           is = accepted_block (rw at at here.read);
         }
 
-    -- The table has an entry for it.
-    pub kept_room : k < length out
-    kept_room = omega (arith, enough_kept out count kept.f.blocks kept.count kept.begin)
-
     -- It begins inside the file.
     pub kept_inside : get_or out k 0 ≤ length s
     kept_inside = kept_each.inside

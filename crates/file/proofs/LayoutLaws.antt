@@ -5,7 +5,7 @@ use native.Mathlib.Omega.{arith}
 use mathlib.Core.Path.{◌≡◌, refl, sym, ap, ◌∙◌}
 use mathlib.Core.List.{List}
 use mathlib.Core.Bool.{Bool, true, false, not, true≢false}
-use lib.ListN.{length, take, drop, replicate, drop_of_length-le, length-drop, length-replicate, length-append, length-map}
+use lib.ListN.{length, take, drop, replicate, drop_of_length-le, length-map}
 use lib.Seq.{drop-cons, take-length}
 use borrow.Author.Tests.{le-leb, lt-leb, not-true, not-false}
 use Rattle.format.specs.declared.layout.Header.{Header}
@@ -26,7 +26,6 @@ use Rattle.format.specs.Index.{indexed, judged, verdict}
 use Rattle.format.specs.File.{File, most_bytes, first_block, goes_on, offsets, table_of, body, file, offset_table, layout_of, layout, block_at}
 use Rattle.format.proofs.ChainLaws.{blocks_few}
 use Rattle.format.proofs.FileLaws.{blocks_start, file_parts}
-use Rattle.format.proofs.ReadLaws.{header_bounds, comments_bounds, first_block_bounds}
 use Rattle.blocks.specs.declared.step.ChainFound.{ChainFound}
 use Rattle.blocks.specs.Chain.{Chained, WalkedAlone, WalkedTo, WalkRefused, WalkedAs, Walked}
 use Rattle.format.specs.declared.block.Block.{Block}
@@ -90,15 +89,6 @@ front_read s few h a n b t c = record { few = few; header_read = a; comments_rea
 
 module _ (s : Bytes) (h : Header) (n : ℕ) (t : Option Tree) (front : FrontRead s h n t) where
   -- What comes before the blocks is inside the file.
-  header_inside : h.end.0 ≤ length s
-  header_inside = header_bounds s h front.header_read
-
-  comments_inside : n ≤ length s
-  comments_inside = omega (arith, header_inside, simp length-drop at (comments_bounds h.end.0 (drop h.end.0 s) n front.comments_read))
-
-  pub first_inside : first_block n t ≤ length s
-  first_inside = omega (arith, first_block_bounds n s t comments_inside front.tree_read)
-
   -- If there is no tree, and neither a block nor the end of the file is where the comments end, the file is refused with
   -- 7 there.
   pub blocks_none : (b : Bool) → b ≡ goes_on t (drop n s) → not b ≡ true → (r : Refusal) → r ≡ refusal NeitherTreeNorBlock n → (before out : List ℕ)
@@ -199,10 +189,6 @@ module _ (s : Bytes) (a : Outcome Layout) (judged : a ≡ layout s) where
       go (accepted f) h = let clash = sym (e) ∙ rw (layout, h) at judged in cc
       go (refused q) h = let same : ◌≡◌ {A = Outcome Layout} (refused r) (refused q) = sym (e) ∙ rw (layout, h) at judged in cc
 
-  -- If the answer is a layout, the file is accepted and has that layout.
-  pub accepted_as : (l : Layout) → a ≡ accepted l → layout s ≡ accepted l
-  accepted_as l e = sym judged ∙ e
-
   -- If the answer is a layout, the table keeps where the blocks of the file begin.
   pub blocks_kept : (before out : List ℕ) → out ≡ offset_table before (file s) → (l : Layout) → a ≡ accepted l → Kept s out l.blocks
   unfolding layout_of layout offset_table
@@ -240,17 +226,6 @@ module _ (s : Bytes) (before out : List ℕ) (a : Outcome Layout) (judged : Judg
           let is : a ≡ accepted (layout_of f) = judged.is ∙ rw h in
           absurd (true≢false (sym e ∙ rw is))
       go (refused q) h = refl
-
--- Reading a file keeps the length of the table.
-pub table_size : (s : Bytes) (before out : List ℕ) → out ≡ offset_table before (file s) → length before ≡ most_blocks → length out ≡ most_blocks
-unfolding offset_table
-table_size s before out is room = ap length is ∙ go (file s) refl
-  where
-    go : (o : Outcome File) → file s ≡ o → length (offset_table before o) ≡ most_blocks
-    go (refused r) e = length-replicate {A = ℕ} most_blocks 0
-    go (accepted f) e =
-        let few = blocks_few most_blocks 0 (blocks_start f) _ (drop (blocks_start f) s) (file_parts s f e).chain_read in
-        rw (length-append, length-map, length-drop) (omega arith)
 
 -- If a file is kept, its offsets are those that the table keeps.
 pub kept_opens : (s : Bytes) (out : List ℕ) (blocks : ℕ) → Kept s out blocks → file_offsets s ≡ accepted (take blocks out)
@@ -299,7 +274,3 @@ verdict_absent s out c e = rw e
 pub verdict_tail : (s : Bytes) (out : List ℕ) (c : ChainFound) (n : ℕ) → c.tail ≡ Some n → (v : Verdict)
     → v ≡ judged (take c.blocks out) (indexed (lines (take (length s - n) (drop n s)))) → v ≡ chain_verdict s out c
 verdict_tail s out c n e v h = rw (e, h, part_all s n)
-
--- Where the tail begins is inside the file.
-pub tail_inside : (s : Bytes) (out : List ℕ) (c : ChainFound) (n : ℕ) → ChainInside s out c → c.tail ≡ Some n → n ≤ length s
-tail_inside s out c n known e = rw e at known.tail

@@ -213,9 +213,6 @@ module _ (s : Bytes) (short : length s ≤ most_input) (a : Outcome Layout) (w :
       outline_taken : Taken (outline s) own n
       outline_taken = written_taken (outline s) h.before own n (rw q at h.outlined.written)
 
-      pub outline_inside : n ≤ length own
-      outline_inside = omega (arith, outline_taken.size, length-take n own)
-
       pub outline_length : length (take n own) ≡ n
       outline_length = outline_taken.size
 

@@ -39,7 +39,7 @@ use Rattle.visit.specs.declared.sink.Form.TheVariants.{Rows, Table, One}
 use Rattle.visit.specs.Content.{file_records}
 use Rattle.visit.specs.Sink.{encoded, width, all_encoded, delivery, number_after, put_all, Delivered}
 use Rattle.visit.proofs.ContentLaws.{refused_records, accepted_records}
-use Rattle.visit.proofs.SinkLaws.{record_length, delivered_length}
+use Rattle.visit.proofs.SinkLaws.{record_length}
 use Rattle.nest.specs.Walk.{all_records}
 
 module _ {s : Bytes} {offsets : List ℕ} {blocks : ℕ} (kept : Kept s offsets blocks) where
@@ -200,10 +200,6 @@ put_encoded form n out (r ∷ rs) wide few fit =
     (put_encoded form (n + 1) (placed out (n * w) (encoded form r)) rs wide (omega arith) (rw (same, placed_length) fit)
     ∙ rw next (placed_append out (n * w) (encoded form r) (all_encoded form rs) (omega arith)))
 
--- If `size` bytes have places for `n` entries of `each` bytes, these entries take no more than `size` bytes.
-pub room_for : (each n size : ℕ) → 0 < each → n ≤ size / each → each * n ≤ size
-room_for each n size h g = rw (mul_comm each n) ((le-div_iff_mul-le h).0 g)
-
 -- The number of bytes that the records take fits into 64 bits, so it can be returned.
 fits_width : (form : Form) (n : ℕ) → n ≤ most_bytes → Fits w64 (width form * n)
 fits_width Rows n h = omega arith
@@ -244,10 +240,6 @@ module _ {s : Bytes} {offsets : List ℕ} {blocks : ℕ} (kept : Kept s offsets 
 
     pub sure_put : Written (accepted (all_encoded form (all_records s))) out after (accepted (each * n))
     sure_put = all_put d sure
-
-  -- If the function's own buffer has places for all records that have come, their bytes are inside it.
-  pub own_room : (size : ℕ) {own made : Bytes} {n : ℕ} → Delivered form 0 own (all_records s) made n → length own ≡ size → n ≤ size / each → each * n ≤ length made
-  own_room size {n = n} d e h = rw (delivered_length d, e) (room_for each n size (omega arith) h)
 
   -- Case: the walk into the function's own buffer has counted `n` records.
   module _ (out : Bytes) {own made : Bytes} {n : ℕ} (d : Delivered form 0 own (all_records s) made n) where
