@@ -88,7 +88,6 @@ pub front_read : (s : Bytes) → length s ≤ most_bytes → (h : Header) → he
 front_read s few h a n b t c = record { few = few; header_read = a; comments_read = b; tree_read = c }
 
 module _ (s : Bytes) (h : Header) (n : ℕ) (t : Option Tree) (front : FrontRead s h n t) where
-  -- What comes before the blocks is inside the file.
   -- If there is no tree, and neither a block nor the end of the file is where the comments end, the file is refused with
   -- 7 there.
   pub blocks_none : (b : Bool) → b ≡ goes_on t (drop n s) → not b ≡ true → (r : Refusal) → r ≡ refusal NeitherTreeNorBlock n → (before out : List ℕ)
