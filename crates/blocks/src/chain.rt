@@ -30,13 +30,15 @@ pub fn walk(s: &[u8], first: usize, offsets: &mut [u64; MOST_BLOCKS]) -> Result<
     walked
 }
 
-// Does the same from an offset inside the file. A refused chain leaves what was kept before the refusal. The table is
-// lent as a slice, because in a proof a reference to an array does not tell the array's length. The loop goes on by
-// itself: where the next block begins is known only after this one is read, so there is nothing that a `for` could go
-// along. The label names it for its proof.
-fn walk_inside(s: &[u8], first: usize, offsets: &mut [u64]) -> Result<ChainFound, Refusal>
-    requires first_in_bounds { first ≤ length s.now }
-    requires offsets_len { length offsets.old ≡ most_blocks }
+// Does the same from an offset inside the file. A refused chain leaves what was kept before the refusal. The loop goes
+// on by itself: where the next block begins is known only after this one is read, so there is nothing that a `for` could
+// go along. The label names it for its proof.
+fn walk_inside(
+    s: &[u8],
+    first: usize,
+    offsets: &mut [u64; MOST_BLOCKS],
+) -> Result<ChainFound, Refusal>
+    requires { first ≤ length s.now }
     ensures { WalkedInside s.now (chain most_blocks 0 first (drop first s.now)) offsets.old offsets.new result }
 {
     let mut at = first;
@@ -82,7 +84,8 @@ fn keep(offsets: &mut [u64], i: usize, at: usize)
 
 // Returns where the next block from offset `at` on begins, or the end of the file if none follows. Blocks mostly follow
 // immediately, and no index can begin where a mark is, so the mark is tried first. Nothing after the beginning of an
-// index is searched. The end stands for none, as in `mark::find`; a refusal needs the offset, so this takes no rest.
+// index is searched. The end stands for none, as in `mark::find`. This takes an offset and not the rest of the bytes,
+// since what it calls does, and its answer is an offset.
 fn next_mark(s: &[u8], at: usize) -> usize
     requires { at ≤ length s.now }
     ensures { NextMark s.now at result }

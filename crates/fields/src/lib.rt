@@ -33,7 +33,8 @@ pub fn layout_fields(l: Layout) -> [u64; 12]
     ]
 }
 
-// Returns whether there is a tree, its start, its end and the end of its room.
+// Returns whether there is a tree, its start, its end and the end of its room. C gets these numbers, and zeros for no
+// tree.
 fn tree_fields(tree: Option<Tree>) -> [u64; 4]
     ensures { result ≡ tree_fields tree }
 {
@@ -75,7 +76,7 @@ pub fn block_fields(b: Block) -> [u64; 10]
     ]
 }
 
-// Returns the number and the place of an inner file's refusal, or zeros if there is none.
+// Returns the number and the place of an inner file's refusal. C gets these numbers, and zeros for none.
 fn refusal_fields(inner: Inner) -> [u64; 2]
     ensures { result ≡ refusal_fields inner }
 {

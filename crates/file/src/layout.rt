@@ -25,7 +25,7 @@ pub fn read(s: &[u8]) -> Result<Layout, Refusal>
 
 // Does the same, and keeps where the blocks begin. The offsets of an accepted file come first in the table, and the
 // rest of the table stays as it was. A refused file leaves only zeros, so that nothing that was kept before the refusal
-// is passed on.
+// is passed on. The table is the caller's, since there is no heap.
 pub fn read_into(s: &[u8], offsets: &mut [u64; MOST_BLOCKS]) -> Result<Layout, Refusal>
     ensures answer { result ≡ layout s.now }
     ensures table { offsets.new ≡ offset_table offsets.old (file s.now) }
@@ -123,9 +123,8 @@ fn first_block(comments_end: usize, tree: Option<Tree>) -> usize
     }
 }
 
-// Returns the verdict on what follows the chain. The offsets are lent as a slice, because no part of an array can be
-// taken through a reference to it.
-fn chain_verdict(s: &[u8], offsets: &[u64], chain: ChainFound) -> Verdict
+// Returns the verdict on what follows the chain.
+fn chain_verdict(s: &[u8], offsets: &[u64; MOST_BLOCKS], chain: ChainFound) -> Verdict
     requires { ChainInside s.now offsets.now chain }
     ensures { result ≡ chain_verdict s.now offsets.now chain }
 {

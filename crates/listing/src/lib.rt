@@ -44,7 +44,7 @@ pub fn list(s: &[u8], rows: &mut [u8], out: &mut [u8]) -> Result<u64, Refusal>
 }
 
 // Does the same as `list`, with buffers that are long enough for every file. The listing is at the start of `out`, and
-// its length is returned.
+// its length is returned. The promise says that the 0 for a refusal is never returned.
 pub fn list_lent(s: &[u8], rows: &mut [u8; LENT_BYTES], out: &mut [u8; LENT_BYTES]) -> usize
     ensures { ListedLent s.now rows.old out.old rows.new out.new result }
 {

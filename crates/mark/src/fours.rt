@@ -1,8 +1,8 @@
 // The search by fours. A mark is four bytes long, so one of every four bytes belongs to it. Therefore every fourth byte
 // is looked at first, and the search steps back only from a byte that belongs to a mark.
 // The tests of 64 bytes have no early exit, no branch and no table, so that the compiled code tests many bytes at a
-// time. They count the place in the block, because that place decides what is looked at; chunks or windows of the block
-// would be slices, whose lengths would have to be proved again.
+// time. They count the place in the block, which decides what is looked at. `fourths` could go along parts of four bytes
+// instead, but then tests that are proved alike would go along the block in two ways.
 ghost use Rattle.std.specs.Prelude.{◌+◌, ◌≤◌, ◌≡◌, length, drop};
 ghost use Rattle.format.specs.Tree.{free_space};
 ghost use Rattle.mark.specs.Fours.{FirstIn, FourthsUpTo, Told, InMark, fourth_of_mark, begins_mark};

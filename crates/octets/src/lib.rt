@@ -6,8 +6,8 @@ ghost use Rattle.std.proofs.Math.Seq.{slice};
 ghost use Rattle.octets.specs.Octets.{index_of};
 
 // Returns where the first `b` from offset `from` up to offset `to` is, or `to` if there is none. A `to` after the end
-// stands for the end. If nothing comes after `from`, the answer is `from`. It is no Option, because callers go on from
-// the answer in either case.
+// stands for the end. If nothing comes after `from`, the answer is `from`. It is no Option: the promise names `to` for
+// none, and may not change.
 pub fn find(s: &[u8], from: usize, to: usize, b: u8) -> usize
     ensures value { result ≡ from + index_of b (slice from to s.now) }
     ensures inside { result ≤ max from to }

@@ -45,7 +45,8 @@ fn decimal_length(x: u64) -> usize
     }
 }
 
-// Puts the `n` digits of a number, which have to fit. The last digit is put first.
+// Puts the `n` digits of a number, which have to fit. The last digit is put first. The range gives the places: of an
+// adapter of `iter_mut` a proof learns nothing.
 fn put_digits(out: &mut [u8], at: usize, n: usize, x: u64)
     requires n_value { n ≡ length (decimal x) }
     requires n_in_bounds { at + n ≤ length out.old }

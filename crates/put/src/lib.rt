@@ -42,8 +42,9 @@ fn put_bytes(out: &mut [u8], at: usize, width: usize, x: u64)
     out[end - 8..end].copy_from_slice(&x.to_be_bytes());
 }
 
-// Puts numbers at an offset, each in eight bytes. If they do not all fit, nothing changes. The loop counts the offset: a
-// loop over chunks of the buffer would put the bytes of a number in a second way.
+// Puts numbers at an offset, each in eight bytes. If they do not all fit, nothing changes. The loop counts the offset:
+// with an index from `enumerate` it would be computed in each turn, and of an adapter of `iter_mut` over parts of the
+// buffer a proof learns nothing.
 pub fn put_numbers(out: &mut [u8], at: usize, numbers: &[u64])
     ensures { out.new ≡ placed out.old at (number_bytes numbers.now) }
 {

@@ -1,8 +1,8 @@
 // The search for a byte, and blocks of bytes that are passed over (not blocks of a file). A block is tested without an
 // early exit, so that the compiled code tests many bytes at a time.
-// A search takes an offset and answers with one, and the end stands for none: the callers go on from the answer whether
-// or not a byte was found, so an Option would be taken apart at once. That the offset is inside the bytes stands in
-// three contracts. The rest of the bytes in place of the offset would cost an addition at every call.
+// The end stands for none, as in `octets::find`: with an Option, the test would stand here at each of two calls, and it
+// stands once in the caller, `long_line`. That the offset is inside the bytes stands in three contracts: the caller has
+// an offset and needs one, so the rest of the bytes in its place would be no plainer.
 ghost use Rattle.std.specs.Prelude.{◌≤◌, ◌≡◌, ℕ, Bool, length};
 ghost use Rattle.std.specs.List.{list_any};
 ghost use Rattle.scan.specs.Find.{Computes, PassedOver, first_from};
