@@ -1,15 +1,16 @@
 -- Laws about the header: one for each return of the functions that read the version and the header.
-use Prim.Native.Nat.{ℕ, ◌-◌}
+use Prim.Native.Nat.{ℕ, ◌-◌, ◌≤◌, ◌<◌}
 use native.Mathlib.Omega.{arith}
 use mathlib.Core.Path.{◌≡◌, refl, sym, ap, ◌∙◌}
 use mathlib.Core.Bool.{Bool, true, false, not}
-use mathlib.Core.List.{List, [], ◌∷◌}
+use mathlib.Core.List.{List, [], ◌∷◌, ◌++◌}
 use denote.Ref.{Bor}
-use Rattle.std.specs.Prelude.{Option, None, Some}
+use Rattle.std.specs.Prelude.{Option, None, Some, leb}
+use Rattle.std.proofs.Common.{leb-true}
 use Rattle.std.specs.Iterator.{AlwaysYields}
 use Rattle.std.proofs.lemmas.Iterator.{YieldsList}
 use Rattle.std.specs.Option.{is_some}
-use lib.ListN.{take, drop}
+use lib.ListN.{length, length-append, take, drop}
 use mir.Syntax.{w16}
 use mir.Val.{Fits}
 use borrow.Author.Tests.{not-true, not-false, eq-eqb, ne_eqb}
@@ -20,7 +21,9 @@ use Rattle.format.specs.declared.refusal.Reason.TheVariants.{NotAsdf, VersionMal
 use Rattle.format.specs.Bytes.{Bytes, begins}
 use Rattle.format.specs.Outcome.{Outcome, accepted, refused, refusal}
 use Rattle.format.specs.Line.{lines}
-use Rattle.format.specs.Numeral.{numeral, both, numerals, split}
+use Rattle.format.specs.Numeral.{is_numeral, numeral, both, numerals, split}
+use Rattle.format.proofs.ByteLaws.{and_left, and_right}
+use Rattle.format.proofs.NumeralLaws.{joined, split_parts}
 use Rattle.format.specs.Header as Header
 use Rattle.scan.specs.declared.line.Line.{Line}
 use Rattle.scan.specs.Line.{LineRead}
@@ -81,6 +84,51 @@ four_parts (Some x) (Some y) None d o = refl
 four_parts (Some x) (Some y) (Some z) None o = refl
 four_parts (Some x) (Some y) (Some z) (Some w) None = refl
 four_parts (Some x) (Some y) (Some z) (Some w) (Some ns) = refl
+
+-- A number of a version has at most four digits.
+number_few : (p : Bytes) (x : ℕ) → numeral 4 p ≡ Some x → length p ≤ 4
+unfolding numeral
+number_few p x h =
+    leb-true (length p) 4 (and_right (leb 1 (length p)) _ (and_left _ _ (and_left _ _ (go (is_numeral 4 p) refl))))
+  where
+    go : (y : Bool) → is_numeral 4 p ≡ y → is_numeral 4 p ≡ true
+    go true e = e
+    go false e = cc
+
+-- Three numbers of at most four digits, joined by points, have at most fourteen bytes. So more bytes are no version.
+long_parts : (ps : List Bytes) → 14 < length (joined 46 ps) → Header.version_of (numerals 4 ps) ≡ None
+unfolding Header.version_of numerals both joined
+long_parts [] h = refl
+long_parts (p ∷ []) h = go (numeral 4 p)
+  where
+    go : (a : Option ℕ) → Header.version_of (both a (Some [])) ≡ None
+    go None = refl
+    go (Some x) = refl
+long_parts (p ∷ q ∷ []) h = go (numeral 4 p) (numeral 4 q)
+  where
+    go : (a b : Option ℕ) → Header.version_of (both a (both b (Some []))) ≡ None
+    go None b = refl
+    go (Some x) None = refl
+    go (Some x) (Some y) = refl
+long_parts (p ∷ q ∷ r ∷ []) h = go (numeral 4 p) (numeral 4 q) (numeral 4 r) refl refl refl
+  where
+    go : (a b c : Option ℕ) → numeral 4 p ≡ a → numeral 4 q ≡ b → numeral 4 r ≡ c → Header.version_of (both a (both b (both c (Some [])))) ≡ None
+    go None b c e f g = refl
+    go (Some x) None c e f g = refl
+    go (Some x) (Some y) None e f g = refl
+    go (Some x) (Some y) (Some z) e f g =
+        let first = number_few p x e in
+        let second = number_few q y f in
+        let third = number_few r z g in
+        absurd (omega (arith, h, length-append p (46 ∷ q ++ (46 ∷ r)), length-append q (46 ∷ r)))
+long_parts (p ∷ q ∷ r ∷ w ∷ ws) h = four_parts (numeral 4 p) (numeral 4 q) (numeral 4 r) (numeral 4 w) (numerals 4 ws)
+
+-- If `t` has more than fourteen bytes, then it is no version.
+pub version_long : (t : Bytes) → 14 < length t → None ≡ Header.version t
+unfolding Header.version
+version_long t h =
+    let parts = split_parts 46 t in
+    sym (long_parts (split 46 t) (rw parts.whole h))
 
 -- If there is no part, then there is no version.
 pub version_none : (t : Bytes) → split 46 t ≡ [] → (v : Option Version) → v ≡ None → v ≡ Header.version t

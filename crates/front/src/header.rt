@@ -28,10 +28,17 @@ pub fn read_header(s: &[u8]) -> Result<Header, Refusal>
     })
 }
 
-// Reads a version: three numbers of 1 to 4 digits, joined by points.
+// The length of the longest version, in bytes: three numbers of four digits, and two points.
+const MOST_VERSION: usize = 14;
+
+// Reads a version: three numbers of 1 to 4 digits, joined by points. A line may be as long as the file, so a text that
+// is too long for a version is not looked at.
 fn read_version(t: &[u8]) -> Option<Version>
     ensures { result ≡ version t.now }
 {
+    if MOST_VERSION < t.len() {
+        return None;
+    }
     let mut parts = t.split(|b| *b == b'.');
     let major = number(parts.next()?)?;
     let minor = number(parts.next()?)?;

@@ -19,7 +19,9 @@ pub struct Line {
 }
 
 // Reads the line that begins at an offset, if a 0A follows. If its first byte is 0A, the line is empty and no search is
-// needed.
+// needed. This and `long_line` are put into their callers' loops, where a line stays in registers: a call hands it back
+// through memory, and lines of one to three bytes took 1.2 to 1.3 times as long.
+#[inline(always)]
 pub fn line_at(s: &[u8], at: usize) -> Option<Line>
     ensures { LineRead s.now at result }
 {
@@ -33,8 +35,8 @@ pub fn line_at(s: &[u8], at: usize) -> Option<Line>
     long_line(s, at)
 }
 
-// Reads the same line, without the shortcut for an empty one. Two functions call it, so the compiler keeps it a
-// separate function. This leaves `line_at` small enough to be inlined in its callers' loops.
+// Reads the same line, without the shortcut for an empty one.
+#[inline(always)]
 fn long_line(s: &[u8], at: usize) -> Option<Line>
     ensures { LineRead s.now at result }
 {

@@ -1,8 +1,11 @@
 -- The parts come one after another, as the definition cuts them. In each answer, `parts` says which they are.
-use Rattle.std.proofs.Common.{rules, tests, sym, ◌∙◌}
+use Rattle.std.proofs.Common.{rules, tests, sym, arith, ◌∙◌}
 use Rattle.scan.proofs.SplitLaws.{split_starts}
-use Rattle.front.proofs.HeaderLaws.{next_part, no_part, some_part, none_left, version_none, version_major, version_one, version_minor, version_two, version_patch, version_more, version_read}
+use Rattle.front.proofs.HeaderLaws.{next_part, no_part, some_part, none_left, version_long, version_none, version_major, version_one, version_minor, version_two, version_patch, version_more, version_read}
 use Rattle.front.proofs.header.read_version.Goals as goal
+
+pub returns-then-t-gt-MOST_VERSION : goal.returns-then-t-gt-MOST_VERSION
+returns-then-t-gt-MOST_VERSION c = version_long _ (omega (arith, c.if-t-gt-MOST_VERSION.true))
 
 pub returns-in_err-next : goal.returns-in_err-next
 returns-in_err-next c =
