@@ -70,7 +70,7 @@ unfolding Header.version Header.version_of numerals both
 version_without_point t first f e =
     let found : 0 + index_of 46 t ≡ length t = rw (take-length t) at (sym f ∙ e) in
     let none : index_of 46 t ≡ length t = omega (arith, found) in
-    rw (one_part t none) (sym (one (numeral 4 t)))
+    rw (one_part t none) (sym (one _))
   where
     one : (o : Option ℕ) → Header.version_of (both o (Some [])) ≡ None
     one None = refl
