@@ -75,6 +75,18 @@ unfolding both
 both_none None = refl
 both_none (Some x) = refl
 
+-- One number is no version, and two are none.
+one_number : (a : Option ℕ) → Header.version_of (both a (Some [])) ≡ None
+unfolding Header.version_of both
+one_number None = refl
+one_number (Some x) = refl
+
+two_numbers : (a b : Option ℕ) → Header.version_of (both a (both b (Some []))) ≡ None
+unfolding Header.version_of both
+two_numbers None b = refl
+two_numbers (Some x) None = refl
+two_numbers (Some x) (Some y) = refl
+
 -- More than three numbers are no version.
 four_parts : (a b c d : Option ℕ) (o : Option (List ℕ)) → Header.version_of (both a (both b (both c (both d o)))) ≡ None
 unfolding Header.version_of both
@@ -99,17 +111,8 @@ number_few p x h =
 long_parts : (ps : List Bytes) → 14 < length (joined 46 ps) → Header.version_of (numerals 4 ps) ≡ None
 unfolding Header.version_of numerals both joined
 long_parts [] h = refl
-long_parts (p ∷ []) h = go (numeral 4 p)
-  where
-    go : (a : Option ℕ) → Header.version_of (both a (Some [])) ≡ None
-    go None = refl
-    go (Some x) = refl
-long_parts (p ∷ q ∷ []) h = go (numeral 4 p) (numeral 4 q)
-  where
-    go : (a b : Option ℕ) → Header.version_of (both a (both b (Some []))) ≡ None
-    go None b = refl
-    go (Some x) None = refl
-    go (Some x) (Some y) = refl
+long_parts (p ∷ []) h = one_number (numeral 4 p)
+long_parts (p ∷ q ∷ []) h = two_numbers (numeral 4 p) (numeral 4 q)
 long_parts (p ∷ q ∷ r ∷ []) h = go (numeral 4 p) (numeral 4 q) (numeral 4 r) refl refl refl
   where
     go : (a b c : Option ℕ) → numeral 4 p ≡ a → numeral 4 q ≡ b → numeral 4 r ≡ c → Header.version_of (both a (both b (both c (Some [])))) ≡ None
@@ -144,11 +147,7 @@ module _ (t p : Bytes) (ps : List Bytes) (a : split 46 t ≡ p ∷ ps) (x : Opti
   -- If there is only one part, then `t` is no version.
   pub version_one : ps ≡ [] → (v : Option Version) → v ≡ None → v ≡ Header.version t
   unfolding Header.version Header.version_of numerals both
-  version_one e v n = n ∙ sym (rw (a, e) (one (numeral 4 p)))
-    where
-      one : (o : Option ℕ) → Header.version_of (both o (Some [])) ≡ None
-      one None = refl
-      one (Some x) = refl
+  version_one e v n = n ∙ sym (rw (a, e) (one_number (numeral 4 p)))
 
   module _ (q : Bytes) (qs : List Bytes) (b : ps ≡ q ∷ qs) (y : Option ℕ) (minor : y ≡ numeral 4 q) where
     -- If the second part is no number, then `t` is no version.
@@ -159,12 +158,7 @@ module _ (t p : Bytes) (ps : List Bytes) (a : split 46 t ≡ p ∷ ps) (x : Opti
     -- If there are only two parts, then `t` is no version.
     pub version_two : qs ≡ [] → (v : Option Version) → v ≡ None → v ≡ Header.version t
     unfolding Header.version Header.version_of numerals both
-    version_two e v n = n ∙ sym (rw (a, b, e) (two (numeral 4 p) (numeral 4 q)))
-      where
-        two : (o i : Option ℕ) → Header.version_of (both o (both i (Some []))) ≡ None
-        two None i = refl
-        two (Some x) None = refl
-        two (Some x) (Some y) = refl
+    version_two e v n = n ∙ sym (rw (a, b, e) (two_numbers (numeral 4 p) (numeral 4 q)))
 
     module _ (r : Bytes) (rs : List Bytes) (c : qs ≡ r ∷ rs) (z : Option ℕ) (patch : z ≡ numeral 4 r) where
       -- If the third part is no number, then `t` is no version.
