@@ -4,9 +4,8 @@ use Rattle.std.specs.Option.{IsSomeAnd}
 use Rattle.std.specs.Result.{IsErrAnd}
 use Rattle.std.proofs.lemmas.Result.{err_from_is_err_and}
 use Rattle.format.specs.declared.layout.Layout.{Layout}
-use Rattle.format.specs.declared.refusal.Refusal.{Refusal}
 use Rattle.format.specs.Bytes.{Bytes}
-use Rattle.format.specs.Outcome.{Outcome, accepted, refused}
+use Rattle.format.specs.Outcome.{Refusal, Outcome, accepted, refused}
 use Rattle.format.specs.File.{layout}
 use Rattle.format.specs.Fields.{number_bytes, layout_fields, layout_bytes, found_numbers, found_bytes}
 use Rattle.format.specs.Promise.{Written}

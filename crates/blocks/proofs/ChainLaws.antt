@@ -12,11 +12,10 @@ use mir.Syntax.{w64}
 use mir.Val.{Fits}
 use Rattle.format.specs.declared.block.Block.{Block}
 use Rattle.std.specs.Prelude.{Result, Ok, Err, is_err}
-use Rattle.format.specs.declared.refusal.Refusal.{Refusal}
 use Rattle.format.specs.declared.refusal.Reason.{Reason}
 use Rattle.format.specs.declared.refusal.Reason.TheVariants.{TooManyBlocks, StrayTail}
 use Rattle.format.specs.Bytes.{Bytes, begins, all_zero}
-use Rattle.format.specs.Outcome.{Outcome, accepted, refused, refusal, ◌>>=◌}
+use Rattle.format.specs.Outcome.{Refusal, Outcome, accepted, refused, refusal, ◌>>=◌}
 use Rattle.format.specs.Comments.{index_line}
 use Rattle.format.specs.Tree.{mark, free_space}
 use Rattle.format.specs.Block.{flags, allocated_size, is_streamed, content_start, block, sound_block}

@@ -1,9 +1,8 @@
 -- What is found where a block may begin, and what a walk along the chain finds.
 use Rattle.std.specs.Prelude.{ℕ, ◌+◌, ◌-◌, ◌≤◌, ◌<◌, ◌≡◌, Bool, true, false, List, [], length, drop, replicate, None, Some}
 use Rattle.format.specs.declared.block.Block.{Block}
-use Rattle.format.specs.declared.refusal.Refusal.{Refusal}
 use Rattle.format.specs.Bytes.{Bytes, all_zero}
-use Rattle.format.specs.Outcome.{Outcome, accepted, refused, ◌>>=◌}
+use Rattle.format.specs.Outcome.{Refusal, Outcome, accepted, refused, ◌>>=◌}
 use Rattle.format.specs.Chain.{Chain, most_blocks, ended, linked, next_block, chain}
 use Rattle.format.specs.File.{table_of}
 use Rattle.blocks.specs.declared.step.Link.{Link}

@@ -6,13 +6,12 @@ use borrow.Author.Tests.{leb-true, leb-false}
 use Rattle.format.specs.declared.answer.Check.{Check}
 use Rattle.format.specs.declared.answer.Check.TheVariants.{NotStated, Agrees, Differs}
 use Rattle.format.specs.declared.block.Block.{Block}
-use Rattle.format.specs.declared.refusal.Refusal.{Refusal}
 use Rattle.format.specs.declared.refusal.Reason.TheVariants.{NoSuchBlock}
 use Rattle.format.specs.Bytes.{Bytes}
 use Rattle.format.specs.Check.{states_md5, is_checksum, check_block, named, checked}
 use Rattle.format.specs.File.{File, most_bytes, file, block_at}
 use Rattle.format.specs.Nest.{content_at, content_of}
-use Rattle.format.specs.Outcome.{Outcome, accepted, refused, refusal, ◌>>=◌}
+use Rattle.format.specs.Outcome.{Refusal, Outcome, accepted, refused, refusal, ◌>>=◌}
 use Rattle.format.proofs.BlockLaws.{accepted_block}
 use Rattle.format.proofs.FileBlockLaws.{element, file_blocks}
 use Rattle.format.proofs.FileLaws.{blocks_start, file_parts}

@@ -13,10 +13,9 @@ use mir.Val.{Fits}
 use Rattle.format.specs.declared.layout.Layout.{Layout}
 use Rattle.format.specs.declared.line.LineEnd.{LineEnd}
 use Rattle.format.specs.declared.block.Block.{Block}
-use Rattle.format.specs.declared.refusal.Refusal.{Refusal}
 use Rattle.format.specs.declared.refusal.Reason.TheVariants.{NoIndexPossible}
 use Rattle.format.specs.Bytes.{Bytes, IsBytes}
-use Rattle.format.specs.Outcome.{Outcome, accepted, refused, refusal}
+use Rattle.format.specs.Outcome.{Refusal, Outcome, accepted, refused, refusal}
 use Rattle.format.specs.Block.{is_streamed}
 use Rattle.format.specs.Chain.{most_blocks}
 use Rattle.format.specs.Index.{index_text}

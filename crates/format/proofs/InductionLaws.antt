@@ -2,10 +2,9 @@
 use Rattle.std.proofs.Common.{◌≡◌, ℕ, zero, suc, ◌+◌, Bool, true, false, [], drop, refl}
 use Rattle.std.specs.Prelude.{None}
 use Rattle.format.specs.declared.block.Block.{Block}
-use Rattle.format.specs.declared.refusal.Refusal.{Refusal}
 use Rattle.format.specs.declared.refusal.Reason.TheVariants.{TooManyBlocks, StrayTail}
 use Rattle.format.specs.Bytes.{Bytes}
-use Rattle.format.specs.Outcome.{Outcome, accepted, refused, refusal, ◌>>=◌}
+use Rattle.format.specs.Outcome.{Refusal, Outcome, accepted, refused, refusal, ◌>>=◌}
 use Rattle.format.specs.Block.{is_streamed, block}
 use Rattle.format.specs.Chain.{Chain, extent, is_tail, ended, linked, next_block, tail, linked_at, chain}
 use Rattle.format.proofs.OutcomeLaws.{Accepts, accepted_holds, accepts_need, found_choice}

@@ -10,10 +10,9 @@ use Rattle.format.specs.declared.line.LineEnd.{LineEnd}
 use Rattle.format.specs.declared.refusal.Reason.{Reason}
 use Rattle.format.specs.declared.refusal.Reason.TheVariants.{FileTooLong, NotAsdf, VersionMalformed, VersionNotOne, CommentNotEnded, IndexAmongComments, NeitherTreeNorBlock, WrongLineBeforeStart, SecondStartLine, TreeNotEnded, HeaderPassesEnd, HeaderTooSmall, UsedAboveAllocated, DataSizeDiffers, AllocatedPassesEnd, TooManyBlocks, StrayTail, EditWithoutTree, TextNotOneTree, TextLongerThanRoom, BufferTooShort, NoIndexPossible, OutlineLength, OutlineRow, NoSuchBlock}
 use Rattle.format.specs.Reason.{reason_number}
-use Rattle.format.specs.declared.refusal.Refusal.{Refusal}
 use Rattle.format.specs.declared.row.Row.{Row}
 use Rattle.format.specs.Bytes.{Bytes, text, begins, same}
-use Rattle.format.specs.Outcome.{Outcome, accepted, refused, need, ◌>>=◌, ◌>>◌}
+use Rattle.format.specs.Outcome.{Refusal, Outcome, accepted, refused, need, ◌>>=◌, ◌>>◌}
 use Rattle.format.specs.Line.{Lines, unended, line, after_line, lines}
 use Rattle.format.specs.Header.{token, header_of, version_line, header}
 use Rattle.format.specs.Comments.{comments, index_line}

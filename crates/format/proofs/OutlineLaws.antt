@@ -3,10 +3,9 @@
 use Rattle.std.proofs.Common.{◌≡◌, ℕ, zero, suc, ◌+◌, ◌*◌, ◌/◌, ◌%◌, ◌≤◌, Bool, true, false, eqb, leb, List, [], ◌∷◌, ◌++◌, map, length, take, drop, refl, append-nil, arith, length-append, length-drop, take-append-drop, length-take-le, take_at, drop_at, eqb-true, leb-true}
 use mathlib.Core.List.{flat_map}
 use Rattle.format.specs.declared.row.Row.{Row}
-use Rattle.format.specs.declared.refusal.Refusal.{Refusal}
 use Rattle.format.specs.declared.refusal.Reason.TheVariants.{FileTooLong, OutlineLength}
 use Rattle.format.specs.Bytes.{Bytes, IsBytes}
-use Rattle.format.specs.Outcome.{Outcome, accepted, refused, refusal, ◌>>=◌}
+use Rattle.format.specs.Outcome.{Refusal, Outcome, accepted, refused, refusal, ◌>>=◌}
 use Rattle.format.specs.File.{File, most_bytes, file}
 use Rattle.format.specs.Nest.{deepest, opened, walk, walk_file, records_from, records}
 use Rattle.format.specs.Outline.{row_of, encode_row, decode_row, outline_of, rows, outline, stored_from, stored}

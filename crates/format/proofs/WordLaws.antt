@@ -3,10 +3,9 @@ use Rattle.std.proofs.Common.{◌≡◌, ℕ, refl, ap, ◌+◌, ◌/◌, ◌%�
 use Rattle.std.specs.Prelude.{Some}
 use Rattle.format.specs.declared.refusal.Reason.{Reason}
 use Rattle.format.specs.declared.refusal.Reason.TheVariants.{FileTooLong, NotAsdf, VersionMalformed, VersionNotOne, CommentNotEnded, IndexAmongComments, NeitherTreeNorBlock, WrongLineBeforeStart, SecondStartLine, TreeNotEnded, HeaderPassesEnd, HeaderTooSmall, UsedAboveAllocated, DataSizeDiffers, AllocatedPassesEnd, TooManyBlocks, StrayTail, EditWithoutTree, TextNotOneTree, TextLongerThanRoom, BufferTooShort, NoIndexPossible, OutlineLength, OutlineRow, NoSuchBlock}
-use Rattle.format.specs.declared.refusal.Refusal.{Refusal}
 use Rattle.format.specs.Reason.{reason_number, reason_with}
 use Rattle.format.specs.Bytes.{Bytes}
-use Rattle.format.specs.Outcome.{Outcome, accepted, refused, refusal}
+use Rattle.format.specs.Outcome.{Refusal, Outcome, accepted, refused, refusal}
 use Rattle.format.specs.Lent.{writes}
 use Rattle.format.specs.Export.{least_refusal, word, said, refused_with}
 use Rattle.format.specs.Promise.{Returned}

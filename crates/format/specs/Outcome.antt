@@ -3,14 +3,18 @@
 use Rattle.std.specs.Prelude.{ℕ, Bool, true, false, Result}
 pub use Rattle.std.specs.Prelude.{Ok as accepted, Err as refused}
 use Rattle.format.specs.declared.refusal.Reason.{Reason}
-use Rattle.format.specs.declared.refusal.Refusal.{Refusal}
+use Rattle.format.specs.declared.refusal.Refusal.{Refusal as Refusal·is}
+
+-- A refusal with one of the reasons.
+abbrev pub Refusal : Type 0
+Refusal = Refusal·is Reason
 
 -- Either what was asked for, of type `A`, or a refusal.
 abbrev pub Outcome : Type 0 → Type 0
 Outcome A = Result A Refusal
 
 -- The refusal for the reason `x` at place `p`. docs/REFUSALS.md lists the reasons.
-abbrev pub refusal : Reason → ℕ → Refusal
+abbrev pub refusal : {R : Type 0} → R → ℕ → Refusal·is R
 refusal x p = record { reason = x; place = record { 0 = p } }
 
 -- One step and then another, `f`, which takes the result of the first. If the first step refuses, its refusal is the

@@ -45,16 +45,17 @@ impl Reason {
     }
 }
 
-// The reason says why something was refused, and the place says where.
+// The reason says why something was refused, and the place says where. In this repository the reason is always a
+// `Reason`. A caller that has only the number, as C gets it, can make a refusal with that.
 #[derive(Clone, Copy)]
-pub struct Refusal {
-    pub reason: Reason,
+pub struct Refusal<R = Reason> {
+    pub reason: R,
     pub place: Offset,
 }
 
-impl Refusal {
+impl<R> Refusal<R> {
     // Makes the refusal for this reason, at this place of what was lent.
-    pub fn new(reason: Reason, place: usize) -> Refusal
+    pub fn new(reason: R, place: usize) -> Refusal<R>
         ensures { result ≡ refusal reason place }
     {
         Refusal {

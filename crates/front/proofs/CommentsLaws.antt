@@ -4,10 +4,9 @@ use Prim.Native.Nat.{ℕ, ◌-◌}
 use mathlib.Core.Path.{◌≡◌, refl, sym, ap, ◌∙◌}
 use mathlib.Core.Bool.{Bool, true, false}
 use lib.ListN.{take, drop}
-use Rattle.format.specs.declared.refusal.Refusal.{Refusal}
 use Rattle.format.specs.declared.refusal.Reason.TheVariants.{CommentNotEnded, IndexAmongComments}
 use Rattle.format.specs.Bytes.{Bytes, text, begins, same}
-use Rattle.format.specs.Outcome.{Outcome, accepted, refused, refusal}
+use Rattle.format.specs.Outcome.{Refusal, Outcome, accepted, refused, refusal}
 use Rattle.format.specs.Line.{lines}
 use Rattle.format.specs.Comments.{index_line, comments}
 use Rattle.format.proofs.ReadLaws.{no_comments}

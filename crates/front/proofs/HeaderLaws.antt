@@ -14,12 +14,11 @@ use lib.ListN.{length, length-append, take, drop}
 use mir.Syntax.{w16}
 use mir.Val.{Fits}
 use borrow.Author.Tests.{not-true, not-false, eq-eqb, ne_eqb}
-use Rattle.format.specs.declared.refusal.Refusal.{Refusal}
 use Rattle.format.specs.declared.layout.Version.{Version}
 use Rattle.format.specs.declared.layout.Header.{Header as Header·is}
 use Rattle.format.specs.declared.refusal.Reason.TheVariants.{NotAsdf, VersionMalformed, VersionNotOne}
 use Rattle.format.specs.Bytes.{Bytes, begins}
-use Rattle.format.specs.Outcome.{Outcome, accepted, refused, refusal}
+use Rattle.format.specs.Outcome.{Refusal, Outcome, accepted, refused, refusal}
 use Rattle.format.specs.Line.{lines}
 use Rattle.format.specs.Numeral.{is_numeral, numeral, both, numerals, split}
 use Rattle.format.proofs.ByteLaws.{and_left, and_right}

@@ -7,11 +7,10 @@ use Rattle.std.specs.Result.{MatchResult}
 use lib.ListN.{length, take, drop}
 use lib.Dec.{eqb}
 use borrow.Author.Tests.{not-true, not-false}
-use Rattle.format.specs.declared.refusal.Refusal.{Refusal}
 use Rattle.format.specs.declared.line.LineEnd.{LineEnd}
 use Rattle.format.specs.declared.refusal.Reason.TheVariants.{WrongLineBeforeStart, SecondStartLine, TreeNotEnded}
 use Rattle.format.specs.Bytes.{Bytes, same}
-use Rattle.format.specs.Outcome.{Outcome, accepted, refused, refusal, ◌>>=◌}
+use Rattle.format.specs.Outcome.{Refusal, Outcome, accepted, refused, refusal, ◌>>=◌}
 use Rattle.format.specs.Line.{Lines, unended, line, lines}
 use Rattle.format.specs.Tree.{yaml_line, end_line, is_start, is_directive, content, directives, tree_end, with_room, tree}
 use Rattle.format.specs.Edit.{ends_at, is_one_tree}

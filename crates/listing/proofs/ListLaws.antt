@@ -10,13 +10,12 @@ use borrow.Author.Tests.{le-leb, lt-leb, leb-true, leb-false}
 use mir.Syntax.{w8}
 use mir.Val.{Fits}
 use Rattle.format.specs.declared.layout.Layout.{Layout}
-use Rattle.format.specs.declared.refusal.Refusal.{Refusal}
 use Rattle.format.specs.declared.row.Row.{Row}
 use Rattle.format.specs.declared.refusal.Reason.TheVariants.{BufferTooShort}
 use Rattle.format.specs.Bytes.{Bytes, IsBytes, text}
 use Rattle.format.specs.File.{File, file, layout, layout_of}
 use Rattle.format.specs.Lent.{writes, leaves, both_fit}
-use Rattle.format.specs.Outcome.{Outcome, accepted, refused, refusal, ◌>>=◌}
+use Rattle.format.specs.Outcome.{Refusal, Outcome, accepted, refused, refusal, ◌>>=◌}
 use Rattle.format.specs.Outline.{row_bytes, outline_of, rows, outline, stored}
 use Rattle.format.specs.Listing.{most_input, sentence, file_listing, printed, listing, outline_bytes, outline_for, lent_bytes}
 use Rattle.format.specs.Promise.{Written, OutlineWritten, BothPut, Listed, ListedLent}

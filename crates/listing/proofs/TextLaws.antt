@@ -10,12 +10,11 @@ use Rattle.std.proofs.Common.{take_all, IsSome}
 use borrow.Author.Tests.{le-leb}
 use Rattle.format.specs.declared.layout.Tree.{Tree}
 use Rattle.format.specs.declared.layout.Verdict.{Verdict}
-use Rattle.format.specs.declared.refusal.Refusal.{Refusal}
 use Rattle.format.specs.declared.row.Row.{Row}
 use Rattle.format.specs.Bytes.{Bytes, text}
 use Rattle.format.specs.Fields.{row_fields}
 use Rattle.format.specs.Numeral.{decimal}
-use Rattle.format.specs.Outcome.{refused}
+use Rattle.format.specs.Outcome.{Refusal, refused}
 use Rattle.format.specs.Outline.{decode_row, row_bytes}
 use Rattle.format.specs.Listing.{sentence, tree_text, row_text, printed}
 use Rattle.format.specs.Reason.{reason_number}

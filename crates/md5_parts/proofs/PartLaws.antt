@@ -10,8 +10,7 @@ use Rattle.format.specs.declared.refusal.Reason.TheVariants.{FileTooLong}
 use Rattle.format.specs.Bytes.{Bytes}
 use Rattle.md5_parts.specs.Md5.{compressed, blocks, hashed, left, padding, digest_of}
 use Rattle.format.specs.File.{most_bytes}
-use Rattle.format.specs.Outcome.{accepted, refused, refusal}
-use Rattle.format.specs.declared.refusal.Refusal.{Refusal}
+use Rattle.format.specs.Outcome.{Refusal, accepted, refused, refusal}
 use Rattle.md5_parts.specs.State.{in_block, held, next, taken, fed, digest}
 use Rattle.md5_parts.proofs.BlockLaws.{compressed_take, hashed_append, left_append}
 use Rattle.md5_parts.proofs.PaddingLaws.{full}

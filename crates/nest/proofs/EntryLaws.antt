@@ -13,11 +13,10 @@ use mir.Syntax.{w8, w64}
 use mir.Val.{Fits}
 use Rattle.format.specs.declared.block.Record.{Record}
 use Rattle.format.specs.declared.offset.OutermostOffset.{OutermostOffset}
-use Rattle.format.specs.declared.refusal.Refusal.{Refusal}
 use Rattle.format.specs.declared.refusal.Reason.TheVariants.{BufferTooShort}
 use Rattle.format.specs.Bytes.{Bytes, wrapped}
 use Rattle.format.specs.Block.{least_block}
-use Rattle.format.specs.Outcome.{Outcome, accepted, refused, refusal}
+use Rattle.format.specs.Outcome.{Refusal, Outcome, accepted, refused, refusal}
 use Rattle.format.specs.File.{most_bytes, layout}
 use Rattle.format.specs.Nest.{deepest, records, record_count, record_at}
 use Rattle.format.specs.Fields.{record_fields, record_bytes, encode_record, record_table, found_numbers, found_bytes}

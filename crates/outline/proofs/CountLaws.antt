@@ -2,11 +2,10 @@
 -- outline.
 use Rattle.std.proofs.Common.{ℕ, suc, ◌+◌, ◌*◌, ◌-◌, ◌/◌, ◌%◌, ◌≤◌, ◌<◌, zero-add, mod-lt, arith, ◌≡◌, refl, sym, ap, ◌∙◌, Bool, true, false, ◌==◌, List, [], ◌∷◌, map, length, drop, get_or, drop-drop, w8, Fits}
 use Rattle.std.specs.Simd.{first_chunks}
-use Rattle.format.specs.declared.refusal.Refusal.{Refusal}
 use Rattle.format.specs.declared.row.Row.{Row}
 use Rattle.format.specs.declared.refusal.Reason.TheVariants.{OutlineLength, OutlineRow}
 use Rattle.format.specs.Bytes.{Bytes}
-use Rattle.format.specs.Outcome.{Outcome, accepted, refused, refusal, need, ◌>>=◌, ◌>>◌}
+use Rattle.format.specs.Outcome.{Refusal, Outcome, accepted, refused, refusal, need, ◌>>=◌, ◌>>◌}
 use Rattle.format.specs.Outline.{row_bytes, row_from, unpacked, decode_row, is_row, stored_from, stored, stored_count}
 use Rattle.outline.proofs.StoredLaws.{chunk_is, no_rows, rows_judged}
 

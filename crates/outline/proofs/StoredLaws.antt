@@ -8,11 +8,10 @@ use Rattle.std.proofs.lemmas.List.{length-map}
 use Rattle.std.proofs.lemmas.Option.{slice_get-map, slice_get_past, slice_get_read}
 use Rattle.std.proofs.lemmas.Result.{err_from_is_err_and}
 use Rattle.std.specs.Simd.{first_chunks}
-use Rattle.format.specs.declared.refusal.Refusal.{Refusal}
 use Rattle.format.specs.declared.refusal.Reason.TheVariants.{OutlineLength}
 use Rattle.format.specs.declared.row.Row.{Row}
 use Rattle.format.specs.Bytes.{Bytes}
-use Rattle.format.specs.Outcome.{Outcome, accepted, refused, ◌>>=◌}
+use Rattle.format.specs.Outcome.{Refusal, Outcome, accepted, refused, ◌>>=◌}
 use Rattle.format.specs.Outline.{row_bytes, decode_row, stored_from, stored, stored_count, stored_at}
 use Rattle.outline.specs.Row.{rows_in}
 use Rattle.format.proofs.OutcomeLaws.{Accepts, accepted_holds, accepts_bind, accepts_need}

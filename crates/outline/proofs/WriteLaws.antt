@@ -4,12 +4,11 @@ use Rattle.std.proofs.Common.{ℕ, suc, ◌+◌, ◌*◌, ◌-◌, ◌/◌, ◌�
 use mathlib.Core.List.{flat_map}
 use Rattle.std.specs.Result.{IsErrAnd}
 use Rattle.std.proofs.lemmas.Result.{err_from_is_err_and}
-use Rattle.format.specs.declared.refusal.Refusal.{Refusal}
 use Rattle.format.specs.declared.row.Row.{Row}
 use Rattle.format.specs.declared.refusal.Reason.TheVariants.{BufferTooShort}
 use Rattle.format.specs.Bytes.{Bytes}
 use Rattle.format.specs.Lent.{placed}
-use Rattle.format.specs.Outcome.{Outcome, accepted, refused, refusal, ◌>>=◌}
+use Rattle.format.specs.Outcome.{Refusal, Outcome, accepted, refused, refusal, ◌>>=◌}
 use Rattle.format.specs.Outline.{encode_row, decode_row, outline_of, stored, rewritten}
 use Rattle.format.specs.Promise.{Written, WrittenAgain}
 use Rattle.format.proofs.OutlineLaws.{same_bytes}

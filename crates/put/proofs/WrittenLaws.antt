@@ -3,11 +3,10 @@
 use Rattle.std.proofs.Common.{◌≡◌, ℕ, ◌+◌, ◌^◌, ◌<◌, ◌≤◌, Bool, true, false, leb, length, take, drop, sym, refl, ap, ◌∙◌, arith, le-leb, leb-true}
 use lib.Seq.{take-append_seam}
 use borrow.Author.Tests.{lt-leb}
-use Rattle.format.specs.declared.refusal.Refusal.{Refusal}
 use Rattle.format.specs.declared.refusal.Reason.TheVariants.{BufferTooShort}
 use Rattle.format.specs.Bytes.{Bytes}
 use Rattle.format.specs.Lent.{placed, writes, leaves}
-use Rattle.format.specs.Outcome.{Outcome, accepted, refused, refusal}
+use Rattle.format.specs.Outcome.{Refusal, Outcome, accepted, refused, refusal}
 use Rattle.format.specs.Promise.{Written}
 use Rattle.put.specs.Put.{PutWhole, PutAt}
 use Rattle.put.proofs.PutLaws.{placed_none}

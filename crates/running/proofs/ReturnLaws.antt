@@ -4,12 +4,11 @@ use borrow.Author.Tests.{lt-leb}
 use Rattle.std.proofs.lemmas.Grind.{common_steps}
 use Rattle.std.specs.Int.{w64, from_be_bytes}
 use Rattle.std.specs.Simd.{first_chunks}
-use Rattle.format.specs.declared.refusal.Refusal.{Refusal}
 use Rattle.format.specs.declared.refusal.Reason.TheVariants.{BufferTooShort}
 use Rattle.format.specs.Bytes.{Bytes, big_endian, number}
 use Rattle.format.specs.Fields.{number_bytes}
 use Rattle.format.specs.Lent.{placed, writes, leaves}
-use Rattle.format.specs.Outcome.{Outcome, accepted, refused, refusal, ◌>>=◌}
+use Rattle.format.specs.Outcome.{Refusal, Outcome, accepted, refused, refusal, ◌>>=◌}
 use Rattle.format.specs.Promise.{Written}
 use Rattle.md5_parts.specs.declared.state.Md5.{Md5}
 use Rattle.md5_parts.specs.declared.state.Fed.{Fed}

@@ -20,7 +20,7 @@ use Rattle.std.proofs.lemmas.Iterator.{YieldsList}
 use Rattle.std.proofs.lemmas.Iterator.Splits.{YieldsList-from_slice_split}
 use Rattle.std.proofs.lemmas.List.Splits.{length-slice_split}
 use Rattle.format.specs.Bytes.{Bytes}
-use Rattle.format.specs.Numeral.{numeral, numerals, both, split, lead_first}
+use Rattle.format.specs.Numeral.{numerals, both, split, lead_first}
 use Rattle.format.specs.Header as Header
 use Rattle.octets.specs.Octets.{index_of, index_after}
 

@@ -4,10 +4,9 @@ use borrow.Author.Tests.{not-true, not-false, lt-leb}
 use Rattle.format.specs.declared.block.Inner.{Inner}
 use Rattle.format.specs.declared.block.Inner.TheVariants.{Plain, Opened, Refused, TooDeep}
 use Rattle.format.specs.declared.layout.Layout.{Layout}
-use Rattle.format.specs.declared.refusal.Refusal.{Refusal}
 use Rattle.format.specs.Bytes.{Bytes, begins}
 use Rattle.format.specs.Header.{token}
-use Rattle.format.specs.Outcome.{Outcome, accepted, refused}
+use Rattle.format.specs.Outcome.{Refusal, Outcome, accepted, refused}
 use Rattle.format.specs.File.{file, offset_table, layout}
 use Rattle.format.specs.Nest.{deepest, Inside, closed, opened, walk, walk_file, records_from}
 use Rattle.file.specs.Layout.{Kept}
